@@ -1,0 +1,16 @@
+-- P1 to P11 hold by computation. Assumes nothing.
+use mathlib.Core.Path.{refl}
+use mathlib.Core.Option.{bind, orElse}
+use mathlib.Core.List.{flatMap}
+use Rattle.rules.specs.Text.{bytes, blank, upper, uppers, leading, trimStart, keepEnd, trimEnd, trim, onFirst, cutWhere, cutAt, dropEmpty, pieces, joinMore, joined, inFront, firstCut, same, starts, contains, after, nth, firstText, otherTexts, lastText}
+use Rattle.rules.specs.Number.{digitValue, digits, someDigits, below, without, number, within, positive, negative, signed, hexTail, byPrefix, number32, number16, imm8, imm16, modulo}
+use Rattle.rules.specs.Line.{numberIn, operandsOf, instructionOf, dataSize, dataValue, dataBody, isDirective, dataPieces, nonempty, dataLine, isData, restLine, afterLabel, labelLine, trimmedLine, lineOf, isL, isPlain, isLong, instructionSize, size}
+use Rattle.rules.specs.Label.{find, recorded, hasRoom, recordAll}
+use Rattle.rules.specs.Encode.{mnemonics, operationIn, R, registerDigit, dataRegister, addressRegister, closed, indirect, two, one, oneOrMore, reach, writtenSigned, displacement, allDigits, isSome, jumps, withLabel, encodeMove, encodeOperation, encode}
+use Rattle.rules.specs.Answer.{refuseIf, refuseAt, andThen}
+use Rattle.rules.specs.Assemble.{numbered, linesOf, advance, step, putting, firstPass, placeOf, placesAt, valueCells, dataCells, codeCells, dataPlaces, codePlaces, secondPass, firstHigh, assemble, short, assembleAnswer, over, holding, writeList, assembleSlices}
+use Rattle.promises.specs.Examples.{P1, P2, P3, P4, P5, P6, P7, P8, P9, P10, P11, examples, ExamplesHold}
+
+pub examples-hold : ExamplesHold
+unfolding bind orElse flatMap bytes blank upper uppers leading trimStart keepEnd trimEnd trim onFirst cutWhere cutAt dropEmpty pieces joinMore joined inFront firstCut same starts contains after nth firstText otherTexts lastText digitValue digits someDigits below without number within positive negative signed hexTail byPrefix number32 number16 imm8 imm16 modulo numberIn operandsOf instructionOf dataSize dataValue dataBody isDirective dataPieces nonempty dataLine isData restLine afterLabel labelLine trimmedLine lineOf isL isPlain isLong instructionSize size find recorded hasRoom recordAll mnemonics operationIn R registerDigit dataRegister addressRegister closed indirect two one oneOrMore reach writtenSigned displacement allDigits isSome jumps withLabel encodeMove encodeOperation encode refuseIf refuseAt andThen numbered linesOf advance step putting firstPass placeOf placesAt valueCells dataCells codeCells dataPlaces codePlaces secondPass firstHigh assemble short assembleAnswer over holding writeList assembleSlices P1 P2 P3 P4 P5 P6 P7 P8 P9 P10 P11 examples ExamplesHold
+examples-hold = refl

@@ -1,0 +1,45 @@
+-- The labels recorded, by paper 01. Assumes nothing.
+use Prim.Native.Nat.{ℕ, _+_}
+use mathlib.Core.Bool.{Bool, true, false}
+use mathlib.Core.Option.{Option, none, some}
+use mathlib.Core.List.{List, [], _∷_}
+use lib.ListN.{length}
+use lib.Dec.{ltb}
+use Rattle.rules.specs.Limits.{maxLabels}
+use Rattle.rules.specs.Text.{Text, same}
+use Rattle.rules.specs.Line.{Name}
+
+-- a recorded label: its name, where its text starts in the source, and its address
+pub record Label : Type 0 where
+  pub name : Text
+  pub start : ℕ
+  pub address : ℕ
+
+-- the labels, in the order of their first record
+abbrev pub Table : Type 0
+Table = List Label
+
+-- the address of the label n
+unfoldable pub find : Text → Table → Option ℕ
+find n [] = none
+find n (l ∷ t) = elim (same n (l .name)) [ true ↦ some (l .address) | false ↦ find n t ]
+
+-- "A label recorded again takes the later address."
+unfoldable pub recorded : Label → Table → Table
+recorded x [] = x ∷ []
+recorded x (l ∷ t) = elim (same (x .name) (l .name)) [ true ↦ x ∷ t | false ↦ l ∷ recorded x t ]
+
+-- a recorded label, or room for a new one
+unfoldable pub hasRoom : Option ℕ → Table → Bool
+hasRoom none t = ltb (length t) maxLabels
+hasRoom (some a) t = true
+
+-- the labels of a line that starts at i, recorded in order at the address a;
+-- none where "a new label when 1,024 are recorded" comes
+unfoldable pub recordAll : ℕ → ℕ → List Name → Table → Option Table
+recordAll i a [] t = some t
+recordAll i a (n ∷ ns) t =
+    elim (hasRoom (find (n .text) t) t) [
+      | true ↦ recordAll i a ns (recorded (record { name = n .text; start = i + n .start; address = a }) t)
+      | false ↦ none
+    ]

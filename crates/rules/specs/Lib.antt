@@ -1,0 +1,10 @@
+pub mod Limits
+pub mod Text
+pub mod Number
+pub mod Line
+pub mod Label
+pub mod Encode
+pub mod Answer
+pub mod Assemble
+pub mod Relocate
+pub mod Tally

@@ -1,0 +1,24 @@
+-- Paper 01's limits, each named once. Assumes nothing.
+use Prim.Native.Nat.{ℕ, _+_, _-_, _^_}
+
+-- "source 32,768 bytes, 4,096 lines, 1,024 distinct labels"
+abbrev pub maxSource : ℕ
+maxSource = 32768
+
+abbrev pub maxLines : ℕ
+maxLines = 4096
+
+abbrev pub maxLabels : ℕ
+maxLabels = 1024
+
+-- "addresses below 2^30": of lines and labels
+abbrev pub addressLimit : ℕ
+addressLimit = 2 ^ 30
+
+-- the highest address of a list's place: the second word of a line at 2^30 - 1
+abbrev pub lastAddress : ℕ
+lastAddress = 2 ^ 30 + 1
+
+-- a distance lies within ±(2^30 - 1)
+abbrev pub distanceLimit : ℕ
+distanceLimit = 2 ^ 30

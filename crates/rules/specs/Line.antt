@@ -1,0 +1,151 @@
+-- What a line says, by paper 01: the six steps of the first pass, and the size of what it puts. Assumes nothing.
+use Prim.Native.Nat.{ℕ, _+_}
+use mathlib.Core.Bool.{Bool, true, false, not, _&&_, _||_, cond}
+use mathlib.Core.Option.{Option, none, some}
+use mathlib.Core.List.{List, [], _∷_, map, _++_}
+use lib.ListN.{length}
+use lib.Dec.{eqb}
+use Rattle.rules.specs.Text.{Text, bytes, uppers, leading, trim, cutAt, dropEmpty, pieces, joined, Cut, uncut, around, firstCut, same, starts, contains, nth, firstText, otherTexts, lastText}
+use Rattle.rules.specs.Number.{number32}
+
+-- a label as a line has it: where its text starts in the line, and the text
+pub record Name : Type 0 where
+  pub start : ℕ
+  pub text : Text
+
+abbrev pub name : ℕ → Text → Name
+name i s = record { start = i; text = s }
+
+-- what stands behind the labels of a line: nothing; data, its size and its value if it has one;
+-- or an instruction, its mnemonic, suffix and operands
+pub data Body : Type 0 where
+  bare : Body
+  directive : ℕ → Option ℕ → Body
+  instruction : Text → Option Text → List Text → Body
+
+-- a line: skipped; the end; ORG with its number if it has one; or labels and a body
+pub data Line : Type 0 where
+  skipped : Line
+  end : Line
+  org : Option ℕ → Line
+  item : List Name → Body → Line
+
+-- a text's number, where there is a text
+unfoldable pub numberIn : Option Text → Option ℕ
+numberIn none = none
+numberIn (some p) = number32 p
+
+-- step 6: "The other pieces, joined by one space, cut at commas, trimmed, empties removed, are the operands."
+unfoldable pub operandsOf : Text → List Text
+operandsOf s = dropEmpty (map trim (cutAt 44 (joined (otherTexts (pieces s)))))
+
+-- step 6: "The first piece is cut at dots"
+unfoldable pub instructionOf : Text → Body
+instructionOf s =
+    let parts = cutAt 46 (firstText (pieces s)) in
+    instruction (uppers (firstText parts)) (nth 1 parts) (operandsOf s)
+
+-- step 5: "Size by what the line contains", u in upper case
+unfoldable pub dataSize : Text → ℕ
+dataSize u =
+    cond (contains (bytes "DC.L") u || contains (bytes "DS.L") u) 4
+    (cond (contains (bytes "DC.W") u || contains (bytes "DS.W") u) 2
+    (cond (contains (bytes "DC.B") u || contains (bytes "DS.B") u) 1 2))
+
+-- step 5: "With `DC.` in the line, the directive's second piece, if a number, is the value"
+unfoldable pub dataValue : Text → Text → Option ℕ
+dataValue u d = cond (contains (bytes "DC.") u) (numberIn (nth 1 (pieces d))) none
+
+-- step 5: a body from the line s and its directive d
+unfoldable pub dataBody : Text → Text → Body
+dataBody s d = directive (dataSize (uppers s)) (dataValue (uppers s) d)
+
+-- step 5: "starting DC or DS (upper-cased)"
+unfoldable pub isDirective : Text → Bool
+isDirective p = starts (bytes "DC") (uppers p) || starts (bytes "DS") (uppers p)
+
+-- step 5 without a colon: "with two or more pieces and a first piece not starting DC or DS,
+-- that piece is the label and the others the directive"
+unfoldable pub dataPieces : List Name → ℕ → Text → List Text → Line
+dataPieces ns i s [] = item ns (dataBody s s)
+dataPieces ns i s (p ∷ []) = item ns (dataBody s s)
+dataPieces ns i s (p ∷ q ∷ ps) =
+    cond (isDirective p) (item ns (dataBody s s)) (item (ns ++ (name i p ∷ [])) (dataBody s (joined (q ∷ ps))))
+
+-- step 5: "A nonempty label is recorded."
+unfoldable pub nonempty : ℕ → Text → List Name
+nonempty i [] = []
+nonempty i (b ∷ s) = name i (b ∷ s) ∷ []
+
+-- step 5, on the text s that starts at i: "With a colon, label and directive are the trimmed texts around the first one."
+unfoldable pub dataLine : List Name → ℕ → Text → Line
+dataLine ns i s = elim (firstCut 58 s) [ uncut ↦ dataPieces ns i s (pieces s) | around l d ↦ item (ns ++ nonempty i (trim l)) (dataBody s (trim d)) ]
+
+-- step 5: "Upper-cased, contains `DC.` or `DS.`: data."
+unfoldable pub isData : Text → Bool
+isData s = contains (bytes "DC.") (uppers s) || contains (bytes "DS.") (uppers s)
+
+-- steps 5 and 6, behind the labels of step 4
+unfoldable pub restLine : List Name → ℕ → Text → Line
+restLine ns i s = elim (isData s) [ true ↦ dataLine ns i s | false ↦ item ns (instructionOf s) ]
+
+-- step 4: "the trimmed rest goes on, or the line is done if empty"
+unfoldable pub afterLabel : Name → ℕ → Text → Line
+afterLabel n i [] = item (n ∷ []) bare
+afterLabel n i (b ∷ s) = restLine (n ∷ []) i (b ∷ s)
+
+-- step 4: "A colon: the trimmed text before the first one is recorded as a label (it may be empty)"
+unfoldable pub labelLine : ℕ → Text → Line
+labelLine i s =
+    elim (firstCut 58 s) [
+      | uncut ↦ restLine [] i s
+      | around l r ↦ afterLabel (name i (trim l)) (i + length l + 1 + leading r) (trim r)
+    ]
+
+-- steps 1 to 3 on the trimmed line, which starts at i
+unfoldable pub trimmedLine : ℕ → Text → Line
+trimmedLine i [] = skipped
+trimmedLine i (b ∷ s) =
+    let u = uppers (b ∷ s) in
+    elim (eqb b 59) [
+      | true ↦ skipped
+      | false ↦ elim (starts (bytes "END") u) [
+        | true ↦ end
+        | false ↦ elim (starts (bytes "ORG") u) [
+          | true ↦ org (numberIn (nth 1 (pieces (b ∷ s))))
+          | false ↦ labelLine i (b ∷ s)
+        ]
+      ]
+    ]
+
+unfoldable pub lineOf : Text → Line
+lineOf s = trimmedLine (leading s) (trim s)
+
+-- sizes: the suffix is exactly `L`
+unfoldable pub isL : Option Text → Bool
+isL none = false
+isL (some p) = same p (bytes "L")
+
+-- sizes: "starting D, A or ("
+unfoldable pub isPlain : Text → Bool
+isPlain s = starts (bytes "D") s || starts (bytes "A") s || starts (bytes "(") s
+
+-- sizes: the cases of 4 bytes, by mnemonic, suffix, first and last operand
+unfoldable pub isLong : Text → Option Text → Text → Text → Bool
+isLong m f s t =
+    (same m (bytes "MOVE") || same m (bytes "MOVEA")) && isL f && not (isPlain s)
+    || (same m (bytes "MOVE") || same m (bytes "MOVEA")) && isL f && not (isPlain t)
+    || same m (bytes "CMP") && isL f && starts (bytes "#") s
+    || same m (bytes "MULS") && starts (bytes "#") s
+
+-- "An instruction takes 2 bytes, except 4 in these cases, each with two or more operands"
+unfoldable pub instructionSize : Text → Option Text → List Text → ℕ
+instructionSize m f [] = 2
+instructionSize m f (s ∷ []) = 2
+instructionSize m f (s ∷ t ∷ ps) = cond (isLong m f s (lastText t ps)) 4 2
+
+-- by how much a body advances the address
+unfoldable pub size : Body → ℕ
+size bare = 0
+size (directive n v) = n
+size (instruction m f ps) = instructionSize m f ps
