@@ -1,1 +1,16 @@
 pub mod Examples
+pub mod ManualLaws
+pub mod ManualLines
+pub mod ManualFields
+pub mod ManualForms
+pub mod Lists
+pub mod Accepted
+pub mod Shift
+pub mod Words
+pub mod Places
+pub mod Fit
+pub mod Twice
+pub mod Call
+pub mod Moves
+pub mod Demand3
+pub mod Longest

@@ -1,1 +1,5 @@
 pub mod Examples
+pub mod Manual
+pub mod Demand2Manual
+pub mod Demand3
+pub mod Longest

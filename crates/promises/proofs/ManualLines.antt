@@ -1,0 +1,62 @@
+-- The lines of paper 01's listed forms are the manual's words. Assumes nothing.
+use Prim.Native.Nat.{ℕ, _+_}
+use mathlib.Core.Path.{_≡_, refl, ap}
+use mathlib.Core.Option.{Option, some, bind, orElse}
+use mathlib.Core.List.{List, [], _∷_, map, flatMap, append-nil}
+use native.Mathlib.Omega.{arith}
+use Rattle.rules.specs.Text.{Text, bytes, same}
+use Rattle.rules.specs.Label.{Table}
+use Rattle.rules.specs.Encode.{literal, branch as branchOn, mnemonics, operationIn, R, two, one, oneOrMore, encodeMove, encodeOperation, encode}
+use Rattle.rules.specs.Assemble.{placeOf, placesAt, dataCells, codeCells, dataPlaces, codePlaces, secondPass}
+use Rattle.promises.specs.Manual.{InByte, join, moveSize, sizeField, opmode, mode, register, extension, Condition, T, CC, CS, NE, EQ, GE, LT, GT, LE, condition, Instruction, layout, extensions, manualWords}
+use Rattle.promises.specs.Demand2Manual.{branchName, Written, moveq, load, store, copy, mulsData, muls, add, sub, cmp, tst, subq, asl, nop, branch, bodyOf, emitted, unmarked, LinesAreTheManuals}
+use Rattle.promises.proofs.ManualLaws.{data-register, operand, imm8-byte, all-some, byte-modulo, quick-modulo, displaced, displaced-byte, no-word}
+
+-- one word for another
+one-word : {v w : ℕ} → v ≡ w → some (literal v ∷ []) ≡ some (literal w ∷ [])
+one-word e = ap (λ w. some (literal w ∷ [])) e
+
+-- a branch's mnemonic has the manual's condition
+branch-operation : (c : Condition) → operationIn mnemonics (branchName c) ≡ some (branchOn (condition c))
+unfolding operationIn mnemonics same bytes branchName condition
+branch-operation T = refl
+branch-operation CC = refl
+branch-operation CS = refl
+branch-operation NE = refl
+branch-operation EQ = refl
+branch-operation GE = refl
+branch-operation LT = refl
+branch-operation GT = refl
+branch-operation LE = refl
+
+-- 01 encodes a listed form as the manual's words, none of them a label's address
+encoded : {ls : Table} {a : ℕ} {m : Text} {f : Option Text} {ps : List Text} {i : Instruction} → Written ls a m f ps i
+    → encode ls a m ps ≡ some (map literal (manualWords i))
+unfolding encode operationIn mnemonics same bytes bind orElse encodeOperation encodeMove two one oneOrMore R branchName manualWords layout join extensions extension mode register moveSize sizeField opmode condition
+encoded (moveq {s} {z} {n} e h) =
+    rw (e, data-register n h, byte-modulo z (all-some InByte (imm8-byte s) e)) (one-word (omega arith))
+encoded (load {n} {m} h k) = simp operand (one-word (omega arith))
+encoded (store {n} {m} h k) = simp operand (one-word (omega arith))
+encoded (copy {n} {m} h k) = simp operand (one-word (omega arith))
+encoded (mulsData {s} {v} {n} e h) =
+    rw (e, data-register n h) (ap (λ w. some (literal w ∷ literal v ∷ [])) (omega arith))
+encoded (muls {n} {m} h k) = simp operand (one-word (omega arith))
+encoded (add {n} {m} h k) = simp operand (one-word (omega arith))
+encoded (sub {n} {m} h k) = simp operand (one-word (omega arith))
+encoded (cmp {n} {m} h k) = simp operand (one-word (omega arith))
+encoded (tst {n} h) = simp operand (one-word (omega arith))
+encoded (subq {s} {k} {n} e l u h) = rw (e, data-register n h, quick-modulo k u) (one-word (omega arith))
+encoded (asl {s} {k} {n} e l u h) = rw (e, data-register n h, quick-modulo k u) (one-word (omega arith))
+encoded nop = refl
+encoded (branch c {s} {z} d h) =
+    rw (branch-operation c, displaced d, byte-modulo z (displaced-byte d), no-word z h) (one-word (omega arith))
+
+-- cells that are no label's address get mark 0
+unmarked-places : (a : ℕ) (ws : List ℕ) → placesAt a (map literal ws) ≡ unmarked a ws
+unfolding placesAt placeOf unmarked
+unmarked-places a [] = refl
+unmarked-places a (w ∷ ws) = rw (unmarked-places (a + 2) ws)
+
+pub lines-are-the-manuals : LinesAreTheManuals
+unfolding emitted bodyOf secondPass flatMap dataPlaces dataCells codePlaces codeCells placesAt
+lines-are-the-manuals ls a l i r = rw (r .read, encoded (r .written), unmarked-places a (manualWords i), append-nil)

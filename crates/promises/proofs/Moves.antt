@@ -1,0 +1,92 @@
+-- The moves follow the tally, from slices that hold a list that fits. Assumes nothing.
+use Prim.Native.Nat.{ℕ}
+use mathlib.Core.Path.{_≡_, refl, sym, _∙_}
+use mathlib.Core.Bool.{false}
+use mathlib.Core.Option.{none}
+use mathlib.Core.List.{List, [], _∷_}
+use lib.ListN.{length}
+use lib.IntN.{ℤ, pos, _+ℤ_, +ℤ-idl}
+use Rattle.rules.specs.Answer.{Answer, accepted, refused, refuseIf, refuseAt}
+use Rattle.rules.specs.Assemble.{Place, Slices}
+use Rattle.rules.specs.Relocate.{far, moveAnswer, moveBy, moveSlices}
+use Rattle.rules.specs.Tally.{held, moves, firstOutside, tallyAnswer, addIf, newTotal, tallyList, tally, lastTotal}
+use Rattle.promises.proofs.Lists.{All}
+use Rattle.promises.proofs.Accepted.{not-refused, not-refused-at}
+use Rattle.promises.proofs.Fit.{Fit}
+use Rattle.promises.proofs.Twice.{Inside, list-twice, outside-twice, none-inside, fit-inside, list-zero, length-moved, marks-moved}
+use Rattle.promises.proofs.Call.{call-answers, call-writes}
+
+-- what the tally accepts has the list's count, and stays inside
+tally-accepts : (l : List Place) (t d : ℤ) (n : ℕ) → tallyAnswer l t d ≡ accepted n → (n ≡ length l) × Inside (t +ℤ d) l
+unfolding tallyAnswer
+tally-accepts l t d n e =
+    let h = not-refused (far d) 8 0 _ n e in
+    let k = not-refused-at (firstOutside (t +ℤ d) 0 l) 11 _ n (h .1) in
+    let c = k .1 in
+    (cc, none-inside (t +ℤ d) 0 l (k .0))
+
+-- so each total stays inside, and the last one
+total-inside : (l : List Place) (t d : ℤ) → Inside t l → Inside (newTotal l t d) l
+unfolding newTotal addIf
+total-inside l t d h = go (tallyAnswer l t d) refl
+  where
+    go : (r : Answer ℕ) → tallyAnswer l t d ≡ r → Inside (addIf r t d) l
+    go (refused n i) e = h
+    go (accepted n) e = tally-accepts l t d n e .1
+
+last-inside : (l : List Place) (t : ℤ) (ds : List ℤ) → Inside t l → Inside (lastTotal l t ds) l
+unfolding lastTotal
+last-inside l t [] ins = ins
+last-inside l t (d ∷ ds) ins = last-inside l (newTotal l t d) ds (total-inside l t d ins)
+
+-- one call on slices that hold the tally's list at t: the tally's answer, and its next list
+module _ (l : List Place) (fit : All Fit l) (x : Slices) (t d : ℤ) (h : held (length l) x ≡ tallyList t l) (ins : Inside t l) where
+  same-answer : moveAnswer x (length l) d ≡ tallyAnswer l t d
+  unfolding tallyAnswer
+  same-answer =
+      call-answers x (length l) d (rw h (length-moved t l)) (rw h (marks-moved t l fit))
+      ∙ rw (h, outside-twice t d 0 l ins)
+
+  same-list : held (length l) (moveSlices x (length l) d) ≡ tallyList (newTotal l t d) l
+  unfolding moveSlices moveBy newTotal addIf
+  same-list = rw same-answer (go (tallyAnswer l t d) refl)
+    where
+      go : (r : Answer ℕ) → tallyAnswer l t d ≡ r → held (length l) (moveBy r d x) ≡ tallyList (addIf r t d) l
+      go (refused n i) e = h
+      go (accepted n) e = rw (tally-accepts l t d n e .0) (call-writes x (length l) d ∙ rw h (list-twice t d l ins))
+
+-- the moves follow the tally from any total that is inside
+follow : (l : List Place) → All Fit l → (x : Slices) (t : ℤ) (ds : List ℤ) → held (length l) x ≡ tallyList t l → Inside t l → moves (length l) x ds ≡ tally l t ds
+unfolding moves tally
+follow l fit x t [] h ins = refl
+follow l fit x t (d ∷ ds) h ins =
+    let k = same-list l fit x t d h ins in
+    rw (same-answer l fit x t d h ins, k, follow l fit (moveSlices x (length l) d) (newTotal l t d) ds k (total-inside l t d ins))
+
+-- from slices that hold the list itself, which is the tally's list at total 0
+module _ (l : List Place) (fit : All Fit l) where
+  inside-zero : Inside (pos 0) l
+  inside-zero = fit-inside 0 l (rw (list-zero l fit) fit)
+
+  pub last-total-inside : (ds : List ℤ) → Inside (lastTotal l (pos 0) ds) l
+  last-total-inside ds = last-inside l (pos 0) ds inside-zero
+
+  module _ (x : Slices) (h : held (length l) x ≡ l) where
+    at-zero : held (length l) x ≡ tallyList (pos 0) l
+    at-zero = h ∙ sym (list-zero l fit)
+
+    pub follow-from-zero : (ds : List ℤ) → moves (length l) x ds ≡ tally l (pos 0) ds
+    follow-from-zero ds = follow l fit x (pos 0) ds at-zero inside-zero
+
+    -- one move by a distance that is near and leaves no place outside
+    module _ (d : ℤ) (near : far d ≡ false) (ins : firstOutside d 0 l ≡ none) where
+      answer-zero : tallyAnswer l (pos 0) d ≡ accepted (length l)
+      unfolding tallyAnswer refuseIf refuseAt
+      answer-zero = rw (near, +ℤ-idl d, ins)
+
+      pub move-accepted : moveAnswer x (length l) d ≡ accepted (length l)
+      move-accepted = same-answer l fit x (pos 0) d at-zero inside-zero ∙ answer-zero
+
+      pub move-gives : held (length l) (moveSlices x (length l) d) ≡ tallyList d l
+      unfolding newTotal addIf
+      move-gives = rw (answer-zero, +ℤ-idl d) at (same-list l fit x (pos 0) d at-zero inside-zero)

@@ -1,0 +1,123 @@
+-- The first pass under a shift: an accepted pass from base b is the pass from base 0, each address b higher. Assumes nothing.
+use Prim.Native.Nat.{ℕ, _+_}
+use mathlib.Core.Path.{_≡_, refl, ap}
+use mathlib.Core.Bool.{Bool, true, false, false≢true}
+use mathlib.Core.Option.{Option, none, some, Option·map}
+use mathlib.Core.List.{List, [], _∷_, map}
+use native.Mathlib.Nat.{add-assoc, zero-add}
+use native.Mathlib.Omega.{arith}
+use borrow.Author.Tests.{ltb-true, lt-ltb}
+use lib.Dec.{ltb}
+use lib.ListN.{length-map}
+use Rattle.rules.specs.Limits.{addressLimit}
+use Rattle.rules.specs.Text.{Text, same}
+use Rattle.rules.specs.Line.{Name, Body, Line, skipped, end, org, item, lineOf}
+use Rattle.rules.specs.Label.{Label, Table, find, recorded, hasRoom, recordAll}
+use Rattle.rules.specs.Answer.{Answer, accepted, refused, andThen}
+use Rattle.rules.specs.Assemble.{SourceLine, Put, Pass, Step, halt, full, next, advance, step, putting, firstPass}
+
+-- a label, the labels, what a line puts, and what a pass comes to, each address b higher
+unfoldable pub shiftLabel : ℕ → Label → Label
+shiftLabel b l = record { name = l .name; start = l .start; address = b + l .address }
+
+abbrev pub shiftTable : ℕ → Table → Table
+shiftTable b t = map (shiftLabel b) t
+
+unfoldable pub shiftPut : ℕ → Put → Put
+shiftPut b p = record { address = b + p .address; body = p .body }
+
+unfoldable pub shiftPass : ℕ → Pass → Pass
+shiftPass b p = record { labels = shiftTable b (p .labels); puts = map (shiftPut b) (p .puts) }
+
+unfoldable pub shiftStep : ℕ → Step → Step
+shiftStep b halt = halt
+shiftStep b full = full
+shiftStep b (next a t x) = next (b + a) (shiftTable b t) x
+
+-- a label is found b higher
+pub find-shift : (b : ℕ) (n : Text) (t : Table) → find n (shiftTable b t) ≡ Option·map (λ a. b + a) (find n t)
+unfolding find shiftLabel
+find-shift b n [] = refl
+find-shift b n (l ∷ t) = go (same n (l .name)) refl (find-shift b n t)
+  where
+    go : (x : Bool) → same n (l .name) ≡ x → find n (shiftTable b t) ≡ Option·map (λ a. b + a) (find n t)
+        → find n (shiftTable b (l ∷ t)) ≡ Option·map (λ a. b + a) (find n (l ∷ t))
+    go true e ih = rw (e, find)
+    go false e ih = rw (e, find) ih
+
+-- a label is recorded b higher
+recorded-shift : (b : ℕ) (x : Label) (t : Table) → recorded (shiftLabel b x) (shiftTable b t) ≡ shiftTable b (recorded x t)
+unfolding recorded shiftLabel
+recorded-shift b x [] = refl
+recorded-shift b x (l ∷ t) = go (same (x .name) (l .name)) refl (recorded-shift b x t)
+  where
+    go : (y : Bool) → same (x .name) (l .name) ≡ y → recorded (shiftLabel b x) (shiftTable b t) ≡ shiftTable b (recorded x t)
+        → recorded (shiftLabel b x) (shiftTable b (l ∷ t)) ≡ shiftTable b (recorded x (l ∷ t))
+    go true e ih = rw (e, recorded)
+    go false e ih = rw (e, recorded) (ap (λ r. shiftLabel b l ∷ r) ih)
+
+-- there is room where there was
+hasRoom-shift : (b : ℕ) (o : Option ℕ) (t : Table) → hasRoom (Option·map (λ a. b + a) o) (shiftTable b t) ≡ hasRoom o t
+unfolding hasRoom
+hasRoom-shift b none t = rw length-map
+hasRoom-shift b (some a) t = refl
+
+-- a line's labels are recorded b higher, and there are too many where there were
+recordAll-shift : (b i a : ℕ) (ns : List Name) (t : Table) → recordAll i (b + a) ns (shiftTable b t) ≡ Option·map (shiftTable b) (recordAll i a ns t)
+unfolding recordAll shiftLabel
+recordAll-shift b i a [] t = refl
+recordAll-shift b i a (n ∷ ns) t = go (hasRoom (find (n .text) t) t) refl (recordAll-shift b i a ns _)
+  where
+    x : Label
+    x = record { name = n .text; start = i + n .start; address = a }
+
+    go : (y : Bool) → hasRoom (find (n .text) t) t ≡ y
+        → recordAll i (b + a) ns (shiftTable b (recorded x t)) ≡ Option·map (shiftTable b) (recordAll i a ns (recorded x t))
+        → recordAll i (b + a) (n ∷ ns) (shiftTable b t) ≡ Option·map (shiftTable b) (recordAll i a (n ∷ ns) t)
+    go true e ih = rw (find-shift b (n .text) t, hasRoom-shift b (find (n .text) t) t, e, recorded-shift b x t, recordAll) ih
+    go false e ih = rw (find-shift b (n .text) t, hasRoom-shift b (find (n .text) t) t, e, recordAll)
+
+-- the next address is b higher
+advance-shift : (b a : ℕ) (x : Body) (o : Option Table) → advance (b + a) x (Option·map (shiftTable b) o) ≡ shiftStep b (advance a x o)
+unfolding advance shiftStep
+advance-shift b a x none = refl
+advance-shift b a x (some t) = rw add-assoc
+
+-- a line does b higher what it does from base 0
+step-shift : (b i a : ℕ) (t : Table) (l : Line) → step b i (b + a) (shiftTable b t) l ≡ shiftStep b (step 0 i a t l)
+unfolding step shiftStep
+step-shift b i a t skipped = refl
+step-shift b i a t end = refl
+step-shift b i a t (org none) = refl
+step-shift b i a t (org (some v)) = rw zero-add
+step-shift b i a t (item ns x) = rw (recordAll-shift b i a ns t) (advance-shift b a x (recordAll i a ns t))
+
+-- `andThen` twice
+andThen-assoc : {A B C : Type 0} (m : Answer A) (f : A → Answer B) (g : B → Answer C) → andThen (andThen m f) g ≡ andThen m (λ a. andThen (f a) g)
+unfolding andThen
+andThen-assoc (accepted a) f g = refl
+andThen-assoc (refused n p) f g = refl
+
+-- where what follows the pass from base b is accepted, the same follows the pass from base 0, shifted:
+-- stated with what follows, f, since `assemble` has it so, and since a line's own put is what follows the lines after it
+module _ {A : Type 0} (b : ℕ) (y : A) where
+  abbrev Shifts : ℕ → Table → List SourceLine → (Pass → Answer A) → Type 0
+  Shifts a t ls f = andThen (firstPass b (b + a) (shiftTable b t) ls) f ≡ accepted y → andThen (firstPass 0 a t ls) (λ p. f (shiftPass b p)) ≡ accepted y
+
+  pub pass-shift : (a : ℕ) (t : Table) (ls : List SourceLine) (f : Pass → Answer A) → Shifts a t ls f
+  unfolding firstPass andThen putting shiftPass shiftPut shiftStep
+  pass-shift a t [] f h = h
+  pass-shift a t (l ∷ ls) f h = go (step 0 (l .start) a t (lineOf (l .text))) refl (λ a′ t′. pass-shift a′ t′ ls)
+    where
+      onward : (a′ : ℕ) (t′ : Table) (x : Body) → step 0 (l .start) a t (lineOf (l .text)) ≡ next a′ t′ x → ((g : Pass → Answer A) → Shifts a′ t′ ls g)
+          → (z : Bool) → ltb (b + a′) addressLimit ≡ z → andThen (firstPass 0 a t (l ∷ ls)) (λ p. f (shiftPass b p)) ≡ accepted y
+      onward a′ t′ x e ih true i =
+          let j = lt-ltb a′ addressLimit (let k = ltb-true (b + a′) addressLimit i in omega arith) in
+          rw (e, j, firstPass, andThen-assoc) (ih (λ p. andThen (putting (b + a) x p) f) (rw (step-shift, e, i, firstPass, andThen-assoc) at h))
+      onward a′ t′ x e ih false i = let c = rw (step-shift, e, i, firstPass) at h in absurd (false≢true cc)
+
+      go : (s : Step) → step 0 (l .start) a t (lineOf (l .text)) ≡ s → ((a′ : ℕ) (t′ : Table) (g : Pass → Answer A) → Shifts a′ t′ ls g)
+          → andThen (firstPass 0 a t (l ∷ ls)) (λ p. f (shiftPass b p)) ≡ accepted y
+      go halt e ih = rw (e, firstPass) (rw (step-shift, e, firstPass) at h)
+      go full e ih = let c = rw (step-shift, e, firstPass) at h in absurd (false≢true cc)
+      go (next a′ t′ x) e ih = onward a′ t′ x e (ih a′ t′) (ltb (b + a′) addressLimit) refl

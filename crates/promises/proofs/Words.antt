@@ -1,0 +1,152 @@
+-- The words of an instruction: under a shift only label addresses change, and there are at most two words. Assumes nothing.
+use Prim.Native.Nat.{ℕ, zero, suc, _+_, _-_, _≤_}
+use mathlib.Core.Path.{_≡_, refl, sym, _∙_}
+use mathlib.Core.Bool.{Bool, true, false, cond}
+use mathlib.Core.Option.{Option, none, some, Option·map, Option·getD, bind, orElse}
+use mathlib.Core.List.{List, [], _∷_, map}
+use native.Mathlib.Nat.{add-assoc, zero-add, suc-add, add-suc}
+use native.Mathlib.Omega.{arith}
+use lib.Dec.{leb, ltb, leb·suc-suc}
+use lib.ListN.{length, take, length-take}
+use lib.IntN.{subℕ}
+use Rattle.rules.specs.Text.{Text}
+use Rattle.rules.specs.Label.{Table}
+use Rattle.rules.specs.Encode.{Cell, literal, address, Operation, moveq, move, movea, muls, tst, subq, asl, dbra, nop, simhalt, add, sub, cmp, jmp, branch, two, one, oneOrMore, reach, displacement, isSome, jumps, withLabel, encodeMove, encodeOperation, encode}
+use Rattle.promises.proofs.Shift.{shiftTable, find-shift}
+
+-- a function of the value goes into each combinator that the encoders are made of
+module _ {A B : Type 0} (g : A → B) where
+  bind-map : {X : Type 0} (o : Option X) (f : X → Option A) → Option·map g (bind o f) ≡ bind o (λ x. Option·map g (f x))
+  unfolding bind
+  bind-map none f = refl
+  bind-map (some x) f = refl
+
+  else-map : (x y : Option A) → Option·map g (orElse x y) ≡ orElse (Option·map g x) (Option·map g y)
+  unfolding orElse
+  else-map none y = refl
+  else-map (some x) y = refl
+
+  cond-map : (c : Bool) (x y : Option A) → Option·map g (cond c x y) ≡ cond c (Option·map g x) (Option·map g y)
+  cond-map true x y = refl
+  cond-map false x y = refl
+
+  two-map : (f : Text → Text → Option A) (ps : List Text) → Option·map g (two f ps) ≡ two (λ s t. Option·map g (f s t)) ps
+  unfolding two
+  two-map f [] = refl
+  two-map f (s ∷ []) = refl
+  two-map f (s ∷ t ∷ []) = refl
+  two-map f (s ∷ t ∷ u ∷ ps) = refl
+
+  one-map : (f : Text → Option A) (ps : List Text) → Option·map g (one f ps) ≡ one (λ s. Option·map g (f s)) ps
+  unfolding one
+  one-map f [] = refl
+  one-map f (s ∷ []) = refl
+  one-map f (s ∷ t ∷ ps) = refl
+
+  oneOrMore-map : (f : Text → Option A) (ps : List Text) → Option·map g (oneOrMore f ps) ≡ oneOrMore (λ s. Option·map g (f s)) ps
+  unfolding oneOrMore
+  oneOrMore-map f [] = refl
+  oneOrMore-map f (s ∷ ps) = refl
+
+-- to take a function of the value into an encoder
+ruleset into = (bind-map, else-map, cond-map, two-map, one-map, oneOrMore-map)
+
+-- a changed value is bound, or is there, as the value itself
+bind-mapped : {X Y Z : Type 0} (g : X → Y) (o : Option X) (f : Y → Option Z) → bind (Option·map g o) f ≡ bind o (λ x. f (g x))
+unfolding bind
+bind-mapped g none f = refl
+bind-mapped g (some x) f = refl
+
+isSome-mapped : {X Y : Type 0} (g : X → Y) (o : Option X) → isSome (Option·map g o) ≡ isSome o
+unfolding isSome
+isSome-mapped g none = refl
+isSome-mapped g (some x) = refl
+
+-- a difference of two addresses does not change
+leb-shift : (b x y : ℕ) → leb (b + x) (b + y) ≡ leb x y
+leb-shift zero x y = rw (zero-add x, zero-add y)
+leb-shift (suc b) x y = rw (suc-add b x, suc-add b y) (leb·suc-suc (b + x) (b + y) ∙ leb-shift b x y)
+
+sub-shift : (b x y : ℕ) → subℕ (b + x) (b + y) ≡ subℕ x y
+sub-shift b x y =
+    let e : ltb (b + x) (b + y) ≡ ltb x y = rw (← add-suc b x) (leb-shift b (suc x) y) in
+    let m : b + y - suc (b + x) ≡ y - suc x = omega arith in
+    let n : b + x - (b + y) ≡ x - y = omega arith in
+    rw (e, m, n)
+
+-- so a displacement and a jump do not change
+reach-shift : (b t a : ℕ) → reach (b + t) (b + a) ≡ reach t a
+unfolding reach
+reach-shift b t a = rw (add-assoc b a 2, sub-shift b t (a + 2))
+
+displacement-shift : (b : ℕ) (ls : Table) (a : ℕ) (s : Text) → displacement (shiftTable b ls) (b + a) s ≡ displacement ls a s
+unfolding displacement
+displacement-shift b ls a s = simp (find-shift, bind-mapped, reach-shift)
+
+jumps-shift : (b : ℕ) (ls : Table) (s : Text) → jumps (shiftTable b ls) s ≡ jumps ls s
+unfolding jumps
+jumps-shift b ls s = simp (find-shift, isSome-mapped)
+
+-- a cell under a shift: a label's address is b higher, a number stands
+unfoldable pub shiftCell : ℕ → Cell → Cell
+shiftCell b (literal w) = literal w
+shiftCell b (address x) = address (b + x)
+
+abbrev pub shiftCells : ℕ → List Cell → List Cell
+shiftCells b cs = map (shiftCell b) cs
+
+-- a row with a label under a shift
+withLabel-shift : (b : ℕ) (ls : Table) (w : ℕ) (l : Text) → withLabel (shiftTable b ls) w l ≡ Option·map (shiftCells b) (withLabel ls w l)
+unfolding withLabel shiftCell
+withLabel-shift b ls w l = simp (find-shift, bind-mapped, bind-map)
+
+-- the law of all encoders: what changes each row's words by g changes an instruction's words by g
+module _ (g : List Cell → List Cell) (ls ls′ : Table) (a a′ : ℕ)
+    (word-by : (w : ℕ) → g (literal w ∷ []) ≡ literal w ∷ [])
+    (value-by : (w v : ℕ) → g (literal w ∷ literal v ∷ []) ≡ literal w ∷ literal v ∷ [])
+    (label-by : (w : ℕ) (l : Text) → Option·map g (withLabel ls w l) ≡ withLabel ls′ w l)
+    (displacement-by : (s : Text) → displacement ls a s ≡ displacement ls′ a′ s)
+    (jumps-by : (s : Text) → jumps ls s ≡ jumps ls′ s) where
+  operation-by : (o : Operation) (ps : List Text) → Option·map g (encodeOperation ls a o ps) ≡ encodeOperation ls′ a′ o ps
+  unfolding encodeOperation encodeMove
+  operation-by move ps = simp (into, word-by, value-by, label-by)
+  operation-by movea ps = simp (into, label-by)
+  operation-by muls ps = simp (into, word-by, value-by)
+  operation-by add ps = simp (into, word-by)
+  operation-by sub ps = simp (into, word-by)
+  operation-by cmp ps = simp (into, word-by, value-by)
+  operation-by moveq ps = simp (into, word-by)
+  operation-by subq ps = simp (into, word-by)
+  operation-by asl ps = simp (into, word-by)
+  operation-by tst ps = simp (into, word-by)
+  operation-by nop ps = simp word-by
+  operation-by simhalt ps = simp word-by
+  operation-by jmp ps = simp (into, word-by, jumps-by)
+  operation-by dbra ps = simp (into, word-by, displacement-by)
+  operation-by (branch c) ps = simp (into, word-by, displacement-by)
+
+  encode-by : (m : Text) (ps : List Text) → Option·map g (encode ls a m ps) ≡ encode ls′ a′ m ps
+  unfolding encode
+  encode-by m ps = simp (bind-map, operation-by)
+
+-- an instruction's words from base b are those from base 0, the label addresses b higher
+pub encode-shift : (b : ℕ) (ls : Table) (a : ℕ) (m : Text) (ps : List Text) → Option·map (shiftCells b) (encode ls a m ps) ≡ encode (shiftTable b ls) (b + a) m ps
+unfolding shiftCell
+encode-shift b ls a m ps =
+    encode-by (shiftCells b) ls (shiftTable b ls) a (b + a) (λ w. refl) (λ w v. refl) (λ w l. sym (withLabel-shift b ls w l))
+    (λ s. sym (displacement-shift b ls a s)) (λ s. sym (jumps-shift b ls s)) m ps
+
+-- an instruction's first two words are all its words
+withLabel-two : (ls : Table) (w : ℕ) (l : Text) → Option·map (take 2) (withLabel ls w l) ≡ withLabel ls w l
+unfolding withLabel
+withLabel-two ls w l = simp bind-map
+
+encode-two : (ls : Table) (a : ℕ) (m : Text) (ps : List Text) → Option·map (take 2) (encode ls a m ps) ≡ encode ls a m ps
+encode-two ls a m ps = encode-by (take 2) ls ls a a (λ w. refl) (λ w v. refl) (withLabel-two ls) (λ s. refl) (λ s. refl) m ps
+
+length-two : (o : Option (List Cell)) → length (Option·getD (Option·map (take 2) o) []) ≤ 2
+length-two none = omega arith
+length-two (some cs) = rw length-take (omega arith)
+
+pub at-most-two : (ls : Table) (a : ℕ) (m : Text) (ps : List Text) → length (Option·getD (encode ls a m ps) []) ≤ 2
+at-most-two ls a m ps = rw encode-two at (length-two (encode ls a m ps))

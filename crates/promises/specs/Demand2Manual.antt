@@ -1,0 +1,147 @@
+-- Demand 2, the manual: "In the forms that 01 lists as those of the M68000 Programmer's Reference Manual, each word
+-- is proved to be the manual's". The forms as lines are written, and the statement about lines. Assumes nothing.
+use Prim.Native.Nat.{ℕ, _+_, _≤_, _<_, _^_}
+use mathlib.Core.Path.{_≡_}
+use mathlib.Core.Option.{Option, none, some}
+use mathlib.Core.List.{List, [], _∷_, _++_}
+use lib.IntN.{ℤ, pos, negsuc, _+ℤ_}
+use Rattle.rules.specs.Text.{Text, bytes}
+use Rattle.rules.specs.Number.{imm8, imm16}
+use Rattle.rules.specs.Line.{Name, Body, bare, instruction, Line, skipped, end, org, item, lineOf}
+use Rattle.rules.specs.Label.{Table, find}
+use Rattle.rules.specs.Encode.{writtenSigned}
+use Rattle.rules.specs.Assemble.{Place, secondPass}
+use Rattle.promises.specs.Manual.{InByte, byte, signOf, word, long, direct, indirect, immediate, Condition, T, CC, CS, NE, EQ, GE, LT, GT, LE, quick, quickOf, Instruction, MOVEQ, MOVE, MULS, ADD, SUB, CMP, TST, SUBQ, ASL, NOP, Bcc, Layout, layout, extensions, manualWords}
+
+-- the operands Dn and (An) as texts: the digit of n is byte 48 + n
+abbrev pub D : ℕ → Text
+D n = 68 ∷ (48 + n) ∷ []
+
+abbrev pub atA : ℕ → Text
+atA n = 40 ∷ 65 ∷ (48 + n) ∷ 41 ∷ []
+
+-- the suffixes
+abbrev pub L : Option Text
+L = some (bytes "L")
+
+abbrev pub W : Option Text
+W = some (bytes "W")
+
+-- a branch's mnemonic
+unfoldable pub branchName : Condition → Text
+branchName T = bytes "BRA"
+branchName CC = bytes "BCC"
+branchName CS = bytes "BCS"
+branchName NE = bytes "BNE"
+branchName EQ = bytes "BEQ"
+branchName GE = bytes "BGE"
+branchName LT = bytes "BLT"
+branchName GT = bytes "BGT"
+branchName LE = bytes "BLE"
+
+-- s is a label in reach of the instruction at a: z leads from the program counter, a + 2, to its address
+pub record InReach (ls : Table) (a : ℕ) (s : Text) (z : ℤ) : Type 0 where
+  pub target : ℕ
+  pub found : find s ls ≡ some target
+  pub leads : pos (a + 2) +ℤ z ≡ pos target
+  pub near : InByte z
+
+-- a branch's operand and its displacement: a label in reach or, where it names none, a signed number
+pub data Displaced (ls : Table) (a : ℕ) (s : Text) (z : ℤ) : Type 0 where
+  label : InReach ls a s z → Displaced ls a s z
+  signedNumber : ((y : ℤ) → InReach ls a s y → ⊥) → writtenSigned s ≡ some z → Displaced ls a s z
+
+-- the listed forms: mnemonic, suffix and operands that are, at address a with the labels ls, an instruction of the manual
+pub data Written (ls : Table) (a : ℕ) : Text → Option Text → List Text → Instruction → Type 0 where
+  moveq : {s : Text} {z : ℤ} {n : ℕ} → imm8 s ≡ some z → n < 8
+      → Written ls a (bytes "MOVEQ") none (s ∷ D n ∷ []) (MOVEQ z n)
+  load : {n m : ℕ} → n < 8 → m < 8
+      → Written ls a (bytes "MOVE") L (atA n ∷ D m ∷ []) (MOVE long (indirect n) (direct m))
+  store : {n m : ℕ} → n < 8 → m < 8
+      → Written ls a (bytes "MOVE") L (D n ∷ atA m ∷ []) (MOVE long (direct n) (indirect m))
+  copy : {n m : ℕ} → n < 8 → m < 8 → Written ls a (bytes "MOVE") W (D n ∷ D m ∷ []) (MOVE word (direct n) (direct m))
+  mulsData : {s : Text} {v n : ℕ} → imm16 s ≡ some v → n < 8
+      → Written ls a (bytes "MULS") W (s ∷ D n ∷ []) (MULS (immediate v) n)
+  muls : {n m : ℕ} → n < 8 → m < 8 → Written ls a (bytes "MULS") W (D n ∷ D m ∷ []) (MULS (direct n) m)
+  add : {n m : ℕ} → n < 8 → m < 8 → Written ls a (bytes "ADD") W (D n ∷ D m ∷ []) (ADD word (direct n) m)
+  sub : {n m : ℕ} → n < 8 → m < 8 → Written ls a (bytes "SUB") W (D n ∷ D m ∷ []) (SUB word (direct n) m)
+  cmp : {n m : ℕ} → n < 8 → m < 8 → Written ls a (bytes "CMP") W (D n ∷ D m ∷ []) (CMP word (direct n) m)
+  tst : {n : ℕ} → n < 8 → Written ls a (bytes "TST") L (D n ∷ []) (TST long (direct n))
+  subq : {s : Text} {k n : ℕ} → imm8 s ≡ some (pos k) → 1 ≤ k → k ≤ 8 → n < 8
+      → Written ls a (bytes "SUBQ") L (s ∷ D n ∷ []) (SUBQ long k (direct n))
+  asl : {s : Text} {k n : ℕ} → imm8 s ≡ some (pos k) → 1 ≤ k → k ≤ 8 → n < 8
+      → Written ls a (bytes "ASL") L (s ∷ D n ∷ []) (ASL long k n)
+  nop : Written ls a (bytes "NOP") none [] NOP
+  branch : (c : Condition) {s : Text} {z : ℤ} → Displaced ls a s z → (z ≡ pos 0 → ⊥)
+      → Written ls a (branchName c) none (s ∷ []) (Bcc c z)
+
+-- the line l, at address a with the labels ls, is an instruction of the manual
+pub record LineIs (ls : Table) (a : ℕ) (l : Text) (i : Instruction) : Type 0 where
+  pub names : List Name
+  pub mnemonic : Text
+  pub suffix : Option Text
+  pub operands : List Text
+  pub read : lineOf l ≡ item names (instruction mnemonic suffix operands)
+  pub written : Written ls a mnemonic suffix operands i
+
+-- what a line puts
+unfoldable pub bodyOf : Line → Body
+bodyOf skipped = bare
+bodyOf end = bare
+bodyOf (org v) = bare
+bodyOf (item ns b) = b
+
+-- all that the second pass emits for the line l at address a with the labels ls
+unfoldable pub emitted : Table → ℕ → Text → List Place
+emitted ls a l = secondPass (record { labels = ls; puts = record { address = a; body = bodyOf (lineOf l) } ∷ [] })
+
+-- words at a, a + 2 and so on, each with mark 0
+unfoldable pub unmarked : ℕ → List ℕ → List Place
+unmarked a [] = []
+unmarked a (w ∷ ws) = record { address = a; word = w; mark = 0 } ∷ unmarked (a + 2) ws
+
+-- the words emitted, their number and their marks are the manual's words with mark 0
+abbrev pub LinesAreTheManuals : Type 0
+LinesAreTheManuals =
+    (ls : Table) (a : ℕ) (l : Text) (i : Instruction) → LineIs ls a l i → emitted ls a l ≡ unmarked a (manualWords i)
+
+-- every word of the extension has sixteen bits
+abbrev pub Words : List ℕ → Type 0
+Words [] = Unit
+Words (w ∷ ws) = (w < 2 ^ 16) × Words ws
+
+-- in the manual's words of a line no field runs over into another
+abbrev pub FieldsHold : Type 0
+FieldsHold =
+    (ls : Table) (a : ℕ) (l : Text) (i : Instruction) → LineIs ls a l i → Layout (layout i) × Words (extensions i)
+
+-- a displacement or a datum of eight bits is read back from its byte
+abbrev pub BytesReadBack : Type 0
+BytesReadBack = (z : ℤ) → InByte z → (byte z < 256) × (signOf (byte z) ≡ z)
+
+-- and a datum of 1 to 8 from its three bits
+abbrev pub QuickReadsBack : Type 0
+QuickReadsBack = (k : ℕ) → 1 ≤ k → k ≤ 8 → (quick k < 8) × (quickOf (quick k) ≡ k)
+
+-- the label X at 16
+abbrev pub X : Table
+X = record { name = bytes "X"; start = 0; address = 16 } ∷ []
+
+-- every form has a line; every branch one with a label and one with a signed number
+pub record EveryFormHasALine : Type 0 where
+  pub moveq : LineIs [] 0 (bytes "MOVEQ #3,D1") (MOVEQ (pos 3) 1)
+  pub labelled : LineIs [] 0 (bytes " x: moveq #$-80 , D7") (MOVEQ (negsuc 127) 7)
+  pub load : LineIs [] 0 (bytes "MOVE.L (A2),D3") (MOVE long (indirect 2) (direct 3))
+  pub store : LineIs [] 0 (bytes "MOVE.L D4,(A5)") (MOVE long (direct 4) (indirect 5))
+  pub copy : LineIs [] 0 (bytes "MOVE.W D6,D7") (MOVE word (direct 6) (direct 7))
+  pub mulsData : LineIs [] 0 (bytes "MULS.W #0xFFFF,D0") (MULS (immediate 65535) 0)
+  pub muls : LineIs [] 0 (bytes "MULS.W D1,D2") (MULS (direct 1) 2)
+  pub add : LineIs [] 0 (bytes "ADD.W D3,D4") (ADD word (direct 3) 4)
+  pub sub : LineIs [] 0 (bytes "SUB.W D5,D6") (SUB word (direct 5) 6)
+  pub cmp : LineIs [] 0 (bytes "CMP.W D7,D0") (CMP word (direct 7) 0)
+  pub tst : LineIs [] 0 (bytes "TST.L D1") (TST long (direct 1))
+  pub subq : LineIs [] 0 (bytes "SUBQ.L #8,D2") (SUBQ long 8 (direct 2))
+  pub asl : LineIs [] 0 (bytes "ASL.L #1,D3") (ASL long 1 3)
+  pub nop : LineIs [] 0 (bytes "NOP") NOP
+  pub branch : (c : Condition) → LineIs X 0 (branchName c ++ bytes " X") (Bcc c (pos 14))
+  pub branchBack : (c : Condition) → LineIs X 0 (branchName c ++ bytes " -2") (Bcc c (negsuc 1))
