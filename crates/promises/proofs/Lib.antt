@@ -1,4 +1,13 @@
 pub mod Examples
+pub mod Demand1Order
+pub mod Demand1Search
+pub mod Demand1Checks
+pub mod Demand1Labels
+pub mod Demand1Passes
+pub mod Demand1Short
+pub mod Demand1Assemble
+pub mod Demand1Move
+pub mod Demand1
 pub mod ManualLaws
 pub mod ManualLines
 pub mod ManualFields

@@ -1,4 +1,5 @@
 pub mod Examples
+pub mod Demand1
 pub mod Manual
 pub mod Demand2Manual
 pub mod Demand3

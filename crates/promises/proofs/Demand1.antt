@@ -1,0 +1,148 @@
+-- Demand 1 on paper 01's definitions holds. Assumes nothing.
+use Prim.Native.Nat.{ℕ, zero, suc}
+use mathlib.Core.Path.{_≡_, refl, ap, _∙_}
+use mathlib.Core.Bool.{Bool, true, false}
+use mathlib.Core.Option.{Option, none, some}
+use mathlib.Core.List.{List, [], _∷_, map, _++_}
+use lib.ListN.{length, drop, length-map}
+use lib.Seq.{drop-at}
+use lib.IntN.{ℤ}
+use Rattle.rules.specs.Text.{Text}
+use Rattle.rules.specs.Answer.{Answer, accepted, refused, refuseIf, refuseAt, andThen}
+use Rattle.rules.specs.Assemble.{assemble, Place, Slices, short, assembleAnswer, over, holding, writeList, assembleSlices}
+use Rattle.rules.specs.Relocate.{moveAddresses, moveWords, moveAnswer, moveBy, moveSlices}
+use Rattle.rules.specs.Tally.{listIn, held, movedPlace}
+use Rattle.promises.specs.Demand1.{AssembleCondition, MoveCondition, AssembleRefusesExactly, MoveRefusesExactly, RefusalChangesNothing, SamePast, Assembled, Moved, AcceptedWrites}
+use Rattle.promises.proofs.Demand1Order.{clash}
+use Rattle.promises.proofs.Demand1Checks.{none-holds, refuses-exactly}
+use Rattle.promises.proofs.Demand1Assemble as A
+use Rattle.promises.proofs.Demand1Move as M
+
+pub assemble-refuses-exactly : AssembleRefusesExactly
+unfolding AssembleRefusesExactly
+assemble-refuses-exactly base s x =
+    refuses-exactly (AssembleCondition base s x) 8 (A.last base s x) (A.once base s x) (assembleAnswer base s x) (A.answered base s x)
+
+pub move-refuses-exactly : MoveRefusesExactly
+unfolding MoveRefusesExactly
+move-refuses-exactly x count d =
+    refuses-exactly (MoveCondition x count d) 12 (M.last x count d) (M.once x count d) (moveAnswer x count d) (M.answered x count d)
+
+-- a refused call
+unwritten : (base : ℕ) (s : Text) (x : Slices) (n p : ℕ) → assembleAnswer base s x ≡ refused n p → assembleSlices base s x ≡ x
+unfolding assembleAnswer assembleSlices andThen writeList refuseIf
+unwritten base s x n p e = go (assemble base s) refl
+  where
+    listed : (l : List Place) (y : Bool) → short x (length l) ≡ y → refuseIf (short x (length l)) 7 (length l) (accepted (length l)) ≡ refused n p → writeList (accepted l) x ≡ x
+    listed l true f g = rw (f, writeList)
+    listed l false f g = let z : accepted (length l) ≡ refused n p = rw f at g in clash cc
+
+    go : (a : Answer (List Place)) → assemble base s ≡ a → writeList (assemble base s) x ≡ x
+    go (refused m q) f = rw f
+    go (accepted l) f = rw f (listed l (short x (length l)) refl (rw f at e))
+
+unmoved : (x : Slices) (count : ℕ) (d : ℤ) (n p : ℕ) → moveAnswer x count d ≡ refused n p → moveSlices x count d ≡ x
+unfolding moveSlices moveBy
+unmoved x count d n p e = rw e
+
+pub refusal-changes-nothing : RefusalChangesNothing
+refusal-changes-nothing = record { assembling = unwritten; moving = unmoved }
+
+-- a list put over slices is held there, and nothing behind it changes
+held-over : (l : List Place) (xs ws ms : List ℕ)
+    → listIn (length l) (map (λ p. p .address) l ++ xs) (map (λ p. p .word) l ++ ws) (map (λ p. p .mark) l ++ ms) ≡ l
+unfolding listIn
+held-over [] xs ws ms = refl
+held-over (p ∷ l) xs ws ms = ap (λ r. p ∷ r) (held-over l xs ws ms)
+
+past-over : (f : Place → ℕ) (l : List Place) (old : List ℕ) → drop (length l) (over (map f l) old) ≡ drop (length l) old
+unfolding over
+past-over f l old = drop-at (map f l) (drop (length (map f l)) old) (length l) (length-map l f) ∙ rw (length-map l f)
+
+written : (l : List Place) (x : Slices) → (held (length l) (holding l x) ≡ l) × SamePast (length l) (holding l x) x
+unfolding held holding over
+written l x = (
+  held-over l _ _ _,
+  record {
+    addresses = past-over (λ p. p .address) l (x .addresses);
+    words = past-over (λ p. p .word) l (x .words);
+    marks = past-over (λ p. p .mark) l (x .marks);
+  },
+)
+
+-- a move writes the moved places, and nothing behind them
+module _ (d : ℤ) where
+  held-moved : (n : ℕ) (xs ws ms : List ℕ) → listIn n (moveAddresses d n xs) (moveWords d n ms ws) ms ≡ map (movedPlace d) (listIn n xs ws ms)
+  unfolding listIn moveAddresses moveWords movedPlace
+  held-moved zero xs ws ms = refl
+  held-moved (suc n) [] ws ms = refl
+  held-moved (suc n) (a ∷ xs) [] [] = refl
+  held-moved (suc n) (a ∷ xs) [] (m ∷ ms) = refl
+  held-moved (suc n) (a ∷ xs) (w ∷ ws) [] = refl
+  held-moved (suc n) (a ∷ xs) (w ∷ ws) (m ∷ ms) = ap (λ r. movedPlace d (record { address = a; word = w; mark = m }) ∷ r) (held-moved n xs ws ms)
+
+  past-addresses : (n : ℕ) (xs : List ℕ) → drop n (moveAddresses d n xs) ≡ drop n xs
+  unfolding moveAddresses
+  past-addresses zero xs = refl
+  past-addresses (suc n) [] = refl
+  past-addresses (suc n) (x ∷ xs) = past-addresses n xs
+
+  past-words : (n : ℕ) (ms ws : List ℕ) → drop n (moveWords d n ms ws) ≡ drop n ws
+  unfolding moveWords
+  past-words zero ms ws = refl
+  past-words (suc n) [] ws = refl
+  past-words (suc n) (m ∷ ms) [] = refl
+  past-words (suc n) (m ∷ ms) (w ∷ ws) = past-words n ms ws
+
+-- an accepted call
+accepted-list : (base : ℕ) (s : Text) (x : Slices) (n : ℕ) → assembleAnswer base s x ≡ accepted n → Assembled base s n x (assembleSlices base s x)
+unfolding assembleAnswer assembleSlices andThen writeList refuseIf
+accepted-list base s x n e = go (assemble base s) refl
+  where
+    clear : (m q : ℕ) → ¬ AssembleCondition base s x m q
+    clear = none-holds (AssembleCondition base s x) 8 (A.last base s x) (A.once base s x) n (assembleAnswer base s x) e (A.answered base s x)
+
+    listed : (l : List Place) → assemble base s ≡ accepted l → (y : Bool) → short x (length l) ≡ y
+        → refuseIf (short x (length l)) 7 (length l) (accepted (length l)) ≡ accepted n → Assembled base s n x (writeList (accepted l) x)
+    listed l f true g h = let z : refused 7 (length l) ≡ accepted n = rw g at h in clash cc
+    listed l f false g h =
+        let z : accepted (length l) ≡ accepted n = rw g at h in
+        let k : n ≡ length l = cc in
+        rw (g, writeList, k) (record { clear = clear; list = l; listed = f; counted = refl; written = written l x .0; past = written l x .1 })
+
+    go : (a : Answer (List Place)) → assemble base s ≡ a → Assembled base s n x (writeList (assemble base s) x)
+    go (refused m q) f = let z : refused m q ≡ accepted n = rw f at e in clash cc
+    go (accepted l) f = rw f (listed l f (short x (length l)) refl (rw f at e))
+
+-- an answer that no check refuses is the last one
+if-accepted : (y : Bool) (m p : ℕ) (r : Answer ℕ) (n : ℕ) → refuseIf y m p r ≡ accepted n → r ≡ accepted n
+unfolding refuseIf
+if-accepted true m p r n e = clash cc
+if-accepted false m p r n e = e
+
+at-accepted : (o : Option ℕ) (m : ℕ) (r : Answer ℕ) (n : ℕ) → refuseAt o m r ≡ accepted n → r ≡ accepted n
+unfolding refuseAt
+at-accepted (some p) m r n e = clash cc
+at-accepted none m r n e = e
+
+moved-count : (x : Slices) (count : ℕ) (d : ℤ) (n : ℕ) → moveAnswer x count d ≡ accepted n → n ≡ count
+unfolding moveAnswer
+moved-count x count d n e =
+    let f = at-accepted _ _ _ n (at-accepted _ _ _ n (if-accepted _ _ _ _ n (if-accepted _ _ _ _ n e))) in
+    let g : accepted count ≡ accepted n = f in
+    cc
+
+accepted-move : (x : Slices) (count : ℕ) (d : ℤ) (n : ℕ) → moveAnswer x count d ≡ accepted n → Moved count d n x (moveSlices x count d)
+unfolding moveSlices moveBy held
+accepted-move x count d n e =
+    rw e
+    (record {
+      clear = none-holds (MoveCondition x count d) 12 (M.last x count d) (M.once x count d) n (moveAnswer x count d) e (M.answered x count d);
+      counted = moved-count x count d n e;
+      written = held-moved d n (x .addresses) (x .words) (x .marks);
+      past = record { addresses = past-addresses d n (x .addresses); words = past-words d n (x .marks) (x .words); marks = refl };
+      kept = refl;
+    })
+
+pub accepted-writes : AcceptedWrites
+accepted-writes = record { assembling = accepted-list; moving = accepted-move }

@@ -1,0 +1,173 @@
+-- Demand 1 on paper 01's definitions: which calls are refused, with which number and place, and what a call writes.
+-- The eleven conditions are said from 01's text, apart from the tests by which the definitions decide them; 7 speaks of the
+-- list that the definitions give. Assumes nothing.
+use Prim.Native.Nat.{ℕ, suc, _+_, _<_, _≤_}
+use mathlib.Core.Path.{_≡_}
+use mathlib.Core.Logic.{_↔_, _≢_}
+use mathlib.Core.Bool.{Bool, false, _||_, cond}
+use mathlib.Core.Option.{none, some}
+use mathlib.Core.List.{List, [], _∷_, map}
+use lib.ListN.{length, getD, getElem?, drop}
+use lib.Dec.{eqb}
+use lib.IntN.{ℤ, pos, negsuc, _+ℤ_, natAbs}
+use Rattle.rules.specs.Limits.{maxSource, maxLines, maxLabels, addressLimit, lastAddress, distanceLimit}
+use Rattle.rules.specs.Text.{Text, cutAt, same}
+use Rattle.rules.specs.Line.{Line, skipped, end, org, item, lineOf, size}
+use Rattle.rules.specs.Answer.{accepted, refused}
+use Rattle.rules.specs.Assemble.{Place, Slices, assemble, assembleAnswer, assembleSlices}
+use Rattle.rules.specs.Relocate.{moveAnswer, moveSlices}
+use Rattle.rules.specs.Tally.{held, movedPlace}
+
+-- p is the lowest index below n at which P holds
+pub record Lowest (P : ℕ → Type 0) (n p : ℕ) : Type 0 where
+  pub inside : p < n
+  pub holds : P p
+  pub lowest : (i : ℕ) → i < p → ¬ P i
+
+-- "a source with k such bytes has k + 1 lines"
+unfoldable pub lineCount : Text → ℕ
+lineCount [] = 1
+lineCount (b ∷ s) = cond (eqb 10 b) (suc (lineCount s)) (lineCount s)
+
+-- the line behind the first j ones is l
+abbrev pub LineIs : Text → ℕ → Text → Type 0
+LineIs s j l = getElem? (cutAt 10 s) j ≡ some l
+
+-- the address after a line that is read at address a
+unfoldable pub addressAfter : ℕ → ℕ → Line → ℕ
+addressAfter base a skipped = a
+addressAfter base a end = a
+addressAfter base a (org none) = a
+addressAfter base a (org (some v)) = base + v
+addressAfter base a (item ns b) = a + size b
+
+-- the names that a line records, in order
+unfoldable pub namesOf : Line → List Text
+namesOf skipped = []
+namesOf end = []
+namesOf (org v) = []
+namesOf (item ns b) = map (λ n. n .text) ns
+
+-- names recorded one after another on top of others: the latest comes first
+unfoldable pub onTop : List Text → List Text → List Text
+onTop [] ns = ns
+onTop (m ∷ ms) ns = onTop ms (m ∷ ns)
+
+-- a name is among the names
+unfoldable pub isAmong : Text → List Text → Bool
+isAmong m [] = false
+isAmong m (n ∷ ns) = same m n || isAmong m ns
+
+-- how many different names there are
+unfoldable pub distinct : List Text → ℕ
+distinct [] = 0
+distinct (n ∷ ns) = cond (isAmong n ns) (distinct ns) (suc (distinct ns))
+
+-- j lines are read, none of them END; the address is a, and ns are recorded. The limits are set aside here
+pub data Reached (base : ℕ) (s : Text) : ℕ → ℕ → List Text → Type 0 where
+  start : Reached base s 0 base []
+  further : {j a : ℕ} {ns : List Text} {l : Text} → Reached base s j a ns → LineIs s j l → lineOf l ≢ end
+      → Reached base s (suc j) (addressAfter base a (lineOf l)) (onTop (namesOf (lineOf l)) ns)
+
+-- of names recorded on top of ns, one is "a new label when 1,024 are recorded"
+pub data TooMany : List Text → List Text → Type 0 where
+  now : {m : Text} {ms ns : List Text} → isAmong m ns ≡ false → maxLabels ≤ distinct ns → TooMany (m ∷ ms) ns
+  later : {m : Text} {ms ns : List Text} → TooMany ms (m ∷ ns) → TooMany (m ∷ ms) ns
+
+-- a slice is shorter than n
+pub data Shorter (x : Slices) (n : ℕ) : Type 0 where
+  addresses : length (x .addresses) < n → Shorter x n
+  words : length (x .words) < n → Shorter x n
+  marks : length (x .marks) < n → Shorter x n
+
+-- "below 0 or above 2^30 + 1"
+pub data OutOfRange : ℤ → Type 0 where
+  too-low : {n : ℕ} → OutOfRange (negsuc n)
+  too-high : {n : ℕ} → lastAddress < n → OutOfRange (pos n)
+
+-- refusals 1 to 7: the condition of each number, at its place
+pub data AssembleCondition (base : ℕ) (s : Text) (x : Slices) : ℕ → ℕ → Type 0 where
+  -- "1 source over 32,768 bytes; place its length"
+  source-over : maxSource < length s → AssembleCondition base s x 1 (length s)
+  -- "2 a byte over 127 anywhere; place the first one's index, from 0"
+  byte-over : {p : ℕ} → Lowest (λ i. 127 < getD s i 0) (length s) p → AssembleCondition base s x 2 p
+  -- "3 over 4,096 lines; place the line count"
+  lines-over : maxLines < lineCount s → AssembleCondition base s x 3 (lineCount s)
+  -- "4 base 2^30 or more; place 0"
+  base-over : addressLimit ≤ base → AssembleCondition base s x 4 0
+  -- "5 address 2^30 or more after a line; place the line, from 1"
+  address-over : {j a : ℕ} {ns : List Text} {l : Text} → Reached base s j a ns → LineIs s j l
+      → addressLimit ≤ addressAfter base a (lineOf l) → AssembleCondition base s x 5 (suc j)
+  -- "6 a new label when 1,024 are recorded; place the line"
+  labels-over : {j a : ℕ} {ns : List Text} {l : Text} → Reached base s j a ns → LineIs s j l
+      → TooMany (namesOf (lineOf l)) ns → AssembleCondition base s x 6 (suc j)
+  -- "7 any slice shorter than the count needed; place that count"
+  slice-short : {l : List Place} → assemble base s ≡ accepted l → Shorter x (length l) → AssembleCondition base s x 7 (length l)
+
+-- refusals 8 to 11 of a move of count places by the distance d
+pub data MoveCondition (x : Slices) (count : ℕ) (d : ℤ) : ℕ → ℕ → Type 0 where
+  -- "8 distance outside ±(2^30 − 1); place 0"
+  distance-over : distanceLimit ≤ natAbs d → MoveCondition x count d 8 0
+  -- "9 count over any slice's length; place the count"
+  count-over : Shorter x count → MoveCondition x count d 9 count
+  -- "10 a mark not 0 or 1 in the first count places; place its index, from 0", "its lowest index"
+  mark-wrong : {p : ℕ} → Lowest (λ i. (getD (x .marks) i 0 ≢ 0) × (getD (x .marks) i 0 ≢ 1)) count p → MoveCondition x count d 10 p
+  -- "11 a moved address, in those places, below 0 or above 2^30 + 1; place its index", "its lowest index"
+  address-out : {p : ℕ} → Lowest (λ i. OutOfRange (pos (getD (x .addresses) i 0) +ℤ d)) count p → MoveCondition x count d 11 p
+
+-- the checks go in rounds by their numbers, but 6 shares the round of 5
+unfoldable pub round : ℕ → ℕ
+round n = cond (eqb n 6) 5 n
+
+-- "Assembling checks 1, 2, 3, 4, then line by line 6 before 5, then 7. Moving checks 8, 9, then 10 .., then 11":
+-- condition m at place q is checked before condition n at place p
+pub data CheckedBefore (m q n p : ℕ) : Type 0 where
+  by-round : round m < round n → CheckedBefore m q n p
+  by-line : round m ≡ 5 → round n ≡ 5 → q < p → CheckedBefore m q n p
+  on-line : m ≡ 6 → n ≡ 5 → q ≡ p → CheckedBefore m q n p
+
+-- "condition n of 01 holds, at that place, and none that 01 checks before it"
+abbrev pub FirstOf : (ℕ → ℕ → Type 0) → ℕ → ℕ → Type 0
+FirstOf Condition n p = Condition n p × ((m q : ℕ) → CheckedBefore m q n p → ¬ Condition m q)
+
+-- "an answer is refusal (n, place) exactly if" that is so; no number but 1 to 7, or 8 to 11, has a condition
+unfoldable pub AssembleRefusesExactly : Type 0
+AssembleRefusesExactly =
+    (base : ℕ) (s : Text) (x : Slices) (n p : ℕ) → (assembleAnswer base s x ≡ refused n p) ↔ FirstOf (AssembleCondition base s x) n p
+
+unfoldable pub MoveRefusesExactly : Type 0
+MoveRefusesExactly =
+    (x : Slices) (count : ℕ) (d : ℤ) (n p : ℕ) → (moveAnswer x count d ≡ refused n p) ↔ FirstOf (MoveCondition x count d) n p
+
+-- "a refusal leaves every slice as it was"
+pub record RefusalChangesNothing : Type 0 where
+  pub assembling : (base : ℕ) (s : Text) (x : Slices) (n p : ℕ) → assembleAnswer base s x ≡ refused n p → assembleSlices base s x ≡ x
+  pub moving : (x : Slices) (count : ℕ) (d : ℤ) (n p : ℕ) → moveAnswer x count d ≡ refused n p → moveSlices x count d ≡ x
+
+-- "Places past the count never change."
+pub record SamePast (n : ℕ) (x y : Slices) : Type 0 where
+  pub addresses : drop n (x .addresses) ≡ drop n (y .addresses)
+  pub words : drop n (x .words) ≡ drop n (y .words)
+  pub marks : drop n (x .marks) ≡ drop n (y .marks)
+
+-- a call accepted with the count n: no condition holds, the source's list stands in the first n places of y, the rest is that of x
+pub record Assembled (base : ℕ) (s : Text) (n : ℕ) (x y : Slices) : Type 0 where
+  pub clear : (m q : ℕ) → ¬ AssembleCondition base s x m q
+  pub list : List Place
+  pub listed : assemble base s ≡ accepted list
+  pub counted : n ≡ length list
+  pub written : held n y ≡ list
+  pub past : SamePast n y x
+
+-- a move accepted with the count n: no condition holds, each of the first n places is moved, the rest and all marks are those of x
+pub record Moved (count : ℕ) (d : ℤ) (n : ℕ) (x y : Slices) : Type 0 where
+  pub clear : (m q : ℕ) → ¬ MoveCondition x count d m q
+  pub counted : n ≡ count
+  pub written : held n y ≡ map (movedPlace d) (held n x)
+  pub past : SamePast n y x
+  pub kept : y .marks ≡ x .marks
+
+-- what an accepted call writes
+pub record AcceptedWrites : Type 0 where
+  pub assembling : (base : ℕ) (s : Text) (x : Slices) (n : ℕ) → assembleAnswer base s x ≡ accepted n → Assembled base s n x (assembleSlices base s x)
+  pub moving : (x : Slices) (count : ℕ) (d : ℤ) (n : ℕ) → moveAnswer x count d ≡ accepted n → Moved count d n x (moveSlices x count d)
