@@ -12,6 +12,15 @@ pub mod ManualLaws
 pub mod ManualLines
 pub mod ManualFields
 pub mod ManualForms
+pub mod RustText
+pub mod RustNumber
+pub mod RustOperand
+pub mod RustOpcode
+pub mod RustEncode
+pub mod RustLine
+pub mod RustValue
+pub mod RustPass
+pub mod Demand2Rust
 pub mod Lists
 pub mod Accepted
 pub mod Shift

@@ -2,5 +2,8 @@ pub mod Examples
 pub mod Demand1
 pub mod Manual
 pub mod Demand2Manual
+pub mod RustStr
+pub mod RustAssembler
+pub mod Demand2Rust
 pub mod Demand3
 pub mod Longest

@@ -1,0 +1,4 @@
+mod Fields
+mod Registers
+mod Mnemonics
+pub mod Callers

@@ -1,0 +1,181 @@
+-- Demand 2, the Rust: the second pass, and the theorem that the list, marks left out, is the Rust's. Assumes nothing.
+use Prim.Native.Nat.{ℕ, suc, _+_, _/_, _%_, _^_, _<_}
+use mathlib.Core.Path.{_≡_, refl, sym, ap, _∙_}
+use mathlib.Core.Bool.{Bool, true, false}
+use mathlib.Core.Option.{Option, none, some, Option·map, Option·getD}
+use mathlib.Core.List.{List, [], _∷_, _++_, map, flatMap, foldl, append-nil, append-assoc, map-append}
+use native.Mathlib.Omega.{arith}
+use native.Mathlib.Nat.{mod-eq-of-lt, mod-mod, div-add-mod'}
+use lib.Bits.{and-mask}
+use Rattle.rules.specs.Text.{Text, cutAt}
+use Rattle.rules.specs.Line.{Body, bare, directive, instruction, instructionSize}
+use Rattle.rules.specs.Label.{Table, find}
+use Rattle.rules.specs.Encode.{Cell, literal, address, encode}
+use Rattle.rules.specs.Answer.{Answer, accepted, refused, refuseIf, refuseAt, andThen}
+use Rattle.rules.specs.Assemble.{numbered, linesOf, Put, Pass, firstPass, Place, placeOf, placesAt, valueCells, dataCells, codeCells, dataPlaces, codePlaces, secondPass, assemble}
+use Rattle.promises.specs.RustStr.{split, HashMap, look-up, push, add-u32}
+use Rattle.promises.specs.RustAssembler.{AssemblyInstruction, Code, encode-instruction-with-ext, State, first-pass, push-data, push-ext, push-code, push-instruction}
+use Rattle.promises.specs.RustAssembler as Rust
+use Rattle.promises.specs.Demand2Rust.{unmarked, ListIsTheRusts}
+use Rattle.promises.proofs.RustText.{split-is}
+use Rattle.promises.proofs.RustOperand.{Agrees}
+use Rattle.promises.proofs.RustEncode.{plain, extWords, codeWords, encode-same}
+use Rattle.promises.proofs.RustValue.{BodyLow}
+use Rattle.promises.proofs.RustLine.{instAt}
+use Rattle.promises.proofs.RustPass.{codeOf, valueAt, valueOf, PutLow, AllLow, nil, cons, Ended, texts, accepted-inj, never, pass-ends}
+
+-- words at an address, each two further on
+wordsAt : ℕ → List ℕ → List (ℕ × ℕ)
+wordsAt a [] = []
+wordsAt a (w ∷ ws) = (a, w) ∷ wordsAt (a + 2) ws
+
+places-words : (a : ℕ) (cs : List Cell) → map unmarked (placesAt a cs) ≡ wordsAt a (plain cs)
+unfolding placesAt placeOf wordsAt
+places-words a [] = refl
+places-words a (literal w ∷ cs) = ap (λ (r : List (ℕ × ℕ)). (a, w) ∷ r) (places-words (a + 2) cs)
+places-words a (address x ∷ cs) = ap (λ (r : List (ℕ × ℕ)). (a, x % 65536) ∷ r) (places-words (a + 2) cs)
+
+-- the address of a second word does not wrap
+two-on : (a : ℕ) → a < 2 ^ 30 → add-u32 a 2 ≡ a + 2
+two-on a h = mod-eq-of-lt (omega arith)
+
+-- a loop that pushes
+pushes : {A : Type 0} (f : List (ℕ × ℕ) → A → List (ℕ × ℕ)) (g : A → List (ℕ × ℕ)) → ((m : List (ℕ × ℕ)) (x : A) → f m x ≡ m ++ g x)
+    → (xs : List A) (m : List (ℕ × ℕ)) → foldl f m xs ≡ m ++ flatMap g xs
+unfolding flatMap
+pushes f g e [] m = sym (append-nil m)
+pushes f g e (x ∷ xs) m = rw (e m x) (pushes f g e xs (m ++ g x) ∙ append-assoc m (g x) (flatMap g xs))
+
+-- the words of a value, and of an instruction
+dataWords : ℕ × ℕ → List (ℕ × ℕ)
+dataWords d = push-data [] d
+
+instWords : HashMap → AssemblyInstruction → List (ℕ × ℕ)
+instWords m i = push-instruction m [] i
+
+data-pushes : (m : List (ℕ × ℕ)) (d : ℕ × ℕ) → push-data m d ≡ m ++ dataWords d
+unfolding push-data dataWords
+data-pushes m d = append-assoc m _ _
+
+code-pushes : (m : List (ℕ × ℕ)) (a : ℕ) (o : Option Code) → push-code m a o ≡ m ++ push-code [] a o
+unfolding push-code push-ext
+code-pushes m a none = sym (append-nil m)
+code-pushes m a (some c) = go (c .1)
+  where
+    go : (e : Option ℕ) → push-ext (push m (a, c .0)) a e ≡ m ++ push-ext ((a, c .0) ∷ []) a e
+    go none = refl
+    go (some e) = append-assoc m _ _
+
+instruction-pushes : (labels : HashMap) (m : List (ℕ × ℕ)) (i : AssemblyInstruction) → push-instruction labels m i ≡ m ++ instWords labels i
+unfolding push-instruction instWords
+instruction-pushes labels m i = code-pushes m (i .address) (encode-instruction-with-ext labels i)
+
+-- they stand at the rules' places
+code-words : (a : ℕ) → a < 2 ^ 30 → (o : Option Code) → push-code [] a o ≡ wordsAt a (Option·getD (Option·map codeWords o) [])
+unfolding push-code push-ext wordsAt
+code-words a h none = refl
+code-words a h (some c) = go (c .1)
+  where
+    go : (e : Option ℕ) → push-ext ((a, c .0) ∷ []) a e ≡ (a, c .0) ∷ wordsAt (a + 2) (extWords e)
+    go none = refl
+    go (some e) = rw (two-on a h)
+
+getD-map : (o : Option (List Cell)) → Option·getD (Option·map plain o) [] ≡ plain (Option·getD o [])
+getD-map none = refl
+getD-map (some cs) = refl
+
+module _ {m : HashMap} {t : Table} (g : Agrees m t) (a : ℕ) (low : a < 2 ^ 30) where
+  inst-words : (n : Text) (f : Option Text) (ps : List Text) → instWords m (instAt a n f ps) ≡ map unmarked (placesAt a (Option·getD (encode t a n ps) []))
+  unfolding instWords push-instruction
+  inst-words n f ps =
+      code-words a low (encode-instruction-with-ext m (instAt a n f ps))
+      ∙ ap (λ (o : Option (List ℕ)). wordsAt a (Option·getD o [])) (encode-same a low n (instructionSize n f ps) g ps .words)
+      ∙ ap (wordsAt a) (getD-map (encode t a n ps))
+      ∙ sym (places-words a (Option·getD (encode t a n ps) []))
+
+data-words : (a v : ℕ) → a < 2 ^ 30 → v < 2 ^ 32 → dataWords (a, v) ≡ map unmarked (placesAt a (literal (v / 65536) ∷ literal (v % 65536) ∷ []))
+unfolding dataWords push-data placesAt placeOf
+data-words a v h k = rw (two-on a h, and-mask v 16, mod-mod v (2 ^ 16), mod-eq-of-lt {n = v / 65536} {m = 65536} high)
+  where
+    high : v / 65536 < 65536
+    high = omega (arith, div-add-mod' v 65536)
+
+-- a put's words
+data-put : (a : ℕ) (b : Body) → a < 2 ^ 30 → BodyLow b
+    → flatMap dataWords (valueOf (record { address = a; body = b })) ≡ map unmarked (dataPlaces (record { address = a; body = b }))
+unfolding valueOf valueAt dataPlaces dataCells valueCells placesAt flatMap
+data-put a bare h k = refl
+data-put a (directive n none) h k = refl
+data-put a (directive n (some v)) h k = append-nil (dataWords (a, v)) ∙ data-words a v h k
+data-put a (instruction m f ps) h k = refl
+
+code-put : {m : HashMap} {t : Table} → Agrees m t → (a : ℕ) (b : Body) → a < 2 ^ 30
+    → flatMap (instWords m) (codeOf (record { address = a; body = b })) ≡ map unmarked (codePlaces t (record { address = a; body = b }))
+unfolding codeOf codePlaces codeCells placesAt flatMap
+code-put g a bare h = refl
+code-put g a (directive n v) h = refl
+code-put {m = m} g a (instruction n f ps) h = append-nil (instWords m (instAt a n f ps)) ∙ inst-words g a h n f ps
+
+-- all puts' words
+flat-append : {A B : Type 0} (f : A → List B) (xs ys : List A) → flatMap f (xs ++ ys) ≡ flatMap f xs ++ flatMap f ys
+unfolding flatMap
+flat-append f [] ys = refl
+flat-append f (x ∷ xs) ys = rw (flat-append f xs ys) (sym (append-assoc (f x) (flatMap f xs) (flatMap f ys)))
+
+puts-words : {A : Type 0} (f : A → List (ℕ × ℕ)) (g : Put → List A) (h : Put → List Place) → ((p : Put) → PutLow p → flatMap f (g p) ≡ map unmarked (h p))
+    → {ps : List Put} → AllLow ps → flatMap f (flatMap g ps) ≡ map unmarked (flatMap h ps)
+unfolding flatMap
+puts-words f g h e nil = refl
+puts-words f g h e (cons {p = p} {ps = ps} l ls) =
+    rw (flat-append f (g p) (flatMap g ps), map-append unmarked (h p) (flatMap h ps), e p l, puts-words f g h e ls)
+
+-- the two passes
+second-is : (s : State) (p : Pass) → Ended (record { labels = []; instructions = []; data-values = []; current-address = 0 }) s p
+    → foldl (push-instruction (s .labels)) (foldl push-data [] (s .data-values)) (s .instructions) ≡ map unmarked (secondPass p)
+unfolding secondPass
+second-is s p e =
+    rw (
+      e .instructions,
+      e .values,
+      pushes push-data dataWords data-pushes (flatMap valueOf (p .puts)) [],
+      pushes (push-instruction (s .labels)) (instWords (s .labels)) (instruction-pushes (s .labels)) (flatMap codeOf (p .puts)) _,
+      puts-words dataWords valueOf dataPlaces (λ x l. data-put (x .address) (x .body) (l .address) (l .value)) (e .low),
+      puts-words (instWords (s .labels)) codeOf (codePlaces (p .labels)) (λ x l. code-put (e .agrees) (x .address) (x .body) (l .address)) (e .low),
+    )
+    (sym (map-append unmarked (flatMap dataPlaces (p .puts)) (flatMap (codePlaces (p .labels)) (p .puts))))
+
+-- the lines
+lines-texts : (n i : ℕ) (ls : List Text) → texts (numbered n i ls) ≡ ls
+unfolding numbered
+lines-texts n i [] = refl
+lines-texts n i (l ∷ ls) = ap (λ (r : List Text). l ∷ r) (lines-texts (suc n) _ ls)
+
+-- what an accepted answer has passed
+passed-if : {A : Type 0} (x : Bool) (n p : ℕ) (r : Answer A) (a : A) → refuseIf x n p r ≡ accepted a → r ≡ accepted a
+unfolding refuseIf
+passed-if true n p r a e = cc
+passed-if false n p r a e = e
+
+passed-at : {A : Type 0} (o : Option ℕ) (n : ℕ) (r : Answer A) (a : A) → refuseAt o n r ≡ accepted a → r ≡ accepted a
+unfolding refuseAt
+passed-at none n r a e = e
+passed-at (some p) n r a e = cc
+
+empty-agrees : Agrees [] []
+unfolding look-up find
+empty-agrees = record { finds = λ n. refl; low = λ n. tt }
+
+pub list-is-the-rusts : ListIsTheRusts
+unfolding ListIsTheRusts assemble Rust.assemble linesOf andThen
+list-is-the-rusts s l e =
+    go (firstPass 0 0 [] (linesOf s)) refl (passed-if _ 4 0 _ l (passed-if _ 3 _ _ l (passed-at _ 2 _ l (passed-if _ 1 _ _ l e))))
+  where
+    start : State
+    start = record { labels = []; instructions = []; data-values = []; current-address = 0 }
+
+    go : (r : Answer Pass) → firstPass 0 0 [] (linesOf s) ≡ r → andThen r (λ p. accepted (secondPass p)) ≡ accepted l
+        → map unmarked l ≡ Rust.assemble (split 10 s)
+    go (refused n q) f h = absurd (never n q l h)
+    go (accepted p) f h =
+        rw (← accepted-inj (secondPass p) l h, split-is 10 s, ← lines-texts 1 0 (cutAt 10 s))
+        (sym (second-is (first-pass (texts (linesOf s)) start) p (pass-ends (linesOf s) 0 (omega arith) [] start refl empty-agrees p f)))
