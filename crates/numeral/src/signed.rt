@@ -10,17 +10,19 @@ use crate::unsigned::prefix_length;
 use crate::unsigned::read_digits;
 use crate::unsigned::read_number;
 
+// A signed number read.
 pub enum Signed {
     Value(i8),
     Unreadable,
 }
 
+// The displacement of a label, where a branch reaches it.
 pub enum Reach {
     Value(i8),
     Outside,
 }
 
-// -v
+// The negative of v.
 fn negated(v: u32) -> i8
     requires { ⌜ v ≤ 128 ⌝ }
     ensures { λ r. ⌜ r ≡ negℤ (pos v) ⌝ }

@@ -7,12 +7,13 @@ ghost use Rattle.rules.specs.Encode.{allDigits, isSome};
 ghost use Rattle.numeral.specs.Number.{numberOf, prefixLength};
 use crate::digit::digit;
 
+// A number read, which its reader's bound bounds.
 pub enum Number {
     Value(u32),
     Unreadable,
 }
 
-// One or more digits; no value grows past the bound, however many digits there are.
+// One or more digits. Reading ends at the first value not below the bound, so that no number of digits overflows.
 pub fn read_digits(t: &[u8], radix: u32, bound: u64) -> Number
     requires { ⌜ (radix ≤ 16) × (bound ≤ 2 ^ 32) ⌝ }
     ensures { λ r. ⌜ r ≡ numberOf (below bound (someDigits radix (now (t .entry)))) ⌝ }
@@ -112,7 +113,7 @@ pub fn parse_immediate_u16(t: &[u8]) -> Number
     parse_u16(&t[1..])
 }
 
-// Decimal digits only; also where there is none.
+// Whether all bytes are decimal digits; so too where there is no byte.
 fn all_digits(t: &[u8]) -> bool
     ensures { λ r. ⌜ r ≡ allDigits (now (t .entry)) ⌝ }
 {

@@ -1,0 +1,6 @@
+pub mod Signed
+pub mod Scan
+pub mod Sweep
+pub mod Verdict
+pub mod Moves
+pub mod Tallied

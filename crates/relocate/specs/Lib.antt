@@ -1,0 +1,4 @@
+pub mod Found
+pub mod Moved
+pub mod Moves
+pub mod Tallied
