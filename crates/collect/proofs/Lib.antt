@@ -1,0 +1,5 @@
+pub mod Steps
+pub mod Naming
+pub mod Reading
+pub mod Passing
+pub mod Underway

@@ -1,0 +1,203 @@
+-- One line of the first pass: from what the code has read and recorded to what is left of the pass. Assumes nothing.
+use mathlib.Core.Path.{_≡_, refl, sym, ap, _∙_}
+use mathlib.Core.Bool.{Bool, true, false, false≢true}
+use mathlib.Core.Option.{Option, none, some}
+use mathlib.Core.List.{List, [], _∷_}
+use Prim.Native.Nat.{ℕ, suc, _+_, _*_, _≤_, _<_}
+use native.Mathlib.Omega.{arith}
+use borrow.Author.Tests.{lt-ltb, le-ltb}
+use lib.Dec.{ltb}
+use lib.ListN.{length, drop}
+use Rattle.rules.specs.Limits.{addressLimit}
+use Rattle.rules.specs.Text.{Text}
+use Rattle.rules.specs.Line.{Name, lineOf}
+use Rattle.rules.specs.Label.{Table, recordAll}
+use Rattle.rules.specs.Assemble.{SourceLine, step, halt, full, next, firstPass, dataPlaces}
+use Rattle.label.specs.Table.{tableOf, Held}
+use Rattle.label.specs.declared.Recorded.{Recorded}
+use Rattle.label.specs.declared.Recorded.the-variants.{Count, Full}
+use Rattle.label.proofs.Table.{table-length}
+use Rattle.line.specs.declared.Line.{Line}
+use Rattle.line.specs.declared.Line.the-variants.{Skipped, End, Org, Item}
+use Rattle.line.specs.Line.{lineAt, Within}
+use Rattle.scan.specs.Lines.{lineEnd, lineFrom, linesFrom}
+use Rattle.scan.specs.Walk.{addressAfter, bodyOf, isEnd, putAt}
+use Rattle.scan.specs.Scan.{Scan}
+use Rattle.scan.specs.declared.Scanned.{Scanned}
+use Rattle.scan.proofs.LineLaws.{next-line, last-line, more-lines, line-end-le}
+use Rattle.collect.specs.declared.Collected.{Collected}
+use Rattle.collect.specs.declared.Collected.the-variants.{Done, Refused}
+use Rattle.collect.specs.declared.Progress.{Progress}
+use Rattle.collect.specs.Collect.{collectedFrom, namesOf, recordSome, stopLabels}
+use Rattle.collect.specs.Names.{Stored, namesRead, Naming, Reading, recordedOf, Named, dataWords, endRead}
+use Rattle.collect.specs.Progress.{Setting, Valid, leftFrom, stopFrom, Going, Stopping}
+use Rattle.collect.proofs.Steps.{step-end, step-full, step-next, collected-last, collected-halts, collected-full, collected-out, collected-more, stop-halts, stop-full, stop-out, stop-more, record-some}
+use Rattle.collect.proofs.Naming.{named-none, some-longer}
+use Rattle.collect.proofs.Reading.{end-is, data-is, words-most, names-is, in-source}
+
+-- what the answer of recording says of the rules' one
+recorded-full : (o : Option Table) → Full ≡ recordedOf o → o ≡ none
+recorded-full none e = refl
+recorded-full (some t) e = absurd (false≢true cc)
+
+recorded-count : (o : Option Table) (n : ℕ) → Count n ≡ recordedOf o → (t : Table) × (o ≡ some t) × (n ≡ length t)
+recorded-count none n e = absurd (false≢true cc)
+recorded-count (some t) n e = (t, refl, cc)
+
+module _ (source : Text) (base : ℕ) (cells : List ℕ) (p : Progress) (g : Setting source base cells) (v : Valid source cells p)
+    (s : Scanned) (c : Scan source (p .at) base (p .address) s) where
+  -- the line, its labels so far, and the rest
+  line : Text
+  line = lineFrom source (p .at)
+
+  table : Table
+  table = tableOf source cells (p .labels)
+
+  this : SourceLine
+  this = record { number = p .number; start = p .at; text = line }
+
+  end-said : endRead (s .read) ≡ isEnd (lineOf line)
+  unfolding line
+  end-said = end-is line (s .read) ∙ ap isEnd (c .reads .says)
+
+  names-said : namesRead source (p .at) (s .read) ≡ namesOf (lineOf line)
+  unfolding line
+  names-said = names-is source (p .at) (s .read) (c .reads .within) ∙ ap namesOf (c .reads .says)
+
+  -- the labels lie in the source
+  pub reading : Reading source cells (p .labels) (p .at) (s .read)
+  reading = go (s .read) (c .reads .within)
+    where
+      go : (r : Line) → Within (lineFrom source (p .at)) r → Reading source cells (p .labels) (p .at) r
+      go Skipped h = v .held
+      go End h = v .held
+      go (Org x) h = v .held
+      go (Item ns b) h =
+          record {
+            held = v .held;
+            short = g .short;
+            room = g .room;
+            first = in-source source (p .at) (v .inside) (ns .first) (h .0 .first);
+            second = in-source source (p .at) (v .inside) (ns .second) (h .0 .second);
+          }
+
+  -- END: the table as it is
+  pub stops-at-end : endRead (s .read) ≡ true → Stopping source base cells p (Done (p .labels) (p .words)) cells
+  unfolding line table this recordSome
+  stops-at-end e =
+      let h = step-end base (p .at) (p .address) table (lineOf line) (sym end-said ∙ e) in
+      record {
+        answer = sym (ap (collectedFrom (p .words)) (ap (firstPass base (p .address) table) (next-line source (p .number) (p .at))) ∙ collected-halts (p .words) base (p .address) table this _ h ∙ rw (table-length source cells (p .labels)));
+        stored = rw (next-line source (p .number) (p .at), stop-halts base (p .address) table this _ h) (named-none source cells (p .labels) (p .at) (p .address) (v .held) .stored);
+      }
+
+  module _ (ne : endRead (s .read) ≡ false) (answer : Recorded) (after : List ℕ)
+      (d : Named source cells (p .labels) (p .at) (p .address) (namesRead source (p .at) (s .read)) answer after) where
+    reads-on : isEnd (lineOf line) ≡ false
+    reads-on = sym end-said ∙ ne
+
+    -- no room for a label
+    pub stops-full : answer ≡ Full → Stopping source base cells p (Refused 6 (p .number)) after
+    unfolding line table this
+    stops-full e =
+        let o : recordAll (p .at) (p .address) (namesOf (lineOf line)) table ≡ none = ap (λ ns. recordAll (p .at) (p .address) ns table) (sym names-said) ∙ recorded-full _ (sym e ∙ d .answered) in
+        let h = step-full base (p .at) (p .address) table (lineOf line) reads-on o in
+        record {
+          answer = sym (ap (λ ls. collectedFrom (p .words) (firstPass base (p .address) table ls)) (next-line source (p .number) (p .at)) ∙ collected-full (p .words) base (p .address) table this _ h);
+          stored = rw (next-line source (p .number) (p .at), stop-full base (p .address) table this _ h, ← names-said) (d .stored);
+        }
+
+    module _ (n : ℕ) (e : answer ≡ Count n) where
+      -- the labels with this line's
+      now : Table
+      now = recordSome (p .at) (p .address) (namesRead source (p .at) (s .read)) table
+
+      records : (recordAll (p .at) (p .address) (namesOf (lineOf line)) table ≡ some now) × (n ≡ length now)
+      unfolding now table
+      records =
+          let k = recorded-count (recordAll (p .at) (p .address) (namesRead source (p .at) (s .read)) table) n (sym e ∙ d .answered) in
+          let z = record-some (p .at) (p .address) (namesRead source (p .at) (s .read)) table (k .0) (k .1) in
+          (ap (λ ns. recordAll (p .at) (p .address) ns table) (sym names-said) ∙ k .1 ∙ ap some (sym z), k .2 ∙ ap length (sym z))
+
+      goes : step base (p .at) (p .address) table (lineOf line) ≡ next (s .after) now (bodyOf (lineOf line))
+      unfolding line
+      goes = step-next base (p .at) (p .address) table (lineOf line) reads-on now (records .0) ∙ ap (λ x. next x now (bodyOf (lineOf line))) (sym (c .after))
+
+      -- the address is too high
+      pub stops-out : addressLimit ≤ s .after → Stopping source base cells p (Refused 5 (p .number)) after
+      unfolding line table this now
+      stops-out h =
+          let f = le-ltb (s .after) addressLimit h in
+          record {
+            answer = sym (ap (λ ls. collectedFrom (p .words) (firstPass base (p .address) table ls)) (next-line source (p .number) (p .at)) ∙ collected-out (p .words) base (p .address) table this _ (s .after) now (bodyOf (lineOf line)) goes f);
+            stored = rw (next-line source (p .number) (p .at), stop-out base (p .address) table this _ (s .after) now (bodyOf (lineOf line)) goes f) (d .stored);
+          }
+
+      module _ (h : s .after < addressLimit) where
+        inside : ltb (s .after) addressLimit ≡ true
+        inside = lt-ltb (s .after) addressLimit h
+
+        -- the data words with this line's
+        words-said : dataWords (s .read) ≡ length (dataPlaces (record { address = p .address; body = bodyOf (lineOf line) }))
+        unfolding line
+        words-said = data-is (p .address) line (s .read) ∙ ap (λ x. length (dataPlaces (putAt (p .address) x))) (c .reads .says)
+
+        -- what is left behind this line
+        left-more : (ls : List SourceLine) → linesFrom source (p .number) (p .at) ≡ this ∷ ls
+            → collectedFrom (p .words) (leftFrom source base cells p) ≡ collectedFrom (p .words + dataWords (s .read)) (firstPass base (s .after) now ls)
+        unfolding line table this
+        left-more ls k =
+            ap (λ x. collectedFrom (p .words) (firstPass base (p .address) table x)) k
+            ∙ collected-more (p .words) base (p .address) table this ls (s .after) now (bodyOf (lineOf line)) goes inside
+            ∙ ap (λ x. collectedFrom (p .words + x) (firstPass base (s .after) now ls)) (sym words-said)
+
+        labels-more : (ls : List SourceLine) → linesFrom source (p .number) (p .at) ≡ this ∷ ls → stopFrom source base cells p ≡ stopLabels base (s .after) now ls
+        unfolding line table this
+        labels-more ls k = ap (stopLabels base (p .address) table) k ∙ stop-more base (p .address) table this ls (s .after) now (bodyOf (lineOf line)) goes inside
+
+        -- no line is left
+        pub stops-last : s .end ≡ length source → Stopping source base cells p (Done n (p .words + dataWords (s .read))) after
+        unfolding line this now table stopLabels
+        stops-last z =
+            let k = last-line source (p .number) (p .at) (omega (arith, c .ends, z)) in
+            record {
+              answer = sym (left-more [] k ∙ collected-last (p .words + dataWords (s .read)) base (s .after) now ∙ ap (λ x. Done x (p .words + dataWords (s .read))) (sym (records .1)));
+              stored = rw (labels-more [] k) (d .stored);
+            }
+
+        held-now : tableOf source after n ≡ now
+        unfolding now table
+        held-now = ap (tableOf source after) (records .1) ∙ d .stored .table
+
+        pub goes-on : (s .end ≡ length source → ⊥) → Going source base cells p (record { at = s .end + 1; number = p .number + 1; address = s .after; labels = n; words = p .words + dataWords (s .read) }) after
+        unfolding line this now table
+        goes-on z =
+            let b : s .end < length source = omega (arith, c .ends, line-end-le source (p .at) (v .inside)) in
+            let f : suc (lineEnd source (p .at)) ≡ s .end + 1 = omega (arith, c .ends) in
+            let m : suc (p .number) ≡ p .number + 1 = omega arith in
+            let k = rw (f, m) at (more-lines source (p .number) (p .at) (omega (arith, c .ends, b))) in
+            let e = records .1 in
+            record {
+              valid = record {
+                inside = omega arith;
+                numbered = omega (arith, v .numbered, c .ends);
+                low = h;
+                held = rw e (d .stored .held);
+                few = omega (arith, v .few, c .ends, words-most (s .read));
+              };
+              answer = left-more (linesFrom source (p .number + 1) (s .end + 1)) k ∙ rw held-now;
+              labels = labels-more (linesFrom source (p .number + 1) (s .end + 1)) k ∙ rw held-now;
+              grows = omega (arith, e, some-longer (p .at) (p .address) (namesRead source (p .at) (s .read)) table, table-length source cells (p .labels));
+              long = d .stored .long;
+              past = rw e (d .stored .past);
+              further = omega (arith, c .ends);
+            }
+
+        -- with the data words as the code counted them
+        module _ (w : ℕ) (k : w ≡ dataWords (s .read)) where
+          pub stops-last-with : s .end ≡ length source → Stopping source base cells p (Done n (p .words + w)) after
+          stops-last-with z = rw k (stops-last z)
+
+          pub goes-on-with : (s .end ≡ length source → ⊥)
+              → Going source base cells p (record { at = s .end + 1; number = p .number + 1; address = s .after; labels = n; words = p .words + w }) after
+          goes-on-with z = rw k (goes-on z)

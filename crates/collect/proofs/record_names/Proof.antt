@@ -1,0 +1,75 @@
+-- `record_names` records none, one or two labels. Assumes nothing.
+use native.Mathlib.Omega.{arith}
+use Rattle.collect.proofs.Naming.{ready, named-0, named-1, named-2-full, ready-second, named-2}
+use borrow.Author.Needs.{needs}
+use Rattle.collect.proofs.record_names.Statement.{statement}
+use Rattle.collect.proofs.record_names.Tie as tie
+
+returns : tie.Need-returns
+returns c = named-0 _ _ _ _ _ _ (c .before .before .before .pre) (c .if1 .taken)
+
+add-a : tie.Need-add-a
+add-a c = search needs
+
+add-b : tie.Need-add-b
+add-b c = search needs
+
+record-label-requires : tie.Need-record-label-requires
+record-label-requires c κs = ready _ _ _ _ _ (c .before .before .before .before .before .before .before .pre .held) (c .before .before .before .before .before .before .before .pre .short) (c .before .before .before .before .before .before .before .pre .room) (c .before .before .before .before .before .before .before .pre .first)
+
+same-length : tie.Need-same-length
+same-length c = search needs
+
+returns-2 : tie.Need-returns-2
+returns-2 c = named-1 _ _ _ _ _ _ (c .before .before .before .before .before .before .before .before .before .before .pre) _ _ (c .before .before .before .before .if2 .taken) (c .before .before .record-label .ensures)
+
+record-label-requires-2 : tie.Need-record-label-requires-2
+record-label-requires-2 c κs = ready _ _ _ _ _ (c .before .before .before .before .before .before .before .pre .held) (c .before .before .before .before .before .before .before .pre .short) (c .before .before .before .before .before .before .before .pre .room) (c .before .before .before .before .before .before .before .pre .first)
+
+enum-known-next : tie.Need-enum-known-next
+enum-known-next c = search needs
+
+enum-told : tie.Need-enum-told
+enum-told c = search needs
+
+same-length-2 : tie.Need-same-length-2
+same-length-2 c = search needs
+
+returns-3 : tie.Need-returns-3
+returns-3 c = named-2-full _ _ _ _ _ _ (c .before .before .before .before .before .before .before .before .before .before .before .before .pre) (c .before .before .before .before .before .before .before .before .before .if1 .left) (c .before .before .before .before .before .before .if2 .left) _ _ (c .before .before .before .before .record-label2 .ensures) (c .enum-told .given .1)
+
+add-c : tie.Need-add-c
+add-c c = omega (arith, c .before .before .before .before .before .before .before .before .before .before .before .before .before .before .pre .second)
+
+add-d : tie.Need-add-d
+add-d c = omega (arith, c .before .before .before .before .before .before .before .before .before .before .before .before .before .before .before .pre .second)
+
+record-label-requires-3 : tie.Need-record-label-requires-3
+record-label-requires-3 c κs = ready-second _ _ _ _ _ _ (c .before .before .before .before .before .before .before .before .before .before .before .before .before .before .before .before .pre) (c .before .before .before .before .before .before .before .before .before .before .before .before .before .if1 .left) (c .before .before .before .before .before .before .before .before .before .before .if2 .left) _ _ (c .before .before .before .before .before .before .before .before .record-label2 .ensures) _ (c .before .before .before .before .next .given .1)
+
+same-length-3 : tie.Need-same-length-3
+same-length-3 c = search needs
+
+returns-4 : tie.Need-returns-4
+returns-4 c = named-2 _ _ _ _ _ _ (c .before .before .before .before .before .before .before .before .before .before .before .before .before .before .before .before .before .before .before .pre) (c .before .before .before .before .before .before .before .before .before .before .before .before .before .before .before .before .if1 .left) (c .before .before .before .before .before .before .before .before .before .before .before .before .before .if2 .left) _ _ (c .before .before .before .before .before .before .before .before .before .before .before .record-label2 .ensures) _ (c .before .before .before .before .before .before .before .next .given .1) _ _ (c .before .before .record-label3 .ensures)
+
+pub record-names-spec : {M : Type 1} → statement M
+record-names-spec =
+    tie.close
+    (tie.spec
+    returns
+    add-a
+    add-b
+    record-label-requires
+    same-length
+    returns-2
+    record-label-requires-2
+    enum-known-next
+    enum-told
+    same-length-2
+    returns-3
+    add-c
+    add-d
+    record-label-requires-3
+    same-length-3
+    returns-4)

@@ -1,0 +1,3 @@
+pub mod Collect
+pub mod Names
+pub mod Progress

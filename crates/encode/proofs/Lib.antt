@@ -1,0 +1,5 @@
+mod Readings
+mod Shaped
+mod Operations
+mod Instructions
+pub mod Callers

@@ -1,0 +1,58 @@
+-- `form::encode_moveq` meets its contract: an immediate and a data register are read. Assumes nothing.
+use mathlib.Core.Path.{_≡_, sym, _∙_}
+use mathlib.Core.Option.{some}
+use borrow.Author.Needs.{needs}
+use denote.Ref.{now}
+use mir.Facts.{toZ-ofZ}
+use Rattle.rules.specs.Number.{imm8, modulo}
+use Rattle.rules.specs.Encode.{dataRegister}
+use Rattle.numeral.proofs.Answers.{signed-none, signed-some}
+use Rattle.numeral.proofs.Bounds.{imm8-bound}
+use Rattle.opcode.proofs.Callers.{registered, unregistered, data-small}
+use Rattle.encode.specs.Code.{codeOf}
+use Rattle.encode.specs.Rows.{moveqRow}
+use Rattle.encode.proofs.Readings.{stops, goes}
+use Rattle.encode.proofs.form.encode_moveq.Statement.{statement}
+use Rattle.encode.proofs.form.encode_moveq.Tie as tie
+
+-- what the operands are read as
+first : (c : tie.After-known-told) → imm8 (now (c .before .before .before .before .before .before .args .s)) ≡ some (c .before .v .given .0 .0)
+first c = signed-some _ _ (sym (c .before .before .before .parse-immediate .ensures) ∙ c .before .v .given .1)
+
+second : (c : tie.After-known-told2) → dataRegister (now (c .before .before .before .before .before .before .before .before .before .before .args .t)) ≡ some (c .before .n .given .0 .0)
+second c = registered _ _ (sym (c .before .before .before .parse-data-register .ensures) ∙ c .before .n .given .1)
+
+-- the value's low byte
+low : (c : tie.After-low-byte) → c .low-byte .result ≡ modulo 256 (c .before .before .before .before .before .before .v .given .0 .0)
+low c = rw (toZ-ofZ (record { sfits = imm8-bound _ _ (first (c .before .before .before .before .before)) })) at (c .low-byte .ensures)
+
+returns : tie.Need-returns
+unfolding moveqRow
+returns c = stops codeOf _ _ (signed-none _ (sym (c .before .before .parse-immediate .ensures) ∙ c .enum-told .given .1))
+
+returns-2 : tie.Need-returns-2
+unfolding moveqRow
+returns-2 c = goes codeOf _ _ (first (c .before .before .before)) (stops codeOf _ _ (unregistered _ (sym (c .before .before .parse-data-register .ensures) ∙ c .enum-told2 .given .1)))
+
+moveq-word-requires : tie.Need-moveq-word-requires
+moveq-word-requires c κs = data-small _ _ (second (c .before))
+
+returns-3 : tie.Need-returns-3
+unfolding moveqRow
+returns-3 c = goes codeOf _ _ (first (c .before .before .before .before .before .before)) (goes codeOf _ _ (second (c .before .before)) (cc (c .moveq-word .ensures, low (c .before))))
+
+pub encode-moveq-spec : {M : Type 1} → statement M
+encode-moveq-spec =
+    tie.close
+    (tie.spec
+    (λ c κs. search needs)
+    (λ c. search needs)
+    (λ c. search needs)
+    returns
+    (λ c κs. search needs)
+    (λ c. search needs)
+    (λ c. search needs)
+    returns-2
+    (λ c κs. search needs)
+    moveq-word-requires
+    returns-3)

@@ -1,0 +1,4 @@
+pub mod Code
+pub mod Rows
+pub mod Near
+pub mod Body

@@ -1,0 +1,6 @@
+pub mod Lists
+pub mod FirstPiece
+pub mod Tail
+pub mod Split
+pub mod Places
+pub mod Size

@@ -1,0 +1,214 @@
+-- Laws of an instruction's size: the order of the tests in code is as good as paper 01's. Assumes nothing.
+use mathlib.Core.Path.{_≡_, refl, sym, _∙_}
+use mathlib.Core.Bool.{Bool, true, false, not, _&&_, _||_, cond, or-false}
+use mathlib.Core.Option.{Option}
+use mathlib.Core.List.{List, [], _∷_}
+use Prim.Native.Nat.{ℕ, _≤_, _<_}
+use native.Mathlib.Omega.{arith}
+use borrow.Author.Tests.{ne-eqb, not-true, not-false}
+use lib.Dec.{eqb}
+use lib.ListN.{length, take, getD, drop, length-drop}
+use Rattle.rules.specs.Text.{Text, bytes, uppers, pieces, joined, same, starts, firstText, otherTexts, lastText}
+use Rattle.rules.specs.Line.{instructionOf, operandsOf, isL, isPlain, isLong, instructionSize, size}
+use Rattle.text.proofs.Compare.{eqb-sym, same-is}
+use Rattle.rules.specs.Assemble.{over}
+use Rattle.instruction.specs.FirstPiece.{part, headOf}
+use Rattle.instruction.specs.Split.{operandsIn, textAt, operandsAt}
+use Rattle.instruction.specs.Size.{sizedBy, hasOperands, isLongBy, sizeBy, sizedOf, sizeScratch}
+use Rattle.instruction.specs.declared.Operands.{Operands}
+use Rattle.instruction.specs.declared.SizeRule.{SizeRule}
+use Rattle.instruction.specs.declared.SizeRule.the-variants.{Fixed, Immediate, Move}
+use Rattle.instruction.specs.declared.Head.{Head}
+use Rattle.instruction.proofs.Lists.{take-over, length-over}
+use Rattle.instruction.proofs.FirstPiece.{head-of}
+use Rattle.instruction.proofs.Tail.{joined-le}
+use Rattle.instruction.proofs.Places.{operands-of}
+
+-- ---- paper 01's test, mnemonic by mnemonic
+module _ (m : Text) (f : Option Text) (s t : Text) where
+  long-rest : same m (bytes "MULS") ≡ false → same m (bytes "CMP") ≡ false → isLongBy (sizedBy m (isL f)) s t ≡ isLong m f s t
+  unfolding isLong sizedBy isLongBy
+  long-rest d c = rw (d, c) (go (same m (bytes "MOVE") || same m (bytes "MOVEA")) (isL f))
+    where
+      go : (n l : Bool) → isLongBy (cond (not l) Fixed (cond n Move Fixed)) s t ≡ (n && l && not (isPlain s) || n && l && not (isPlain t) || false && l && starts (bytes "#") s || false && starts (bytes "#") s)
+      go true true = simp or-false
+      go true false = refl
+      go false true = refl
+      go false false = refl
+
+  long-cmp : m ≡ bytes "CMP" → isLongBy (sizedBy m (isL f)) s t ≡ isLong m f s t
+  unfolding isLong sizedBy isLongBy same bytes
+  long-cmp e = rw e (go (isL f))
+    where
+      go : (l : Bool) → isLongBy (cond (not l) Fixed Immediate) s t ≡ (l && starts (bytes "#") s || false)
+      go true = simp or-false
+      go false = refl
+
+  long-muls : m ≡ bytes "MULS" → isLongBy (sizedBy m (isL f)) s t ≡ isLong m f s t
+  unfolding isLong sizedBy isLongBy same bytes
+  long-muls e = rw e
+
+  pub long-by : isLongBy (sizedBy m (isL f)) s t ≡ isLong m f s t
+  long-by = go (same m (bytes "MULS")) (same m (bytes "CMP")) refl refl
+    where
+      go : (d c : Bool) → same m (bytes "MULS") ≡ d → same m (bytes "CMP") ≡ c → isLongBy (sizedBy m (isL f)) s t ≡ isLong m f s t
+      go true c p q = long-muls (same-is m (bytes "MULS") p)
+      go false true p q = long-cmp (same-is m (bytes "CMP") q)
+      go false false p q = long-rest p q
+
+pub size-by : (m : Text) (f : Option Text) (ps : List Text) → instructionSize m f ps ≡ sizeBy (sizedBy m (isL f)) ps
+unfolding instructionSize sizeBy
+size-by m f [] = refl
+size-by m f (s ∷ []) = refl
+size-by m f (s ∷ t ∷ ps) = rw (long-by m f s (lastText t ps))
+
+-- an instruction's size, by what decides it and its operands
+pub size-is : (t : Text) → size (instructionOf t) ≡ sizeBy (sizedOf t) (operandsIn (joined (otherTexts (pieces t))))
+unfolding size instructionOf operandsOf operandsIn sizedOf
+size-is t = size-by _ _ _
+
+pub size-fixed : (k : SizeRule) (ps : List Text) → hasOperands k ≡ false → 2 ≡ sizeBy k ps
+unfolding hasOperands sizeBy isLongBy
+size-fixed Fixed [] h = refl
+size-fixed Fixed (s ∷ []) h = refl
+size-fixed Fixed (s ∷ t ∷ ps) h = refl
+size-fixed Immediate ps h = let z : _≡_ {A = ℕ} 0 1 = cc in absurd (omega arith)
+size-fixed Move ps h = let z : _≡_ {A = ℕ} 0 1 = cc in absurd (omega arith)
+
+-- ---- a text's first byte
+starts-byte : (c : ℕ) (t : Text) → 0 < length t → starts (c ∷ []) t ≡ eqb (getD t 0 0) c
+unfolding starts
+starts-byte c [] h = absurd (omega arith)
+starts-byte c (b ∷ t) h = go (eqb c b) refl
+  where
+    go : (y : Bool) → eqb c b ≡ y → starts (c ∷ []) (b ∷ t) ≡ eqb b c
+    go true e = rw (e, starts) (sym (eqb-sym b c ∙ e))
+    go false e = rw (e, starts) (sym (eqb-sym b c ∙ e))
+
+pub plain-none : (t : Text) → length t ≡ 0 → false ≡ isPlain t
+unfolding isPlain starts bytes
+plain-none [] h = refl
+plain-none (b ∷ t) h = absurd (omega arith)
+
+module _ (t : Text) (h : length t ≡ 0 → ⊥) where
+  plain-some : isPlain t ≡ (eqb (getD t 0 0) 68 || eqb (getD t 0 0) 65 || eqb (getD t 0 0) 40)
+  unfolding isPlain bytes
+  plain-some = let p : 0 < length t = omega arith in rw (starts-byte 68 t p, starts-byte 65 t p, starts-byte 40 t p)
+
+  pub plain-data : getD t 0 0 ≡ 68 → true ≡ isPlain t
+  plain-data e = rw (plain-some, e)
+
+  pub plain-address : getD t 0 0 ≡ 65 → true ≡ isPlain t
+  plain-address e = rw (plain-some, e)
+
+  pub plain-bracket : (getD t 0 0 ≡ 68 → ⊥) → (getD t 0 0 ≡ 65 → ⊥) → eqb (getD t 0 0) 40 ≡ isPlain t
+  plain-bracket d a = rw (plain-some, ne-eqb (getD t 0 0) 68 d, ne-eqb (getD t 0 0) 65 a)
+
+-- ---- the returns of `sized`
+module _ (m : Text) (l : Bool) where
+  pub sized-muls : same m (bytes "MULS") ≡ true → Immediate ≡ sizedBy m l
+  unfolding sizedBy
+  sized-muls a = rw a
+
+  module _ (a : same m (bytes "MULS") ≡ false) where
+    pub sized-short : not l ≡ true → Fixed ≡ sizedBy m l
+    unfolding sizedBy
+    sized-short b = rw (a, b)
+
+    module _ (b : not l ≡ false) where
+      pub sized-cmp : same m (bytes "CMP") ≡ true → Immediate ≡ sizedBy m l
+      unfolding sizedBy
+      sized-cmp c = rw (a, b, c)
+
+      module _ (c : same m (bytes "CMP") ≡ false) where
+        pub sized-move : same m (bytes "MOVE") ≡ true → Move ≡ sizedBy m l
+        unfolding sizedBy
+        sized-move d = rw (a, b, c, d)
+
+        module _ (d : same m (bytes "MOVE") ≡ false) {y : Bool} (e : same m (bytes "MOVEA") ≡ y) where
+          pub sized-rest : cond y Move Fixed ≡ sizedBy m l
+          unfolding sizedBy
+          sized-rest = rw (a, b, c, d, e)
+
+-- ---- the returns of `takes_four`
+module _ (k : SizeRule) (s t : Text) where
+  pub four-never : k ≡ Fixed → false ≡ isLongBy k s t
+  unfolding isLongBy
+  four-never e = rw e
+
+  pub four-immediate : k ≡ Immediate → {y : Bool} → y ≡ starts (bytes "#") s → y ≡ isLongBy k s t
+  unfolding isLongBy
+  four-immediate e p = rw e p
+
+  module _ (e : k ≡ Move) {y : Bool} (p : y ≡ isPlain s) where
+    pub four-first : not y ≡ true → true ≡ isLongBy k s t
+    unfolding isLongBy
+    four-first h = rw (e, ← p, h)
+
+    pub four-last : not y ≡ false → {z : Bool} → z ≡ isPlain t → not z ≡ isLongBy k s t
+    unfolding isLongBy
+    four-last h q = rw (e, ← p, h, ← q)
+
+-- ---- the returns of `size_of`
+module _ (k : SizeRule) (t : Text) (o : Operands) (e : o ≡ operandsAt t) where
+  pub size-few : o .count < 2 → 2 ≡ sizeBy k (operandsIn t)
+  unfolding sizeBy
+  size-few h = go (operandsIn t) (operands-of t o e .count)
+    where
+      go : (ps : List Text) → o .count ≡ length ps → 2 ≡ sizeBy k ps
+      go [] n = refl
+      go (s ∷ []) n = refl
+      go (s ∷ u ∷ ps) n = absurd (omega arith)
+
+  module _ (h : 2 ≤ o .count) where
+    size-many : cond (isLongBy k (textAt t (o .first)) (textAt t (o .last))) 4 2 ≡ sizeBy k (operandsIn t)
+    unfolding sizeBy firstText otherTexts lastText
+    size-many = go (operandsIn t) (operands-of t o e .count) (operands-of t o e .first (omega arith) .text) (operands-of t o e .last (omega arith) .text)
+      where
+        go : (ps : List Text) → o .count ≡ length ps → textAt t (o .first) ≡ firstText ps → textAt t (o .last) ≡ lastText (firstText ps) (otherTexts ps)
+            → cond (isLongBy k (textAt t (o .first)) (textAt t (o .last))) 4 2 ≡ sizeBy k ps
+        go [] n p q = absurd (omega arith)
+        go (s ∷ []) n p q = absurd (omega arith)
+        go (s ∷ u ∷ ps) n p q = rw (p, q)
+
+    module _ {y : Bool} (q : y ≡ isLongBy k (textAt t (o .first)) (textAt t (o .last))) where
+      pub size-four : y ≡ true → 4 ≡ sizeBy k (operandsIn t)
+      size-four p = rw (← q, p) at size-many
+
+      pub size-two : y ≡ false → 2 ≡ sizeBy k (operandsIn t)
+      size-two p = rw (← q, p) at size-many
+
+-- ---- the returns of `instruction_size`
+module _ (t : Text) (h : Head) (e : h ≡ headOf t) {k : SizeRule} (q : k ≡ sizedBy (uppers (part (h .start) (h .end) t)) (h .long)) {y : Bool} (u : y ≡ hasOperands k) where
+  rule-is : k ≡ sizedOf t
+  unfolding sizedOf
+  rule-is = q ∙ rw (head-of t h e .mnemonic, head-of t h e .suffix)
+
+  pub answer-fixed : (old : Text) → not y ≡ true → (2 ≡ size (instructionOf t)) × (old ≡ sizeScratch t old)
+  unfolding sizeScratch
+  answer-fixed old p =
+      let z : hasOperands (sizedOf t) ≡ false = rw rule-is at (sym u ∙ not-true y p) in
+      (size-fixed (sizedOf t) _ z ∙ sym (size-is t), rw z)
+
+  pub answer-by : (n : ℕ) (old l : Text) {r : ℕ} → not y ≡ false → n ≡ length (joined (pieces (drop (h .tail) t))) → l ≡ over (joined (pieces (drop (h .tail) t))) old
+      → r ≡ sizeBy k (operandsIn (take n l)) → (r ≡ size (instructionOf t)) × (l ≡ sizeScratch t old)
+  unfolding sizeScratch
+  answer-by n old l p m o a =
+      let z : hasOperands (sizedOf t) ≡ true = rw rule-is at (sym u ∙ not-false y p) in
+      let j : pieces (drop (h .tail) t) ≡ otherTexts (pieces t) = head-of t h e .others in
+      (a ∙ rw (take-over (joined (pieces (drop (h .tail) t))) old l n o m, j, rule-is) (sym (size-is t)), rw z (rw j at o))
+
+-- the scratch keeps its length
+pub length-scratch : (t old : Text) → length t ≤ length old → length (sizeScratch t old) ≡ length old
+unfolding sizeScratch
+length-scratch t old p = go (hasOperands (sizedOf t))
+  where
+    tail : Text
+    tail = joined (otherTexts (pieces t))
+
+    short : length tail ≤ length old
+    short = omega (arith, rw (head-of t (headOf t) refl .others) at (joined-le (drop (headOf t .tail) t)), length-drop (headOf t .tail) t)
+
+    go : (y : Bool) → length (cond y (over tail old) old) ≡ length old
+    go true = length-over tail old (over tail old) refl short
+    go false = refl

@@ -1,0 +1,4 @@
+pub mod FirstPiece
+pub mod Tail
+pub mod Split
+pub mod Size

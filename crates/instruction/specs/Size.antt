@@ -1,0 +1,44 @@
+-- An instruction's size by the operands that decide it. Assumes nothing.
+use Prim.Native.Nat.{ℕ}
+use mathlib.Core.Bool.{Bool, true, false, not, _||_, cond}
+use mathlib.Core.List.{List, [], _∷_}
+use Rattle.rules.specs.Text.{Text, bytes, uppers, pieces, joined, same, starts, firstText, otherTexts, lastText}
+use Rattle.rules.specs.Line.{isL, isPlain}
+use Rattle.rules.specs.Assemble.{over}
+use Rattle.instruction.specs.FirstPiece.{headParts, suffixOf}
+use Rattle.instruction.specs.declared.SizeRule.{SizeRule}
+use Rattle.instruction.specs.declared.SizeRule.the-variants.{Fixed, Immediate, Move}
+
+-- which operands decide, by the mnemonic in upper case and whether the suffix is `L`
+unfoldable pub sizedBy : Text → Bool → SizeRule
+sizedBy m l =
+    cond (same m (bytes "MULS")) Immediate
+    (cond (not l) Fixed
+    (cond (same m (bytes "CMP")) Immediate
+    (cond (same m (bytes "MOVE") || same m (bytes "MOVEA")) Move Fixed)))
+
+-- some operand decides
+unfoldable pub hasOperands : SizeRule → Bool
+hasOperands Fixed = false
+hasOperands Immediate = true
+hasOperands Move = true
+
+-- 4 bytes, by the first and the last operand
+unfoldable pub isLongBy : SizeRule → Text → Text → Bool
+isLongBy Fixed s t = false
+isLongBy Immediate s t = starts (bytes "#") s
+isLongBy Move s t = not (isPlain s) || not (isPlain t)
+
+-- the size, by the operands
+unfoldable pub sizeBy : SizeRule → List Text → ℕ
+sizeBy k [] = 2
+sizeBy k (s ∷ []) = 2
+sizeBy k (s ∷ t ∷ ps) = cond (isLongBy k s (lastText t ps)) 4 2
+
+-- what decides the size of the instruction t
+unfoldable pub sizedOf : Text → SizeRule
+sizedOf t = sizedBy (uppers (firstText (headParts t))) (isL (suffixOf t))
+
+-- the scratch after its size was found: the joined tail, if any operand decides
+unfoldable pub sizeScratch : Text → Text → Text
+sizeScratch t old = cond (hasOperands (sizedOf t)) (over (joined (otherTexts (pieces t))) old) old

@@ -1,0 +1,328 @@
+// What an instruction's text says: its mnemonic and suffix, its operands in a normalised copy of the tail, its size.
+use text::Span;
+ghost use mathlib.Core.Path.{_≡_};
+ghost use Prim.Native.Nat.{_+_, _≤_, _<_};
+ghost use lib.ListN.{length, drop};
+ghost use Rattle.rules.specs.Text.{uppers, cutAt, pieces, joined, firstText};
+ghost use Rattle.rules.specs.Line.{instructionOf, isPlain, size};
+ghost use Rattle.rules.specs.Assemble.{over};
+ghost use Rattle.instruction.specs.FirstPiece.{part, firstIsL, headOf};
+ghost use Rattle.instruction.specs.Tail.{written, space, spaced};
+ghost use Rattle.instruction.specs.Split.{operandsIn, trimmedSpan, operandsAt, withSpan};
+ghost use Rattle.instruction.specs.Size.{sizedBy, hasOperands, isLongBy, sizeBy, sizeScratch};
+
+// ---- The first piece: mnemonic and suffix.
+
+// The mnemonic's place, whether the suffix is exactly `L`, and where the tail starts.
+pub struct Head {
+    pub start: usize,
+    pub end: usize,
+    pub long: bool,
+    pub tail: usize,
+}
+
+// The first piece, cut at dots.
+pub fn read_head(t: &[u8]) -> Head
+    ensures { λ r. ⌜ r ≡ headOf (now (t .entry)) ⌝ }
+{
+    let piece = text::next_piece(t, 0);
+    let start = piece.start;
+    let tail = piece.end;
+    let p = &t[start..tail];
+    let text::Found::At(dot) = text::find_byte(p, b'.') else {
+        return Head {
+            start,
+            end: tail,
+            long: false,
+            tail,
+        };
+    };
+    let behind = dot + 1;
+    let long = is_long(&p[behind..]);
+    Head {
+        start,
+        end: start + dot,
+        long,
+        tail,
+    }
+}
+
+// The text up to the first dot is `L`.
+fn is_long(t: &[u8]) -> bool
+    ensures { λ r. ⌜ r ≡ firstIsL (now (t .entry)) ⌝ }
+{
+    if t.len() == 0 {
+        return false;
+    }
+    if t[0] != b'L' {
+        return false;
+    }
+    if t.len() == 1 {
+        return true;
+    }
+    t[1] == b'.'
+}
+
+// ---- The tail: the other pieces, joined by one space.
+
+// A piece copied behind the first n bytes of `out`.
+fn copy_piece(p: &[u8], out: &mut [u8], n: usize)
+    requires { ⌜ n + length (now p) ≤ length (now out) ⌝ }
+    ensures { λ _. ⌜ now (out .exit) ≡ written n (now (p .entry)) (now (out .entry)) ⌝ }
+{
+    let mut i = 0;
+    while i < p.len() {
+        out[n + i] = p[i];
+        i += 1;
+    }
+}
+
+// A space behind the first n bytes of `out`, unless there are none; the length with it.
+fn put_space(out: &mut [u8], n: usize) -> usize
+    requires { ⌜ n < length (now out) ⌝ }
+    ensures { λ r. ⌜ r ≡ n + length (space n) ⌝ }
+    ensures { λ _. ⌜ now (out .exit) ≡ written n (space n) (now (out .entry)) ⌝ }
+{
+    if n == 0 {
+        return 0;
+    }
+    out[n] = b' ';
+    n + 1
+}
+
+// A piece joined to the first n bytes of `out`; the length with it.
+fn add_piece(p: &[u8], out: &mut [u8], n: usize) -> usize
+    requires { ⌜ (0 < length (now p)) × (n + length (spaced n (now p)) ≤ length (now out)) ⌝ }
+    ensures { λ r. ⌜ r ≡ n + length (spaced n (now (p .entry))) ⌝ }
+    ensures { λ _. ⌜ now (out .exit) ≡ written n (spaced n (now (p .entry))) (now (out .entry)) ⌝ }
+{
+    let m = put_space(out, n);
+    copy_piece(p, out, m);
+    m + p.len()
+}
+
+// The pieces from `at` on, joined by one space, at the front of `out`; their length.
+pub fn join_pieces(t: &[u8], at: usize, out: &mut [u8]) -> usize
+    requires { ⌜ (at ≤ length (now t)) × (length (now t) ≤ length (now out)) ⌝ }
+    ensures { λ r. ⌜ r ≡ length (joined (pieces (drop at (now (t .entry))))) ⌝ }
+    ensures { λ _. ⌜ now (out .exit) ≡ over (joined (pieces (drop at (now (t .entry))))) (now (out .entry)) ⌝ }
+{
+    let mut n = 0;
+    let mut i = at;
+    loop {
+        let p = text::next_piece(t, i);
+        let start = p.start;
+        let end = p.end;
+        if start == t.len() {
+            return n;
+        }
+        n = add_piece(&t[start..end], out, n);
+        i = end;
+    }
+}
+
+// ---- The operands of a joined tail.
+
+// How many, and where the first, the second and the last stand.
+pub struct Operands {
+    pub count: usize,
+    pub first: Span,
+    pub second: Span,
+    pub last: Span,
+}
+
+// One operand more, unless it is empty.
+fn with_operand(o: Operands, span: Span) -> Operands
+    requires { ⌜ (o .count ≤ span .start) × (span .start ≤ span .end) ⌝ }
+    ensures { λ r. ⌜ r ≡ withSpan o span ⌝ }
+{
+    if span.start == span.end {
+        return o;
+    }
+    if o.count == 0 {
+        return Operands {
+            count: 1,
+            first: span,
+            second: span,
+            last: span,
+        };
+    }
+    let first = o.first;
+    if o.count == 1 {
+        return Operands {
+            count: 2,
+            first,
+            second: span,
+            last: span,
+        };
+    }
+    let second = o.second;
+    Operands {
+        count: o.count + 1,
+        first,
+        second,
+        last: span,
+    }
+}
+
+// Where the part from `at` on ends: at the next comma, or with the text.
+fn part_end(t: &[u8], at: usize) -> usize
+    requires { ⌜ at ≤ length (now t) ⌝ }
+    ensures { λ r. ⌜ r ≡ at + length (firstText (cutAt 44 (drop at (now (t .entry))))) ⌝ }
+{
+    let text::Found::At(i) = text::find_byte_from(t, at, b',') else {
+        return t.len();
+    };
+    i
+}
+
+// The part from `at` to before `end`, without its outer blanks.
+fn trimmed_part(t: &[u8], at: usize, end: usize) -> Span
+    requires { ⌜ (at ≤ end) × (end ≤ length (now t)) ⌝ }
+    ensures { λ r. ⌜ r ≡ trimmedSpan at (part at end (now (t .entry))) ⌝ }
+{
+    let p = &t[at..end];
+    let blanks = text::leading_blanks(p);
+    let kept = text::kept_length(&p[blanks..]);
+    let start = at + blanks;
+    Span {
+        start,
+        end: start + kept,
+    }
+}
+
+// The text cut at commas, trimmed, empties removed.
+pub fn split_operands(t: &[u8]) -> Operands
+    ensures { λ r. ⌜ r ≡ operandsAt (now (t .entry)) ⌝ }
+{
+    let none = Span { start: 0, end: 0 };
+    let mut found = Operands {
+        count: 0,
+        first: none,
+        second: none,
+        last: none,
+    };
+    let mut at = 0;
+    loop {
+        let end = part_end(t, at);
+        found = with_operand(found, trimmed_part(t, at, end));
+        if end == t.len() {
+            return found;
+        }
+        at = end + 1;
+    }
+}
+
+// ---- The size.
+
+// Starts with D, A or (.
+fn is_plain(t: &[u8]) -> bool
+    ensures { λ r. ⌜ r ≡ isPlain (now (t .entry)) ⌝ }
+{
+    if t.len() == 0 {
+        return false;
+    }
+    let b = t[0];
+    if b == b'D' {
+        return true;
+    }
+    if b == b'A' {
+        return true;
+    }
+    b == b'('
+}
+
+// Which operands decide the size.
+enum SizeRule {
+    // 2 whatever the operands.
+    Fixed,
+    // 4 where the first starts with #.
+    Immediate,
+    // 4 where the first or the last is no register.
+    Move,
+}
+
+// Which operands decide, by the mnemonic and whether the suffix is `L`.
+fn sized(mnemonic: &[u8], long: bool) -> SizeRule
+    ensures { λ r. ⌜ r ≡ sizedBy (uppers (now (mnemonic .entry))) long ⌝ }
+{
+    if text::same_upper(mnemonic, b"MULS") {
+        return SizeRule::Immediate;
+    }
+    if !long {
+        return SizeRule::Fixed;
+    }
+    if text::same_upper(mnemonic, b"CMP") {
+        return SizeRule::Immediate;
+    }
+    if text::same_upper(mnemonic, b"MOVE") {
+        return SizeRule::Move;
+    }
+    if text::same_upper(mnemonic, b"MOVEA") {
+        return SizeRule::Move;
+    }
+    SizeRule::Fixed
+}
+
+// Some operand decides.
+fn has_operands(rule: SizeRule) -> bool
+    ensures { λ r. ⌜ r ≡ hasOperands rule ⌝ }
+{
+    match rule {
+        SizeRule::Fixed => false,
+        SizeRule::Immediate => true,
+        SizeRule::Move => true,
+    }
+}
+
+// The first and the last operand ask for 4 bytes.
+fn takes_four(rule: SizeRule, first: &[u8], last: &[u8]) -> bool
+    ensures { λ r. ⌜ r ≡ isLongBy rule (now (first .entry)) (now (last .entry)) ⌝ }
+{
+    match rule {
+        SizeRule::Fixed => false,
+        SizeRule::Immediate => text::starts_with(first, b"#"),
+        SizeRule::Move => {
+            if !is_plain(first) {
+                return true;
+            }
+            !is_plain(last)
+        }
+    }
+}
+
+// The size of an instruction whose operands stand in `tail`.
+fn size_of(rule: SizeRule, o: Operands, tail: &[u8]) -> u32
+    requires { ⌜ o ≡ operandsAt (now tail) ⌝ }
+    ensures { λ r. ⌜ r ≡ sizeBy rule (operandsIn (now (tail .entry))) ⌝ }
+{
+    if o.count < 2 {
+        return 2;
+    }
+    let a = o.first.start;
+    let b = o.first.end;
+    let c = o.last.start;
+    let d = o.last.end;
+    if takes_four(rule, &tail[a..b], &tail[c..d]) {
+        return 4;
+    }
+    2
+}
+
+// How many bytes an instruction takes.
+pub fn instruction_size(t: &[u8], scratch: &mut [u8]) -> u32
+    requires { ⌜ length (now t) ≤ length (now scratch) ⌝ }
+    ensures { λ r. ⌜ r ≡ size (instructionOf (now (t .entry))) ⌝ }
+    ensures { λ _. ⌜ now (scratch .exit) ≡ sizeScratch (now (t .entry)) (now (scratch .entry)) ⌝ }
+{
+    let head = read_head(t);
+    let a = head.start;
+    let b = head.end;
+    let rule = sized(&t[a..b], head.long);
+    if !has_operands(rule) {
+        return 2;
+    }
+    let n = join_pieces(t, head.tail, scratch);
+    let tail = &scratch[..n];
+    size_of(rule, split_operands(tail), tail)
+}

@@ -1,0 +1,6 @@
+pub mod Parts
+pub mod Next
+pub mod Labels
+pub mod Directive
+pub mod Data
+pub mod Lines

@@ -1,0 +1,76 @@
+-- `address_after` answers by the kind of line. Assumes nothing.
+use mathlib.Core.Path.{ap, _∙_}
+use Rattle.line.specs.declared.Line.the-variants.{Org}
+use Rattle.scan.proofs.Bodies.{after-skipped, after-end, after-org, after-no-org, after-item-of, item-in}
+use borrow.Author.Needs.{needs}
+use Rattle.scan.proofs.address_after.Statement.{statement}
+use Rattle.scan.proofs.address_after.Tie as tie
+
+enum-told : tie.Need-enum-told
+enum-told c = search needs
+
+enum-told-2 : tie.Need-enum-told-2
+enum-told-2 c = search needs
+
+enum-known-read : tie.Need-enum-known-read
+enum-known-read c = search needs
+
+enum-known-v : tie.Need-enum-known-v
+enum-known-v c = search needs
+
+cast-result : tie.Need-cast-result
+cast-result c = search needs
+
+add-result : tie.Need-add-result
+add-result c = search needs
+
+enum-told-3 : tie.Need-enum-told-3
+enum-told-3 c = search needs
+
+enum-known-read-2 : tie.Need-enum-known-read-2
+enum-known-read-2 c = search needs
+
+body-size-requires : tie.Need-body-size-requires
+body-size-requires c κs = (c .before .before .before .before .pre .0, item-in _ 0 0 _ _ _ (c .before .read2 .given .1) (c .before .before .before .before .pre .1) .1)
+
+cast-result-2 : tie.Need-cast-result-2
+cast-result-2 c = search needs
+
+add-result-2 : tie.Need-add-result-2
+add-result-2 c = search needs
+
+returns : tie.Need-returns
+returns c = after-skipped _ _ _ _ (c .enum-told .given .1)
+
+returns-2 : tie.Need-returns-2
+returns-2 c = after-end _ _ _ _ (c .enum-told2 .given .1)
+
+returns-3 : tie.Need-returns-3
+returns-3 c = after-org _ _ _ _ _ (c .before .before .before .before .read .given .1 ∙ ap Org (c .before .v .given .1))
+
+returns-4 : tie.Need-returns-4
+returns-4 c = after-no-org _ _ _ _ (c .before .before .before .read .given .1 ∙ ap Org (c .enum-told3 .given .1))
+
+returns-5 : tie.Need-returns-5
+returns-5 c = after-item-of _ _ _ _ _ _ (c .before .before .read2 .given .1) _ (c .body-size .ensures)
+
+pub address-after-spec : {M : Type 1} → statement M
+address-after-spec =
+    tie.close
+    (tie.spec
+    enum-told
+    enum-told-2
+    enum-known-read
+    enum-known-v
+    cast-result
+    add-result
+    enum-told-3
+    enum-known-read-2
+    body-size-requires
+    cast-result-2
+    add-result-2
+    returns
+    returns-2
+    returns-3
+    returns-4
+    returns-5)
