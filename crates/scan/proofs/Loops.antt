@@ -46,7 +46,7 @@ pub record Counted (s : Text) (n i : ℕ) : Type 0 where
   pub same : n + length (cutAt 10 (drop i s)) ≡ 1 + length (cutAt 10 s)
 
 -- a byte in front of the first text makes no text more
-length-onFirst : (b : ℕ) (t : Text) → length (onFirst b (cutWhere (eqb 10) t)) ≡ length (cutWhere (eqb 10) t)
+pub length-onFirst : (b : ℕ) (t : Text) → length (onFirst b (cutWhere (eqb 10) t)) ≡ length (cutWhere (eqb 10) t)
 unfolding onFirst
 length-onFirst b t = rw (cut-first (eqb 10) t)
 

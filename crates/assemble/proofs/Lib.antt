@@ -1,0 +1,5 @@
+pub mod Slices
+pub mod Lists
+pub mod Refusals
+pub mod Below
+pub mod TwoPasses

@@ -1,0 +1,7 @@
+pub mod Columns
+pub mod Slices
+pub mod LineCode
+pub mod Reading
+pub mod Ahead
+pub mod Passes
+pub mod Callers

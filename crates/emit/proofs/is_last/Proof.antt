@@ -1,0 +1,34 @@
+-- `is_last` answers by the kind of line. Assumes nothing.
+use borrow.Author.Needs.{needs}
+use Rattle.emit.proofs.LineCode.{last-skipped, last-end, last-org, last-item}
+use Rattle.emit.proofs.is_last.Statement.{statement}
+use Rattle.emit.proofs.is_last.Tie as tie
+
+enum-told : tie.Need-enum-told
+enum-told c = search needs
+
+enum-told-2 : tie.Need-enum-told-2
+enum-told-2 c = search needs
+
+enum-told-3 : tie.Need-enum-told-3
+enum-told-3 c = search needs
+
+enum-told-4 : tie.Need-enum-told-4
+enum-told-4 c = search needs
+
+returns : tie.Need-returns
+returns c = λ line. last-end line _ _ (c .enum-told .given .1)
+
+returns-2 : tie.Need-returns-2
+returns-2 c = λ line. last-skipped line _ _ (c .enum-told2 .given .1)
+
+returns-3 : tie.Need-returns-3
+returns-3 c = λ line. last-org line _ _ _ (c .enum-told3 .given .1)
+
+returns-4 : tie.Need-returns-4
+returns-4 c = λ line. last-item line _ _ _ _ (c .enum-told4 .given .1)
+
+pub is-last-spec : {M : Type 1} → statement M
+is-last-spec =
+    tie.close
+    (tie.spec enum-told enum-told-2 enum-told-3 enum-told-4 returns returns-2 returns-3 returns-4)
