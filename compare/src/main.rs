@@ -1,27 +1,27 @@
-//! compare record FILE [COUNT]   write the recorded answers that the program `replay` runs
+//! Compares the Rattle code with the Rust original. Run it by ./run, which builds the static library first.
+//!
+//!   compare record FILE [COUNT]     write the recorded answers that the program `replay` runs
+//!   compare lists N [SEED]          N random sources at base 0 against the original
+//!   compare moves N [SEED]          N random sources moved between bases, and chains of moves against the tally
 mod generate;
+#[cfg(linked)]
+mod library;
+#[cfg(linked)]
+mod lists;
+#[cfg(linked)]
+mod moves;
 mod oracle;
 mod record;
 
 fn main() {
     let args: Vec<String> = std::env::args().collect();
+    let number = |i: usize, default: u64| args.get(i).map_or(default, |n| n.parse().expect("a number"));
     match args.get(1).map(String::as_str) {
-        Some("record") if args.len() >= 3 => {
-            let count = args.get(3).map_or(2400, |n| n.parse().expect("a count"));
-            let records = record::records(count);
-            let mut out = Vec::new();
-            for r in &records {
-                record::bytes(r, &mut out);
-            }
-            std::fs::write(&args[2], &out).expect("the file is written");
-            let accepted = records.iter().filter(|r| r.number == 0).count();
-            let words: usize = records.iter().map(|r| r.list.len()).sum();
-            let marks = records.iter().flat_map(|r| &r.list).filter(|p| p.2 == 1).count();
-            println!("{} records, {accepted} accepted, {words} words, {marks} marks, {} bytes", records.len(), out.len());
-            for n in 1..=7 {
-                println!("refusal {n}: {}", records.iter().filter(|r| r.number == n).count());
-            }
-        }
-        _ => eprintln!("usage: compare record FILE [COUNT]"),
+        Some("record") if args.len() >= 3 => record::write(&args[2], number(3, 2400) as usize),
+        #[cfg(linked)]
+        Some("lists") => lists::compare(number(2, 100_000) as usize, number(3, 20261115)),
+        #[cfg(linked)]
+        Some("moves") => moves::compare(number(2, 100_000) as usize, number(3, 20261116)),
+        _ => eprintln!("usage: compare record FILE [COUNT] | lists N [SEED] | moves N [SEED]; lists and moves want the static library: see ./run"),
     }
 }

@@ -21,7 +21,7 @@ pub struct Record {
 }
 
 /// The answer of 01 for a source within the limits of bytes, lines and labels, by the original alone.
-fn answered(source: &str, base: u32) -> Result<Vec<(u32, u16, u8)>, (u8, u32)> {
+pub fn answered(source: &str, base: u32) -> Result<Vec<(u32, u16, u8)>, (u8, u32)> {
     let lines: Vec<&str> = source.split('\n').collect();
     for k in 1..=lines.len() {
         let t = lines[k - 1].trim().to_uppercase();
@@ -187,5 +187,22 @@ pub fn bytes(record: &Record, out: &mut Vec<u8>) {
         out.extend(address.to_le_bytes());
         out.extend(word.to_le_bytes());
         out.push(*mark);
+    }
+}
+
+/// Writes the records to a file, and says what they hold.
+pub fn write(file: &str, count: usize) {
+    let records = records(count);
+    let mut out = Vec::new();
+    for r in &records {
+        bytes(r, &mut out);
+    }
+    std::fs::write(file, &out).expect("the file is written");
+    let accepted = records.iter().filter(|r| r.number == 0).count();
+    let words: usize = records.iter().map(|r| r.list.len()).sum();
+    let marks = records.iter().flat_map(|r| &r.list).filter(|p| p.2 == 1).count();
+    println!("{} records, {accepted} accepted, {words} words, {marks} marks, {} bytes", records.len(), out.len());
+    for n in 1..=7 {
+        println!("refusal {n}: {}", records.iter().filter(|r| r.number == n).count());
     }
 }

@@ -124,13 +124,13 @@ read-is-written t room n e =
     let z : n - 0 ≡ n = omega arith in
     (rw z at (r .text), rw z at (r .fit), omega (arith, r .within))
 
--- ---- a text that is read is 16 bytes a place
-length-list : (l : List Place) → length (listText l) ≡ 16 * length l
+-- ---- a text of a list is 16 bytes a place
+pub length-list : (l : List Place) → length (listText l) ≡ 16 * length l
 unfolding listText flatMap
 length-list [] = refl
 length-list (p ∷ l) = rw (length-append (placeText p) (listText l), length-place p, length-list l) (omega arith)
 
-length-places : (n : ℕ) (t : Text) → length (placesIn n t) ≡ n
+pub length-places : (n : ℕ) (t : Text) → length (placesIn n t) ≡ n
 unfolding placesIn
 length-places zero t = refl
 length-places (suc n) t = ap suc (length-places n (drop 16 t))

@@ -32,7 +32,7 @@ fn write_digits(out: &mut [u8], at: usize, base: u64, count: usize, n: u64)
 }
 
 // Puts a text at an index.
-fn write_bytes(out: &mut [u8], at: usize, text: &[u8])
+pub fn write_bytes(out: &mut [u8], at: usize, text: &[u8])
     requires { ⌜ at + length (now text) ≤ length (now out) ⌝ }
     ensures { λ _. ⌜ now (out .exit) ≡ putAt at (now (text .entry)) (now (out .entry)) ⌝ }
 {
@@ -96,7 +96,7 @@ fn decimal_places(n: u64) -> usize
 }
 
 // Puts a number in decimal at an index, and answers the index behind it.
-fn write_decimal(out: &mut [u8], at: usize, n: u64) -> usize
+pub fn write_decimal(out: &mut [u8], at: usize, n: u64) -> usize
     requires { ⌜ at + 20 ≤ length (now out) ⌝ }
     ensures { λ r. ⌜ (r ≡ at + length (decimal n)) × (r ≤ at + 20) × (now (out .exit) ≡ putAt at (decimal n) (now (out .entry))) ⌝ }
 {
@@ -106,7 +106,8 @@ fn write_decimal(out: &mut [u8], at: usize, n: u64) -> usize
 }
 
 // Puts the line of a refusal at the front, and answers its length.
-pub fn write_refused(number: u8, place: usize, out: &mut [u8; 64]) -> usize
+pub fn write_refused(number: u8, place: usize, out: &mut [u8]) -> usize
+    requires { ⌜ 64 ≤ length (now out) ⌝ }
     ensures { λ r. ⌜ (r ≡ length (refusedText number place)) × (r ≤ 64) × (now (out .exit) ≡ over (refusedText number place) (now (out .entry))) ⌝ }
 {
     write_bytes(out, 0, b"refused ");

@@ -1,0 +1,4 @@
+pub mod Printed
+pub mod Moving
+pub mod WrongLine
+pub mod Examples

@@ -1,0 +1,3 @@
+pub mod Station
+pub mod Printed
+pub mod Examples
