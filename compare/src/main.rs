@@ -2,6 +2,7 @@
 //!
 //!   compare record FILE [COUNT]     write the recorded answers that the program `replay` runs
 //!   compare lists N [SEED]          N random sources at base 0 against the original
+//!   compare speed                   the time of both on the inputs of docs/SPEED.md
 //!   compare moves N [SEED]          N random sources moved between bases, and chains of moves against the tally
 mod generate;
 #[cfg(linked)]
@@ -12,6 +13,8 @@ mod lists;
 mod moves;
 mod oracle;
 mod record;
+#[cfg(linked)]
+mod speed;
 
 fn main() {
     let args: Vec<String> = std::env::args().collect();
@@ -21,7 +24,9 @@ fn main() {
         #[cfg(linked)]
         Some("lists") => lists::compare(number(2, 100_000) as usize, number(3, 20261115)),
         #[cfg(linked)]
+        Some("speed") => speed::table(),
+        #[cfg(linked)]
         Some("moves") => moves::compare(number(2, 100_000) as usize, number(3, 20261116)),
-        _ => eprintln!("usage: compare record FILE [COUNT] | lists N [SEED] | moves N [SEED]; lists and moves want the static library: see ./run"),
+        _ => eprintln!("usage: compare record FILE [COUNT] | lists N [SEED] | moves N [SEED] | speed; all but record want the static library: see ./run"),
     }
 }

@@ -1,0 +1,134 @@
+//! Speed: the same inputs through the Rust original and through the static library, in one run. Each figure is the
+//! median of many repetitions; the ratio is the original's time over ours.
+use crate::library::{assemble, relocate, Slices};
+use crate::{oracle, record};
+use std::hint::black_box;
+use std::time::Instant;
+
+/// The median time of a call, in nanoseconds, over batches that take about a millisecond each.
+fn median(mut f: impl FnMut()) -> f64 {
+    let start = Instant::now();
+    f();
+    let once = start.elapsed().as_nanos().max(1) as f64;
+    let batch = ((1_000_000.0 / once) as usize).clamp(1, 10_000);
+    let mut times: Vec<f64> = (0..61)
+        .map(|_| {
+            let start = Instant::now();
+            for _ in 0..batch {
+                f();
+            }
+            start.elapsed().as_nanos() as f64 / batch as f64
+        })
+        .collect();
+    times.sort_by(|a, b| a.total_cmp(b));
+    times[times.len() / 2]
+}
+
+/// Lines repeated while they fit into a source.
+fn filled(head: &str, lines: &[String], most_lines: usize) -> String {
+    let mut out = head.to_string();
+    let mut n = out.split('\n').count();
+    for line in lines.iter().cycle() {
+        if out.len() + line.len() + 1 > 32_768 || n >= most_lines {
+            return out;
+        }
+        out.push_str(line);
+        out.push('\n');
+        n += 1;
+    }
+    out
+}
+
+fn inputs() -> Vec<(&'static str, String)> {
+    let hinge = include_str!("../../examples/hinge.s").to_string();
+    let forms: Vec<String> = [
+        "LIM: DC.L 4160", "GO: MOVEQ #3,D1", "        MOVE.L LIM,D2", "        MOVE.L D2,LIM", "        MOVE.L (A1),D2",
+        "        MOVE.L D2,(A1)", "        MOVE.W D1,D2", "        MOVE.L #900,D3", "        MOVEA.L #LIM,A1", "        MULS #5,D0",
+        "        MULS D1,D2", "        ADD.W D1,D2", "        SUB.W D1,D2", "        CMP.L #4160,D2", "        CMP.W D1,D2",
+        "        SUBQ.L #1,D1", "        ASL.L #2,D1", "        TST.L D2", "        NOP", "        JMP LIM", "        DBRA D1,GO",
+        "        BNE GO", "        BRA +4", "; a note", "        DS.W 1",
+    ]
+    .map(String::from)
+    .to_vec();
+    let many: Vec<String> = (0..1024).map(|i| format!("L{i}: NOP")).collect();
+    let looked: Vec<String> = (0..1024).map(|i| format!("MOVE.L L{i},D1")).collect();
+    let name = |i: usize| format!("{}{:03}", "A_VERY_LONG_NAME_OF_A_LABEL_", i);
+    let long: Vec<String> = (0..300).map(|i| format!("{}: NOP", name(i))).collect();
+    let sought: Vec<String> = (0..300).map(|i| format!("MOVE.L {},D1", name(i))).collect();
+    let mut high = filled("", &forms, 4096).into_bytes();
+    let last = high.len() - 1;
+    high[last] = 0x7F;
+    vec![
+        ("bezel script", record::BEZEL.to_string()),
+        ("hinge script", hinge),
+        ("32 KB, every form", filled("", &forms, 4096)),
+        ("1,024 labels, each looked up", filled(&(many.join("\n") + "\n"), &looked, 4096)),
+        ("long names, last byte differs", filled(&(long.join("\n") + "\n"), &sought, 4096)),
+        ("4,096 short lines", "NOP\n".repeat(4095)),
+        ("one line of 32 KB", format!("MOVE.L {},D1", "A ".repeat(16_000))),
+        ("refused 5 at the last line", filled("", &forms, 4000)[..32_000].rsplit_once('\n').unwrap().0.to_string() + "\nORG $40000000"),
+        ("refused 1", "NOP\n".repeat(9000)),
+    ]
+}
+
+fn row(name: &str, rust: f64, ours: f64) {
+    println!("| {name} | {:.1} µs | {:.1} µs | {:.1} |", rust / 1000.0, ours / 1000.0, rust / ours);
+}
+
+/// A plain loop in Rust over the same slices: the checks, then the move.
+fn plain_move(x: &mut Slices, count: usize, distance: i32) -> bool {
+    let d = distance as i64;
+    if d.abs() >= 1 << 30 || x.addresses.len() < count || x.words.len() < count || x.marks.len() < count {
+        return false;
+    }
+    if x.marks[..count].iter().any(|m| *m > 1) {
+        return false;
+    }
+    if x.addresses[..count].iter().any(|a| !(0..=(1 << 30) + 1).contains(&(*a as i64 + d))) {
+        return false;
+    }
+    for i in 0..count {
+        x.addresses[i] = (x.addresses[i] as i64 + d) as u32;
+        if x.marks[i] == 1 {
+            x.words[i] = x.words[i].wrapping_add(d as u16);
+        }
+    }
+    true
+}
+
+pub fn table() {
+    println!("| input | Rust original | Lagvettu | times as fast |");
+    println!("|---|---|---|---|");
+    let mut x = Slices::old([8192; 3]);
+    for (name, s) in inputs() {
+        let rust = median(|| {
+            black_box(oracle::rust(black_box(&s)));
+        });
+        let ours = median(|| {
+            black_box(assemble(black_box(s.as_bytes()), 0, &mut x));
+        });
+        row(name, rust, ours);
+    }
+    println!();
+    println!("| mover, places | plain Rust loop | Lagvettu | times as fast |");
+    println!("|---|---|---|---|");
+    for count in [9usize, 256, 8192] {
+        let list = |n: usize| Slices {
+            addresses: (0..n as u32).map(|i| 4096 + 2 * i).collect(),
+            words: (0..n as u32).map(|i| i as u16).collect(),
+            marks: (0..n).map(|i| (i % 5 == 0) as u8).collect(),
+        };
+        let (mut a, mut b) = (list(count), list(count));
+        let mut d = 2;
+        let rust = median(|| {
+            d = -d;
+            black_box(plain_move(black_box(&mut a), count, d));
+        });
+        let mut d = 2;
+        let ours = median(|| {
+            d = -d;
+            black_box(relocate(black_box(&mut b), count, d));
+        });
+        println!("| {count} | {rust:.0} ns | {ours:.0} ns | {:.2} |", rust / ours);
+    }
+}
