@@ -64,6 +64,24 @@ fn damaged(r: &mut Random, x: &Slices, count: usize) -> bool {
     relocate(&mut y, count, d) == answer && y == before
 }
 
+/// Slices of lengths around the count, each one short to two long: refusal 9 if any is short, else a move as ever.
+fn around(r: &mut Random, x: &Slices, count: usize) -> bool {
+    let mut length = || (count + r.below(4)).saturating_sub(1);
+    let (a, w, m) = (length(), length(), length());
+    let mut y = Slices { addresses: x.addresses[..a].to_vec(), words: x.words[..w].to_vec(), marks: x.marks[..m].to_vec() };
+    let before = y.clone();
+    let d = r.below(20_000) as i32 - 10_000;
+    let got = relocate(&mut y, count, d);
+    if a.min(w).min(m) < count {
+        return got == (9, count) && y == before;
+    }
+    let list = before.list(count);
+    let wanted = tally(&list, 0, d);
+    let moved = at_total(&list, if wanted.0 == 0 { d as i64 } else { 0 });
+    let past = y.addresses[count..] == before.addresses[count..] && y.words[count..] == before.words[count..];
+    got == wanted && y.list(count) == moved && past && y.marks == before.marks
+}
+
 pub fn compare(sources: usize, seed: u64) {
     let mut r = Random(seed);
     let (mut pairs, mut moves, mut refused, mut damages, mut differ) = (0usize, 0usize, 0usize, 0usize, 0usize);
@@ -103,12 +121,12 @@ pub fn compare(sources: usize, seed: u64) {
             }
             same &= y.list(count) == at_total(&first, total);
         }
-        damages += 1;
-        same &= damaged(&mut r, &xb, count);
+        damages += 2;
+        same &= damaged(&mut r, &xb, count) && around(&mut r, &xb, count);
         if !same {
             differ += 1;
             eprintln!("differs: {s:?} at {b} and {c}");
         }
     }
-    println!("{sources} sources, {pairs} moved between bases, {moves} moves, {refused} of them refused, {damages} damaged calls, {differ} differ");
+    println!("{sources} sources, {pairs} moved between bases, {moves} moves, {refused} of them refused, {damages} calls with damaged marks, counts or lengths around the count, {differ} differ");
 }
