@@ -1,0 +1,24 @@
+-- A call from C passes on what the assembler or the mover answered, as two numbers. Assumes nothing.
+use Prim.Native.Nat.{ℕ}
+use mathlib.Core.Path.{_≡_, ap, _∙_}
+use mathlib.Core.List.{List}
+use lib.IntN.{ℤ}
+use Rattle.rules.specs.Text.{Text}
+use Rattle.rules.specs.Answer.{Answer as Ruled}
+use Rattle.rules.specs.Assemble.{Slices}
+use Rattle.answer.specs.declared.Answer.{Answer}
+use Rattle.answer.specs.Answer.{answerOf}
+use Rattle.assemble.specs.Assembled.{Assembled}
+use Rattle.relocate.specs.Moved.{Moved}
+use Rattle.relocate.specs.Moves.{numberOf, placeOf}
+use Rattle.capi.specs.Called.{Answers, Assembles, Moves}
+
+module _ {r : Answer} {n p : ℕ} (hn : n ≡ numberOf r) (hp : p ≡ placeOf r) where
+  passed-on : {a : Ruled ℕ} → r ≡ answerOf a → Answers a n p
+  passed-on e = record { number = hn ∙ ap numberOf e; place = hp ∙ ap placeOf e }
+
+  pub assembles : {base : ℕ} {source : Text} {x y : Slices} → Assembled base source x r y → Assembles base source x n p y
+  assembles h = record { answer = passed-on (h .answer); slices = h .slices }
+
+  pub moves : {x : Slices} {count : ℕ} {distance : ℤ} {xs ws : List ℕ} → Moved x count distance r xs ws → Moves x count distance n p xs ws
+  moves h = record { answer = passed-on (h .answer); addresses = h .addresses; words = h .words }

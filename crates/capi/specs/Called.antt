@@ -1,0 +1,27 @@
+-- What a call from C owes: its answer as two numbers, and the three lent slices afterwards. Assumes nothing.
+use Prim.Native.Nat.{ℕ}
+use mathlib.Core.Path.{_≡_}
+use mathlib.Core.List.{List}
+use lib.IntN.{ℤ}
+use Rattle.rules.specs.Text.{Text}
+use Rattle.rules.specs.Answer.{Answer as Ruled}
+use Rattle.rules.specs.Assemble.{Slices, assembleAnswer, assembleSlices}
+use Rattle.rules.specs.Relocate.{moveAnswer, moveSlices}
+use Rattle.answer.specs.Answer.{answerOf}
+use Rattle.relocate.specs.Moves.{numberOf, placeOf}
+
+-- 01's answer a as C gets it: n is what the call returns, p what it leaves in the number that the caller lends
+pub record Answers (a : Ruled ℕ) (n p : ℕ) : Type 0 where
+  pub number : n ≡ numberOf (answerOf a)
+  pub place : p ≡ placeOf (answerOf a)
+
+-- the contract of `lagvettu_assemble`, lent the slices x, which it leaves as y
+pub record Assembles (base : ℕ) (source : Text) (x : Slices) (n p : ℕ) (y : Slices) : Type 0 where
+  pub answer : Answers (assembleAnswer base source x) n p
+  pub slices : y ≡ assembleSlices base source x
+
+-- the contract of `lagvettu_move`, lent the slices x; that marks stay is their type
+pub record Moves (x : Slices) (count : ℕ) (distance : ℤ) (n p : ℕ) (xs ws : List ℕ) : Type 0 where
+  pub answer : Answers (moveAnswer x count distance) n p
+  pub addresses : xs ≡ (moveSlices x count distance) .addresses
+  pub words : ws ≡ (moveSlices x count distance) .words

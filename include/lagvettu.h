@@ -1,0 +1,72 @@
+/*
+ * Lagvettu: a two-pass 68000 script assembler, and a mover that relocates its lists.
+ *
+ * Each function is proved to answer, and to leave each place of each slice, as paper 01 says, whatever the bytes and
+ * numbers that it is given. A slice is passed as a pointer and then its length, counted in elements. As for any C
+ * function, the pointers are the caller's part: each is aligned, not null (at length 0 too) and good for its length,
+ * what a call writes overlaps nothing else that it is lent, and nothing else writes there meanwhile.
+ *
+ * A list stands in the first count places of three slices: addresses, words and marks. A mark is 1 on a word that is a
+ * label's address, taken modulo 65,536, and 0 on every other word. Places past the count never change.
+ *
+ * An answer is a number: 0 for accepted, with the count in *place, or else a refusal's number, with its place in
+ * *place. A refused call changes no slice. *place is written by each call.
+ *
+ * Refusals from the input:
+ *    1  source over 32,768 bytes; place its length
+ *    2  a byte over 127 anywhere; place the first one's index, from 0
+ *    3  over 4,096 lines; place the line count
+ *    4  base 2^30 or more; place 0
+ *    5  address 2^30 or more after a line; place the line, from 1
+ *    6  a new label when 1,024 are recorded; place the line
+ * Refusals from the state lent:
+ *    7  any slice shorter than the count needed; place that count
+ *    8  distance outside +-(2^30 - 1); place 0
+ *    9  count over any slice's length; place the count
+ *   10  a mark not 0 or 1 in the first count places; place its index, from 0
+ *   11  a moved address, in those places, below 0 or above 2^30 + 1; place its index
+ */
+#ifndef LAGVETTU_H
+#define LAGVETTU_H
+
+#include <stddef.h>
+#include <stdint.h>
+
+#ifdef __cplusplus
+extern "C" {
+#endif
+
+/* The longest source that is not refused, in bytes. */
+#define LAGVETTU_MAX_SOURCE 32768
+
+/* The most places that a list has: three slices of this length are never refused as too short. */
+#define LAGVETTU_MAX_PLACES 8192
+
+/*
+ * Assembles a source at a base, and puts the list into the first places of the three slices. A source is lines cut at
+ * byte 10. Checks 1, 2, 3, 4, then line by line 6 before 5, then 7.
+ */
+uint8_t lagvettu_assemble(const uint8_t *source, size_t source_length,
+                          uint32_t base,
+                          uint32_t *addresses, size_t addresses_length,
+                          uint16_t *words, size_t words_length,
+                          uint8_t *marks, size_t marks_length,
+                          size_t *place);
+
+/*
+ * Moves the list in the first count places: adds the distance to each address, and a marked word becomes
+ * (word + distance) modulo 65,536. Other words and all marks stay. Checks 8, 9, then 10 over all count places, then 11
+ * over all of them, each with its lowest index.
+ */
+uint8_t lagvettu_move(uint32_t *addresses, size_t addresses_length,
+                      uint16_t *words, size_t words_length,
+                      const uint8_t *marks, size_t marks_length,
+                      size_t count,
+                      int32_t distance,
+                      size_t *place);
+
+#ifdef __cplusplus
+}
+#endif
+
+#endif
