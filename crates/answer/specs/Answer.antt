@@ -7,3 +7,13 @@ use Rattle.answer.specs.declared.Answer.the-variants.{Accepted, Refused}
 abbrev pub answerOf : Ruled ℕ → Answer
 answerOf (accepted n) = Accepted n
 answerOf (refused r p) = Refused r p
+
+-- its number, 0 for accepted
+abbrev pub numberOf : Answer → ℕ
+numberOf (Accepted n) = 0
+numberOf (Refused r p) = r
+
+-- its place, the count for accepted
+abbrev pub placeOf : Answer → ℕ
+placeOf (Accepted n) = n
+placeOf (Refused r p) = p

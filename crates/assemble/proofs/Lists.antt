@@ -19,7 +19,8 @@ use Rattle.scan.proofs.Loops.{length-onFirst}
 use Rattle.emit.specs.Emit.{listOf, Room, Written}
 use Rattle.emit.specs.declared.Part.{Part}
 use Rattle.emit.proofs.Callers.{list-few}
-use Rattle.assemble.specs.Assembled.{slices, called, Gives}
+use Rattle.assemble.specs.Assembled.{called, Gives}
+use Rattle.rules.specs.Assemble.{slices}
 
 -- a refusal changes nothing
 pub gives-refusal : (list : Ruled (List Place)) (x : Slices) (n p : ℕ) → list ≡ refused n p → Gives list x (Refused n p) x

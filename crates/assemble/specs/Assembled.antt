@@ -12,9 +12,6 @@ use Rattle.answer.specs.declared.Answer.{Answer}
 use Rattle.emit.specs.Emit.{listOf}
 use Rattle.emit.specs.declared.Part.the-variants.{Values, Instructions}
 
-abbrev pub slices : List ℕ → List ℕ → List ℕ → Slices
-slices xs ws ms = record { addresses = xs; words = ws; marks = ms }
-
 -- a call's answer, once the list or a refusal is known: "then 7"
 abbrev pub called : Ruled (List Place) → Slices → Ruled ℕ
 called list x = andThen list (λ l. refuseIf (short x (length l)) 7 (length l) (accepted (length l)))

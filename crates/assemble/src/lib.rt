@@ -7,24 +7,11 @@ ghost use Prim.Native.Nat.{_≤_, _<_};
 ghost use lib.ListN.{length};
 ghost use Rattle.rules.specs.Limits.{maxSource, addressLimit};
 ghost use Rattle.rules.specs.Answer.{accepted};
-ghost use Rattle.rules.specs.Assemble.{short};
 ghost use Rattle.label.specs.Table.{tableOf};
 ghost use Rattle.emit.specs.Emit.{Walking, Room, Written, listOf};
 ghost use Rattle.emit.specs.declared.Part.the-variants.{Values};
-ghost use Rattle.assemble.specs.Assembled.{slices, Gives, listBy, passesOf, Assembled};
-
-// Whether a slice is shorter than `count`.
-fn is_short(addresses: &[u32], words: &[u16], marks: &[u8], count: usize) -> bool
-    ensures { λ r. ⌜ r ≡ short (slices (now (addresses .entry)) (now (words .entry)) (now (marks .entry))) count ⌝ }
-{
-    if addresses.len() < count {
-        return true;
-    }
-    if words.len() < count {
-        return true;
-    }
-    marks.len() < count
-}
+ghost use Rattle.assemble.specs.Assembled.{Gives, listBy, passesOf, Assembled};
+ghost use Rattle.rules.specs.Assemble.{slices};
 
 // The list, in slices that have room for it: instruction words go in behind the data words.
 fn write_list(
@@ -77,7 +64,7 @@ fn second_pass(
     ensures { λ r. ⌜ Gives (accepted (listBy (tableOf (now (source .entry)) (now (table .entry)) labels) base (now (source .entry)))) (slices (now (addresses .entry)) (now (words .entry)) (now (marks .entry))) r (slices (now (addresses .exit)) (now (words .exit)) (now (marks .exit))) ⌝ }
 {
     let count = values + emit::count_words(Part::Instructions, source, base, table, labels);
-    if is_short(addresses, words, marks, count) {
+    if answer::is_short(addresses, words, marks, count) {
         return Answer::Refused(7, count);
     }
     write_list(source, base, table, labels, values, addresses, words, marks);

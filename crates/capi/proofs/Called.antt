@@ -10,7 +10,7 @@ use Rattle.answer.specs.declared.Answer.{Answer}
 use Rattle.answer.specs.Answer.{answerOf}
 use Rattle.assemble.specs.Assembled.{Assembled}
 use Rattle.relocate.specs.Moved.{Moved}
-use Rattle.relocate.specs.Moves.{numberOf, placeOf}
+use Rattle.answer.specs.Answer.{numberOf, placeOf}
 use Rattle.capi.specs.Called.{Answers, Assembles, Moves}
 
 module _ {r : Answer} {n p : ℕ} (hn : n ≡ numberOf r) (hp : p ≡ placeOf r) where

@@ -8,7 +8,7 @@ use Rattle.rules.specs.Answer.{Answer as Ruled}
 use Rattle.rules.specs.Assemble.{Slices, assembleAnswer, assembleSlices}
 use Rattle.rules.specs.Relocate.{moveAnswer, moveSlices}
 use Rattle.answer.specs.Answer.{answerOf}
-use Rattle.relocate.specs.Moves.{numberOf, placeOf}
+use Rattle.answer.specs.Answer.{numberOf, placeOf}
 
 -- 01's answer a as C gets it: n is what the call returns, p what it leaves in the number that the caller lends
 pub record Answers (a : Ruled ℕ) (n p : ℕ) : Type 0 where

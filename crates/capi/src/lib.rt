@@ -1,30 +1,8 @@
 // The C interface: assembling at a base, and moving. An answer is 01's number, 0 for accepted, and its place or the
 // count in a number that the caller lends. include/lagvettu.h declares the same functions.
-use answer::Answer;
 ghost use mathlib.Core.Path.{_≡_};
-ghost use Rattle.relocate.specs.Moved.{slices};
-ghost use Rattle.relocate.specs.Moves.{numberOf, placeOf};
+ghost use Rattle.rules.specs.Assemble.{slices};
 ghost use Rattle.capi.specs.Called.{Assembles, Moves};
-
-// The refusal's number, 0 for accepted.
-fn number(answer: Answer) -> u8
-    ensures { λ r. ⌜ r ≡ numberOf answer ⌝ }
-{
-    match answer {
-        Answer::Accepted(_) => 0,
-        Answer::Refused(n, _) => n,
-    }
-}
-
-// The refusal's place, the count for accepted.
-fn place_or_count(answer: Answer) -> usize
-    ensures { λ r. ⌜ r ≡ placeOf answer ⌝ }
-{
-    match answer {
-        Answer::Accepted(n) => n,
-        Answer::Refused(_, p) => p,
-    }
-}
 
 // Assembles a source at a base: the list in the first places of the three slices, or a refusal and nothing written.
 #[no_mangle]
@@ -39,8 +17,8 @@ pub extern "C" fn lagvettu_assemble(
     ensures { λ r. ⌜ Assembles base (now (source .entry)) (slices (now (addresses .entry)) (now (words .entry)) (now (marks .entry))) r (now (place .exit)) (slices (now (addresses .exit)) (now (words .exit)) (now (marks .exit))) ⌝ }
 {
     let answer = assemble::assemble(source, base, addresses, words, marks);
-    *place = place_or_count(answer);
-    number(answer)
+    *place = answer::place(answer);
+    answer::number(answer)
 }
 
 // Moves the list in the first `count` places of the three slices, or refuses and changes nothing.
@@ -56,6 +34,6 @@ pub extern "C" fn lagvettu_move(
     ensures { λ r. ⌜ Moves (slices (now (addresses .entry)) (now (words .entry)) (now (marks .entry))) count distance r (now (place .exit)) (now (addresses .exit)) (now (words .exit)) ⌝ }
 {
     let answer = relocate::relocate(addresses, words, marks, count, distance);
-    *place = place_or_count(answer);
-    number(answer)
+    *place = answer::place(answer);
+    answer::number(answer)
 }

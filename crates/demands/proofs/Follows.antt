@@ -5,7 +5,7 @@ use mathlib.Core.List.{List}
 use lib.ListN.{length}
 use lib.IntN.{ℤ}
 use Rattle.rules.specs.Assemble.{Slices}
-use Rattle.relocate.specs.Moved.{slices}
+use Rattle.rules.specs.Assemble.{slices}
 use Rattle.relocate.specs.Moves.{MovedAll}
 use Rattle.relocate.proofs.Tallied.{tallied}
 use Rattle.promises.specs.Demand3.{MovesFollowTally}

@@ -2,7 +2,7 @@
 ghost use mathlib.Core.Path.{_≡_};
 ghost use Prim.Native.Nat.{_≤_};
 ghost use lib.ListN.{length};
-ghost use Rattle.relocate.specs.Moved.{slices};
+ghost use Rattle.rules.specs.Assemble.{slices};
 ghost use Rattle.demands.specs.Follows.{FollowsTally};
 
 // Makes the moves of `distances`; each answer goes into `numbers` and `places`, at its distance's index.

@@ -53,10 +53,6 @@ unfoldable pub placesRead : Parsed → Text → List Place
 placesRead (Count n) t = placesIn n t
 placesRead (Bad n) t = []
 
--- three slices by their parts
-abbrev pub slices : List ℕ → List ℕ → List ℕ → Slices
-slices xs ws ms = record { addresses = xs; words = ws; marks = ms }
-
 -- how many places three slices have room for
 abbrev pub roomIn : Slices → ℕ
 roomIn x = min (length (x .addresses)) (min (length (x .words)) (length (x .marks)))

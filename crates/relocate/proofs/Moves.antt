@@ -14,8 +14,10 @@ use Rattle.rules.specs.Relocate.{moveAnswer, moveBy, moveSlices}
 use Rattle.rules.specs.Tally.{moves}
 use Rattle.answer.specs.declared.Answer.{Answer}
 use Rattle.answer.specs.Answer.{answerOf}
-use Rattle.relocate.specs.Moved.{slices, Moved}
-use Rattle.relocate.specs.Moves.{numberOf, placeOf, told, slicesAfter, MovedAll}
+use Rattle.relocate.specs.Moved.{Moved}
+use Rattle.rules.specs.Assemble.{slices}
+use Rattle.relocate.specs.Moves.{told, slicesAfter, MovedAll}
+use Rattle.answer.specs.Answer.{numberOf, placeOf}
 
 -- marks stay, so a call leaves the three slices that the definition says
 keeps-marks : (a : Ruled ℕ) (d : ℤ) (x : Slices) → x .marks ≡ (moveBy a d x) .marks

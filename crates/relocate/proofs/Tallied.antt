@@ -7,7 +7,7 @@ use lib.IntN.{ℤ, pos}
 use Rattle.rules.specs.Assemble.{Place, Slices}
 use Rattle.rules.specs.Relocate.{moveSlices}
 use Rattle.rules.specs.Tally.{held, moves, tally, tallyList, newTotal, lastTotal}
-use Rattle.relocate.specs.Moved.{slices}
+use Rattle.rules.specs.Assemble.{slices}
 use Rattle.relocate.specs.Moves.{slicesAfter, MovedAll}
 use Rattle.relocate.specs.Tallied.{lastList, Tallied}
 use Rattle.relocate.proofs.Moves.{by-slice, move-keeps-marks}

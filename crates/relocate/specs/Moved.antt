@@ -8,9 +8,6 @@ use Rattle.rules.specs.Relocate.{moveAnswer, moveSlices}
 use Rattle.answer.specs.declared.Answer.{Answer}
 use Rattle.answer.specs.Answer.{answerOf}
 
-abbrev pub slices : List ℕ → List ℕ → List ℕ → Slices
-slices xs ws ms = record { addresses = xs; words = ws; marks = ms }
-
 -- the answer r, and the addresses and words after a call that is lent the slices x; that marks stay is their type
 pub record Moved (x : Slices) (count : ℕ) (distance : ℤ) (r : Answer) (xs ws : List ℕ) : Type 0 where
   pub answer : r ≡ answerOf (moveAnswer x count distance)

@@ -7,19 +7,9 @@ use Rattle.rules.specs.Assemble.{Slices, over}
 use Rattle.rules.specs.Relocate.{moveSlices}
 use Rattle.rules.specs.Tally.{Seen, moves}
 use Rattle.answer.specs.declared.Answer.{Answer}
-use Rattle.answer.specs.declared.Answer.the-variants.{Accepted, Refused}
-use Rattle.answer.specs.Answer.{answerOf}
+use Rattle.answer.specs.Answer.{answerOf, numberOf, placeOf}
 
--- an answer as two numbers: 0 and the count, or the refusal's number and its place
-abbrev pub numberOf : Answer → ℕ
-numberOf (Accepted n) = 0
-numberOf (Refused r p) = r
-
-abbrev pub placeOf : Answer → ℕ
-placeOf (Accepted n) = n
-placeOf (Refused r p) = p
-
--- one of the two, for each move
+-- the number or the place of each move's answer
 unfoldable pub told : (Answer → ℕ) → List Seen → List ℕ
 told f seen = map (λ s. f (answerOf (s .answer))) seen
 

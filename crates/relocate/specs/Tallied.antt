@@ -6,7 +6,8 @@ use lib.ListN.{length}
 use lib.IntN.{ℤ, pos}
 use Rattle.rules.specs.Assemble.{Place, Slices, over}
 use Rattle.rules.specs.Tally.{Seen, held, tally}
-use Rattle.relocate.specs.Moves.{numberOf, placeOf, told}
+use Rattle.relocate.specs.Moves.{told}
+use Rattle.answer.specs.Answer.{numberOf, placeOf}
 
 -- the list after the last: "at first the first list"
 unfoldable pub lastList : List Place → List Seen → List Place

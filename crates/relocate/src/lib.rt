@@ -10,8 +10,10 @@ ghost use Rattle.rules.specs.Assemble.{short};
 ghost use Rattle.rules.specs.Relocate.{far, movedAddress, movedWord, firstIndex, moveAddresses, moveWords, moveAnswer};
 ghost use Rattle.answer.specs.Answer.{answerOf};
 ghost use Rattle.relocate.specs.Found.{foundOf, badMark, leaving};
-ghost use Rattle.relocate.specs.Moved.{slices, Moved};
-ghost use Rattle.relocate.specs.Moves.{numberOf, placeOf, MovedAll};
+ghost use Rattle.relocate.specs.Moved.{Moved};
+ghost use Rattle.rules.specs.Assemble.{slices};
+ghost use Rattle.relocate.specs.Moves.{MovedAll};
+ghost use Rattle.answer.specs.Answer.{numberOf, placeOf};
 use answer::Answer;
 
 // A distance outside these is refused.
@@ -130,19 +132,6 @@ fn move_words(words: &mut [u16], marks: &[u8], count: usize, distance: i32)
     }
 }
 
-// Whether a slice is shorter than `count`.
-fn is_short(addresses: &[u32], words: &[u16], marks: &[u8], count: usize) -> bool
-    ensures { λ r. ⌜ r ≡ short (slices (now (addresses .entry)) (now (words .entry)) (now (marks .entry))) count ⌝ }
-{
-    if addresses.len() < count {
-        return true;
-    }
-    if words.len() < count {
-        return true;
-    }
-    marks.len() < count
-}
-
 // The answer to a move: refusals 8 to 11, before anything is written.
 fn judge(addresses: &[u32], words: &[u16], marks: &[u8], count: usize, distance: i32) -> Answer
     ensures { λ r. ⌜ r ≡ answerOf (moveAnswer (slices (now (addresses .entry)) (now (words .entry)) (now (marks .entry))) count distance) ⌝ }
@@ -150,7 +139,7 @@ fn judge(addresses: &[u32], words: &[u16], marks: &[u8], count: usize, distance:
     if is_far(distance) {
         return Answer::Refused(8, 0);
     }
-    if is_short(addresses, words, marks, count) {
+    if answer::is_short(addresses, words, marks, count) {
         return Answer::Refused(9, count);
     }
     if let Found::At(i) = first_bad_mark(marks, count) {
@@ -180,26 +169,6 @@ pub fn relocate(
     verdict
 }
 
-// The refusal's number, 0 for an accepted move.
-fn number(verdict: Answer) -> u8
-    ensures { λ r. ⌜ r ≡ numberOf verdict ⌝ }
-{
-    match verdict {
-        Answer::Accepted(_) => 0,
-        Answer::Refused(n, _) => n,
-    }
-}
-
-// The refusal's place, the count for an accepted move.
-fn place(verdict: Answer) -> usize
-    ensures { λ r. ⌜ r ≡ placeOf verdict ⌝ }
-{
-    match verdict {
-        Answer::Accepted(n) => n,
-        Answer::Refused(_, p) => p,
-    }
-}
-
 // Makes the moves one after another; each answer goes into `numbers` and `places`, at its distance's index.
 pub fn relocate_all(
     addresses: &mut [u32],
@@ -216,8 +185,8 @@ pub fn relocate_all(
     let mut i = 0;
     while i < distances.len() {
         let verdict = relocate(addresses, words, marks, count, distances[i]);
-        numbers[i] = number(verdict);
-        places[i] = place(verdict);
+        numbers[i] = answer::number(verdict);
+        places[i] = answer::place(verdict);
         i += 1;
     }
 }

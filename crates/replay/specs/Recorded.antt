@@ -5,18 +5,6 @@ use mathlib.Core.List.{List}
 use mathlib.Core.Bool.{Bool, true, cond}
 use lib.Dec.{eqb}
 use lib.ListN.{length, drop, replicate}
-use Rattle.answer.specs.declared.Answer.{Answer}
-use Rattle.answer.specs.declared.Answer.the-variants.{Accepted, Refused}
-
--- The answer's number: 0 for accepted.
-abbrev pub numberOf : Answer → ℕ
-numberOf (Accepted n) = 0
-numberOf (Refused r p) = r
-
--- The count or the place.
-abbrev pub placeOf : Answer → ℕ
-placeOf (Accepted n) = n
-placeOf (Refused r p) = p
 
 -- How many places a record's list has, kept to the room there is: a refusal has no list.
 abbrev pub countOf : ℕ → ℕ → ℕ → ℕ

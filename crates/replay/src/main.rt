@@ -7,7 +7,8 @@ ghost use mathlib.Core.Path.{_≡_};
 ghost use mathlib.Core.Bool.{true};
 ghost use Prim.Native.Nat.{_+_, _*_, _≤_, min};
 ghost use lib.ListN.{length};
-ghost use Rattle.replay.specs.Recorded.{numberOf, placeOf, countOf, Even, Old, Kept, Same, Compared};
+ghost use Rattle.replay.specs.Recorded.{countOf, Even, Old, Kept, Same, Compared};
+ghost use Rattle.answer.specs.Answer.{numberOf, placeOf};
 
 // The bytes of the longest source, and the places of the slices; both are above paper 01's limits.
 const BYTES: usize = 40000;
@@ -63,34 +64,14 @@ fn at_most(n: u32, most: usize) -> usize
     if n < most { n } else { most }
 }
 
-// The answer's number in a record: 0 for accepted.
-fn number_of(answer: Answer) -> u8
-    ensures { λ r. ⌜ r ≡ numberOf answer ⌝ }
-{
-    match answer {
-        Answer::Accepted(_) => 0,
-        Answer::Refused(number, _) => number,
-    }
-}
-
-// The count or the place.
-fn place_of(answer: Answer) -> usize
-    ensures { λ r. ⌜ r ≡ placeOf answer ⌝ }
-{
-    match answer {
-        Answer::Accepted(count) => count,
-        Answer::Refused(_, place) => place,
-    }
-}
-
 // Whether the answer is the recorded one.
 fn same_answer(answer: Answer, number: u8, place: u32) -> bool
     ensures { λ r. ⌜ (r ≡ true → (numberOf answer ≡ number) × (placeOf answer ≡ place)) × ((numberOf answer ≡ number) × (placeOf answer ≡ place) → r ≡ true) ⌝ }
 {
-    if number_of(answer) != number {
+    if answer::number(answer) != number {
         return false;
     }
-    place_of(answer) == place as usize
+    answer::place(answer) == place as usize
 }
 
 // Puts the old pattern at every place.

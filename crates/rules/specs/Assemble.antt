@@ -131,6 +131,9 @@ pub record Slices : Type 0 where
   pub words : List ℕ
   pub marks : List ℕ
 
+abbrev pub slices : List ℕ → List ℕ → List ℕ → Slices
+slices xs ws ms = record { addresses = xs; words = ws; marks = ms }
+
 -- one of the slices is shorter than n
 unfoldable pub short : Slices → ℕ → Bool
 short x n = ltb (length (x .addresses)) n || ltb (length (x .words)) n || ltb (length (x .marks)) n

@@ -15,7 +15,8 @@ use Rattle.rules.specs.Tally.{listIn, held}
 use Rattle.answer.specs.declared.Answer.{Answer}
 use Rattle.answer.specs.Answer.{answerOf}
 use Rattle.listing.specs.Listing.{listText}
-use Rattle.listing.specs.Reading.{slices, roomIn, readList, placesIn, placesRead, Read}
+use Rattle.listing.specs.Reading.{roomIn, readList, placesIn, placesRead, Read}
+use Rattle.rules.specs.Assemble.{slices}
 use Rattle.listing.specs.declared.reading.Parsed.{Parsed}
 use Rattle.listing.specs.declared.reading.Parsed.the-variants.{Count, Bad}
 use Rattle.listing.proofs.RoundTrip.{length-places}

@@ -14,7 +14,7 @@ use Rattle.rules.specs.Assemble.{over}
 use Rattle.rules.specs.Tally.{listIn, held}
 use Rattle.answer.specs.declared.Answer.the-variants.{Accepted}
 use Rattle.listing.specs.Listing.{listText}
-use Rattle.listing.specs.Reading.{slices}
+use Rattle.rules.specs.Assemble.{slices}
 use Rattle.listing.proofs.RoundTrip.{length-list}
 use Rattle.station.specs.Station.{answerText}
 use Rattle.station.specs.Printed.{Printed}

@@ -10,7 +10,8 @@ use Rattle.answer.specs.declared.Answer.{Answer}
 use Rattle.answer.specs.declared.Answer.the-variants.{Accepted, Refused}
 use Rattle.answer.specs.Answer.{answerOf}
 use Rattle.listing.specs.Listing.{decimal, listText, refusedText}
-use Rattle.listing.specs.Reading.{slices, readList, placesIn}
+use Rattle.listing.specs.Reading.{readList, placesIn}
+use Rattle.rules.specs.Assemble.{slices}
 use Rattle.listing.specs.declared.reading.Parsed.{Parsed}
 use Rattle.listing.specs.declared.reading.Parsed.the-variants.{Count, Bad}
 

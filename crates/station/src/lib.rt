@@ -1,7 +1,7 @@
 // What the programs at the station print, as functions on slices: `asmlist` and `movelist` only read, call and write.
 ghost use mathlib.Core.Path.{_≡_};
 ghost use Prim.Native.Nat.{min};
-ghost use Rattle.listing.specs.Reading.{slices};
+ghost use Rattle.rules.specs.Assemble.{slices};
 ghost use Rattle.station.specs.Station.{answerText, wrongLineText, movedText};
 ghost use Rattle.station.specs.Printed.{Printed};
 use answer::Answer;

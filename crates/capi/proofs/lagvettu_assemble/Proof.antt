@@ -7,8 +7,8 @@ use Rattle.capi.proofs.lagvettu_assemble.Tie as tie
 assemble-requires : tie.Need-assemble-requires
 assemble-requires c κs = search needs
 
-place-or-count-requires : tie.Need-place-or-count-requires
-place-or-count-requires c κs = search needs
+place-requires : tie.Need-place-requires
+place-requires c κs = search needs
 
 number-requires : tie.Need-number-requires
 number-requires c κs = search needs
@@ -23,14 +23,14 @@ same-length-3 : tie.Need-same-length-3
 same-length-3 c = search needs
 
 returns : tie.Need-returns
-returns c = assembles (c .number .ensures) (c .before .place-or-count .ensures) (c .before .before .before .before .before .before .before .before .assemble .ensures)
+returns c = assembles (c .number .ensures) (c .before .place .ensures) (c .before .before .before .before .before .before .before .before .assemble .ensures)
 
 pub lagvettu-assemble-spec : {M : Type 1} → statement M
 lagvettu-assemble-spec =
     tie.close
     (tie.spec
     assemble-requires
-    place-or-count-requires
+    place-requires
     number-requires
     same-length
     same-length-2

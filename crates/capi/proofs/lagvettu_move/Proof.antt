@@ -8,8 +8,8 @@ use Rattle.capi.proofs.lagvettu_move.Tie as tie
 relocate-requires : tie.Need-relocate-requires
 relocate-requires c κs = search needs
 
-place-or-count-requires : tie.Need-place-or-count-requires
-place-or-count-requires c κs = search needs
+place-requires : tie.Need-place-requires
+place-requires c κs = search needs
 
 number-requires : tie.Need-number-requires
 number-requires c κs = search needs
@@ -21,14 +21,14 @@ same-length-2 : tie.Need-same-length-2
 same-length-2 c = search needs
 
 returns : tie.Need-returns
-returns c = moves (c .number .ensures) (c .before .place-or-count .ensures) (rw (toZ-ofZ (c .before .before .before .before .before .before .before .before .before .before .before .before .fits .distance)) at (c .before .before .before .before .before .before .relocate .ensures))
+returns c = moves (c .number .ensures) (c .before .place .ensures) (rw (toZ-ofZ (c .before .before .before .before .before .before .before .before .before .before .before .before .fits .distance)) at (c .before .before .before .before .before .before .relocate .ensures))
 
 pub lagvettu-move-spec : {M : Type 1} → statement M
 lagvettu-move-spec =
     tie.close
     (tie.spec
     relocate-requires
-    place-or-count-requires
+    place-requires
     number-requires
     same-length
     same-length-2

@@ -7,7 +7,7 @@ use Rattle.rules.specs.Assemble.{Slices, short}
 use Rattle.rules.specs.Relocate.{far, firstIndex}
 use Rattle.relocate.specs.declared.Found.the-variants.{Nothing}
 use Rattle.relocate.specs.Found.{foundOf, badMark}
-use Rattle.relocate.specs.Moved.{slices}
+use Rattle.rules.specs.Assemble.{slices}
 use Rattle.relocate.proofs.Verdict.{long, refuses-8, refuses-9, refuses-10, refuses-11, accepts}
 use Rattle.relocate.proofs.judge.Statement.{statement}
 use Rattle.relocate.proofs.judge.Tie as tie

@@ -5,7 +5,7 @@ use borrow.Author.Needs.{needs}
 use Rattle.rules.specs.Assemble.{Slices}
 use Rattle.rules.specs.Relocate.{moveAnswer}
 use Rattle.answer.specs.Answer.{answerOf}
-use Rattle.relocate.specs.Moved.{slices}
+use Rattle.rules.specs.Assemble.{slices}
 use Rattle.relocate.proofs.Verdict.{Passed, passed, moved, kept}
 use Rattle.relocate.proofs.relocate.Statement.{statement}
 use Rattle.relocate.proofs.relocate.Tie as tie

@@ -4,7 +4,7 @@ use native.Mathlib.Omega.{arith}
 use lib.ListN.{length}
 use mir.Facts.{toZ-ofZ}
 use borrow.Author.Needs.{needs, sfits-of}
-use Rattle.relocate.specs.Moved.{slices}
+use Rattle.rules.specs.Assemble.{slices}
 use Rattle.relocate.proofs.Moves.{Made, made-starts, made-steps, made-ends}
 use Rattle.relocate.proofs.relocate_all.Statement.{statement}
 use Rattle.relocate.proofs.relocate_all.Tie as tie

@@ -6,17 +6,17 @@ use borrow.Author.Tests.{eqb-true, eq-eqb}
 use Rattle.replay.proofs.same_answer.Statement.{statement}
 use Rattle.replay.proofs.same_answer.Tie as tie
 
-number-of-requires : tie.Need-number-of-requires
-number-of-requires c κs = search needs
+number-requires : tie.Need-number-requires
+number-requires c κs = search needs
 
 returns : tie.Need-returns
-returns c = ((λ e. absurd (subst T (sym e) tt)), (λ e. absurd (c .if1 .taken (c .before .number-of .ensures ∙ e .0))))
+returns c = ((λ e. absurd (subst T (sym e) tt)), (λ e. absurd (c .if1 .taken (c .before .number .ensures ∙ e .0))))
 
-place-of-requires : tie.Need-place-of-requires
-place-of-requires c κs = search needs
+place-requires : tie.Need-place-requires
+place-requires c κs = search needs
 
 returns-2 : tie.Need-returns-2
-returns-2 c = ((λ e. (sym (c .before .before .number-of .ensures) ∙ c .before .if1 .left, sym (c .place-of .ensures) ∙ eqb-true _ _ e)), (λ e. eq-eqb _ _ (c .place-of .ensures ∙ e .1)))
+returns-2 c = ((λ e. (sym (c .before .before .number .ensures) ∙ c .before .if1 .left, sym (c .place .ensures) ∙ eqb-true _ _ e)), (λ e. eq-eqb _ _ (c .place .ensures ∙ e .1)))
 
 pub same-answer-spec : {M : Type 1} → statement M
-same-answer-spec = tie.close (tie.spec number-of-requires returns place-of-requires returns-2)
+same-answer-spec = tie.close (tie.spec number-requires returns place-requires returns-2)

@@ -3,7 +3,7 @@ use mathlib.Core.Path.{refl}
 use mir.Facts.{toZ-ofZ}
 use borrow.Author.Needs.{needs}
 use Rattle.rules.specs.Assemble.{Slices}
-use Rattle.listing.specs.Reading.{slices}
+use Rattle.rules.specs.Assemble.{slices}
 use Rattle.station.proofs.Moving.{moved-text, refused-text}
 use Rattle.station.proofs.move_text.Statement.{statement}
 use Rattle.station.proofs.move_text.Tie as tie

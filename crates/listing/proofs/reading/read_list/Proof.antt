@@ -6,7 +6,8 @@ use lib.ListN.{length}
 use borrow.Author.Needs.{needs}
 use Rattle.rules.specs.Text.{Text}
 use Rattle.rules.specs.Assemble.{Slices, holding, over}
-use Rattle.listing.specs.Reading.{slices, roomIn, readList, placesRead}
+use Rattle.listing.specs.Reading.{roomIn, readList, placesRead}
+use Rattle.rules.specs.Assemble.{slices}
 use Rattle.listing.proofs.RoundTrip.{read-length, read-within}
 use Rattle.listing.proofs.reading.read_list.Statement.{statement}
 use Rattle.listing.proofs.reading.read_list.Tie as tie

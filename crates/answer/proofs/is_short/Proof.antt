@@ -1,8 +1,8 @@
--- `relocate::is_short` meets its contract. Assumes nothing.
+-- `is_short` compares each length. Assumes nothing.
 use borrow.Author.Tests.{lt-ltb, le-ltb}
 use Rattle.rules.specs.Assemble.{short}
-use Rattle.relocate.proofs.is_short.Statement.{statement}
-use Rattle.relocate.proofs.is_short.Tie as tie
+use Rattle.answer.proofs.is_short.Statement.{statement}
+use Rattle.answer.proofs.is_short.Tie as tie
 
 returns : tie.Need-returns
 unfolding short
