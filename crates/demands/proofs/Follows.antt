@@ -4,8 +4,7 @@ use mathlib.Core.Path.{_≡_}
 use mathlib.Core.List.{List}
 use lib.ListN.{length}
 use lib.IntN.{ℤ}
-use Rattle.rules.specs.Assemble.{Slices}
-use Rattle.rules.specs.Assemble.{slices}
+use Rattle.rules.specs.Assemble.{Slices, slices}
 use Rattle.relocate.specs.Moves.{MovedAll}
 use Rattle.relocate.proofs.Tallied.{tallied}
 use Rattle.promises.specs.Demand3.{MovesFollowTally}
