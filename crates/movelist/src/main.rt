@@ -16,29 +16,13 @@ use station::move_text;
 // A byte more than the longest list has, so that a line too many is seen.
 const INPUT: usize = TEXT + 1;
 
-// The distance in the argument.
-fn argument() -> Distance {
-    if os::arg_count() != 2 {
-        return Distance::Bad;
-    }
-    let mut text = io::buffer();
-    let length = os::arg(1, &mut text);
-    parse_distance(&text[..length])
-}
-
-// Reads the list, moves it and prints the answer.
-fn answer(distance: i32) {
-    let mut input = [0u8; INPUT];
-    let length = io::read_full(STDIN_FILENO, &mut input);
-    let mut out = [0u8; TEXT];
-    let size = move_text(&input[..length], distance, &mut out);
-    if !io::write_all(STDOUT_FILENO, &out[..size]) {
-        io::write_all(STDERR_FILENO, b"movelist: the output is not whole\n");
-    }
-}
-
 fn main() {
-    let given = argument();
+    let mut given = Distance::Bad;
+    if os::arg_count() == 2 {
+        let mut text = io::buffer();
+        let length = os::arg(1, &mut text);
+        given = parse_distance(&text[..length]);
+    }
     let Distance::Value(distance) = given else {
         io::write_all(
             STDERR_FILENO,
@@ -46,5 +30,11 @@ fn main() {
         );
         return;
     };
-    answer(distance);
+    let mut input = [0u8; INPUT];
+    let length = io::read_full(STDIN_FILENO, &mut input);
+    let mut out = [0u8; TEXT];
+    let size = move_text(&input[..length], distance, &mut out);
+    if !io::write_all(STDOUT_FILENO, &out[..size]) {
+        io::write_all(STDERR_FILENO, b"movelist: the output is not whole\n");
+    }
 }

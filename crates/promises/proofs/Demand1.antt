@@ -59,7 +59,7 @@ past-over : (f : Place → ℕ) (l : List Place) (old : List ℕ) → drop (leng
 unfolding over
 past-over f l old = drop-at (map f l) (drop (length (map f l)) old) (length l) (length-map l f) ∙ rw (length-map l f)
 
-written : (l : List Place) (x : Slices) → (held (length l) (holding l x) ≡ l) × SamePast (length l) (holding l x) x
+pub written : (l : List Place) (x : Slices) → (held (length l) (holding l x) ≡ l) × SamePast (length l) (holding l x) x
 unfolding held holding over
 written l x = (
   held-over l _ _ _,

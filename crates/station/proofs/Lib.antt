@@ -1,4 +1,5 @@
 pub mod Printed
 pub mod Moving
+pub mod Script
 pub mod WrongLine
 pub mod Examples

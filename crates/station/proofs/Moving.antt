@@ -41,7 +41,7 @@ first-front f i (x ∷ xs) ys (suc n) h = go (f x) refl (first-front f (suc i) x
     go true e k = rw (e, firstIndex)
     go false e k = rw (e, firstIndex) k
 
-long-enough : (x : Slices) (n : ℕ) → n ≤ length (x .addresses) → n ≤ length (x .words) → n ≤ length (x .marks) → short x n ≡ false
+pub long-enough : (x : Slices) (n : ℕ) → n ≤ length (x .addresses) → n ≤ length (x .words) → n ≤ length (x .marks) → short x n ≡ false
 unfolding short
 long-enough x n a b c = rw (le-ltb _ _ a, le-ltb _ _ b, le-ltb _ _ c)
 

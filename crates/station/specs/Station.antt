@@ -1,9 +1,15 @@
--- The texts that the programs at the station print: `asmlist` for an answer, `movelist` for a text and a distance. Assumes nothing.
-use Prim.Native.Nat.{ℕ}
+-- The texts that the programs at the station print: `asmlist` for a script, `movelist` for a text and a distance. Assumes nothing.
+use Prim.Native.Nat.{ℕ, _+_}
+use mathlib.Core.Path.{_≡_}
+use mathlib.Core.Bool.{cond}
 use mathlib.Core.List.{List, [], _∷_, _++_, map}
 use lib.IntN.{ℤ}
+use lib.Dec.{ltb}
+use lib.ListN.{length, take}
+use Rattle.rules.specs.Limits.{maxSource}
 use Rattle.rules.specs.Text.{Text, bytes}
-use Rattle.rules.specs.Assemble.{Place, Slices}
+use Rattle.rules.specs.Answer.{Answer as Ruled, accepted, refused}
+use Rattle.rules.specs.Assemble.{Place, Slices, slices, assemble}
 use Rattle.rules.specs.Relocate.{moveAnswer, moveSlices}
 use Rattle.rules.specs.Tally.{held}
 use Rattle.answer.specs.declared.Answer.{Answer}
@@ -11,7 +17,6 @@ use Rattle.answer.specs.declared.Answer.the-variants.{Accepted, Refused}
 use Rattle.answer.specs.Answer.{answerOf}
 use Rattle.listing.specs.Listing.{decimal, listText, refusedText}
 use Rattle.listing.specs.Reading.{readList, placesIn}
-use Rattle.rules.specs.Assemble.{slices}
 use Rattle.listing.specs.declared.reading.Parsed.{Parsed}
 use Rattle.listing.specs.declared.reading.Parsed.the-variants.{Count, Bad}
 
@@ -19,6 +24,23 @@ use Rattle.listing.specs.declared.reading.Parsed.the-variants.{Count, Bad}
 unfoldable pub answerText : Answer → Slices → Text
 answerText (Accepted n) x = listText (held n x)
 answerText (Refused r p) x = refusedText r p
+
+-- the same of a list that is not in slices
+unfoldable pub listedText : Ruled (List Place) → Text
+listedText (accepted l) = listText l
+listedText (refused r p) = refusedText r p
+
+-- what `asmlist` prints for a script: its list at base 0, or why there is none
+unfoldable pub scriptText : Text → Text
+scriptText t = listedText (assemble 0 t)
+
+-- what it prints for an input of `total` bytes of which it read t: over the limit only the length counts
+unfoldable pub inputText : ℕ → Text → Text
+inputText total t = cond (ltb maxSource total) (refusedText 1 total) (scriptText t)
+
+-- for every script it is enough to read a byte more than the longest has
+unfoldable pub FrontIsEnough : Type 0
+FrontIsEnough = (t : Text) → inputText (length t) (take (maxSource + 1) t) ≡ scriptText t
 
 -- the one line for a text that is no list's: its first wrong line, or the first for which there is no room
 unfoldable pub wrongLineText : ℕ → Text

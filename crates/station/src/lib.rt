@@ -2,9 +2,10 @@
 ghost use mathlib.Core.Path.{_≡_};
 ghost use Prim.Native.Nat.{min};
 ghost use Rattle.rules.specs.Assemble.{slices};
-ghost use Rattle.station.specs.Station.{answerText, wrongLineText, movedText};
+ghost use Rattle.station.specs.Station.{answerText, inputText, wrongLineText, movedText};
 ghost use Rattle.station.specs.Printed.{Printed};
 use answer::Answer;
+use assemble::assemble;
 use listing::reading::Parsed;
 use listing::reading::read_list;
 use listing::writing::LINE;
@@ -13,12 +14,16 @@ use listing::writing::write_decimal;
 use listing::writing::write_list;
 use listing::writing::write_refused;
 use relocate::relocate;
+use rules::MAX_SOURCE;
 
 // The places of the longest list there is.
 pub const PLACES: usize = 8192;
 
 // The bytes of its text.
 pub const TEXT: usize = LINE * PLACES;
+
+// A byte more than the longest script has, so that a longer one is seen.
+pub const SCRIPT: usize = MAX_SOURCE + 1;
 
 // A count of places that the slices have.
 fn within(count: usize) -> usize
@@ -41,6 +46,21 @@ pub fn write_answer(
         Answer::Accepted(n) => write_list(addresses, words, marks, within(n), out),
         Answer::Refused(number, place) => write_refused(number, place, out),
     }
+}
+
+// Puts the text for a script at the front, and answers its length. Of the script's `total` bytes `read` are there, all unless they
+// are over the limit.
+pub fn assemble_text(read: &[u8], total: usize, out: &mut [u8; TEXT]) -> usize
+    ensures { λ r. ⌜ Printed (inputText total (now (read .entry))) r (now (out .entry)) (now (out .exit)) ⌝ }
+{
+    if MAX_SOURCE < total {
+        return write_refused(1, total, out);
+    }
+    let mut addresses = [0u32; PLACES];
+    let mut words = [0u16; PLACES];
+    let mut marks = [0u8; PLACES];
+    let answer = assemble(read, 0, &mut addresses, &mut words, &mut marks);
+    write_answer(answer, &addresses, &words, &marks, out)
 }
 
 // Puts the line for a text that is no list's at the front, and answers its length.
