@@ -3,7 +3,7 @@ use mathlib.Core.Path.{_≡_, refl, sym, ap, _∙_}
 use mathlib.Core.Bool.{Bool, true, false}
 use mathlib.Core.Option.{Option, none, some}
 use mathlib.Core.List.{List, [], _∷_}
-use Prim.Native.Nat.{ℕ, zero, suc, _+_, _-_, _*_, _≤_}
+use Prim.Native.Nat.{ℕ, zero, suc, _+_, _-_, _≤_}
 use native.Mathlib.Omega.{arith}
 use lib.ListN.{length, drop}
 use lib.Seq.{drop-drop}
@@ -12,7 +12,7 @@ use Rattle.rules.specs.Text.{Text, same}
 use Rattle.rules.specs.Line.{Name}
 use Rattle.rules.specs.Label.{Label, Table, find, recorded, hasRoom, recordAll}
 use Rattle.text.specs.declared.Span.{Span}
-use Rattle.label.specs.Table.{tableOf, Held}
+use Rattle.label.specs.Table.{cellOf, tableOf, Held}
 use Rattle.label.specs.Record.{Ready, Recording}
 use Rattle.label.specs.declared.Recorded.{Recorded}
 use Rattle.label.specs.declared.Recorded.the-variants.{Count, Full}
@@ -84,12 +84,12 @@ some-longer i a (n ∷ ns) t = go (hasRoom (find (n .text) t) t) refl (some-long
 
 -- what is stored from a table on is stored from one before it, if that had fewer rows
 pub stored-from : (source : Text) (cells middle after : List ℕ) (m : ℕ) (t : Table) → m ≤ length t → length middle ≡ length cells
-    → drop (3 * m) middle ≡ drop (3 * m) cells → Stored source middle t after → Stored source cells t after
+    → drop (cellOf m) middle ≡ drop (cellOf m) cells → Stored source middle t after → Stored source cells t after
 stored-from source cells middle after m t h l e d =
-    record { table = d .table; held = d .held; long = d .long ∙ l; past = d .past ∙ past-more (3 * m) (3 * length t) middle cells (omega arith) e }
+    record { table = d .table; held = d .held; long = d .long ∙ l; past = d .past ∙ past-more (cellOf m) (cellOf (length t)) middle cells (omega arith) e }
 
 -- ready to record a label of the line
-pub ready : (source : Text) (cells : List ℕ) (count i : ℕ) (s : Span) → Held source cells count → length source ≤ maxSource → 3 * maxLabels ≤ length cells
+pub ready : (source : Text) (cells : List ℕ) (count i : ℕ) (s : Span) → Held source cells count → length source ≤ maxSource → cellOf maxLabels ≤ length cells
     → InSource source i s → Ready source cells count (i + s .start) (i + s .end)
 ready source cells count i s h k r x =
     record { held = h; ordered = omega (arith, x .ordered); within = x .within; short = k; room = λ c. omega arith }

@@ -3,7 +3,7 @@ use mathlib.Core.Path.{_≡_, refl, sym, ap, _∙_}
 use mathlib.Core.Bool.{Bool, true, false, false≢true}
 use mathlib.Core.Option.{Option, none, some}
 use mathlib.Core.List.{List, [], _∷_}
-use Prim.Native.Nat.{ℕ, _+_, _*_, _≤_, _<_}
+use Prim.Native.Nat.{ℕ, _+_, _≤_, _<_}
 use native.Mathlib.Omega.{arith}
 use lib.Dec.{ltb}
 use lib.ListN.{length, drop}
@@ -12,8 +12,8 @@ use Rattle.rules.specs.Text.{Text}
 use Rattle.rules.specs.Line.{Name, Body, Line, skipped, end, org, item, lineOf}
 use Rattle.rules.specs.Label.{Table, recordAll}
 use Rattle.rules.specs.Assemble.{SourceLine, Step, halt, full, next, advance, step, firstPass, linesOf}
-use Rattle.label.specs.Table.{tableOf}
-use Rattle.label.proofs.Table.{table-empty, held-empty, table-length}
+use Rattle.label.specs.Table.{cellOf, tableOf, Held}
+use Rattle.label.proofs.Table.{table-empty, table-length}
 use Rattle.scan.specs.Lines.{linesFrom}
 use Rattle.collect.specs.declared.Collected.{Collected}
 use Rattle.collect.specs.declared.Progress.{Progress}
@@ -63,14 +63,14 @@ pub record Underway (source : Text) (base : ℕ) (old cells : List ℕ) (p : Pro
   pub answer : collectedOf (firstPass base base [] (linesOf source)) ≡ collectedFrom (p .words) (leftFrom source base cells p)
   pub labels : stopLabels base base [] (linesOf source) ≡ stopFrom source base cells p
   pub long : length cells ≡ length old
-  pub past : drop (3 * p .labels) cells ≡ drop (3 * p .labels) old
+  pub past : drop (cellOf (p .labels)) cells ≡ drop (cellOf (p .labels)) old
 
 module _ (source : Text) (base : ℕ) (old : List ℕ) (g : Setting source base old) where
-  pub begins : Underway source base old old (record { at = 0; number = 1; address = base; labels = 0; words = 0 })
+  pub begins : Held source old 0 → Underway source base old old (record { at = 0; number = 1; address = base; labels = 0; words = 0 })
   unfolding linesOf
-  begins =
+  begins empty =
       record {
-        valid = record { inside = omega arith; numbered = omega arith; low = g .low; held = held-empty source old; few = omega arith };
+        valid = record { inside = omega arith; numbered = omega arith; low = g .low; held = empty; few = omega arith };
         answer = rw (table-empty source old);
         labels = rw (table-empty source old);
         long = refl;
@@ -96,7 +96,7 @@ module _ (source : Text) (base : ℕ) (old : List ℕ) (g : Setting source base 
             answer = u .answer ∙ k .answer;
             labels = u .labels ∙ k .labels;
             long = k .long ∙ u .long;
-            past = k .past ∙ past-more (3 * p .labels) (3 * q .labels) cells old (omega (arith, k .grows)) (u .past);
+            past = k .past ∙ past-more (cellOf (p .labels)) (cellOf (q .labels)) cells old (omega (arith, k .grows)) (u .past);
           }
 
       pub ends : (x : Collected) → r ≡ Stop x → Passed source base old x after

@@ -1,6 +1,6 @@
 -- The labels of a line in the source, recorded in the table; and how many data words a line has. Assumes nothing.
 use mathlib.Core.Path.{_≡_}
-use Prim.Native.Nat.{ℕ, zero, suc, _+_, _*_, _-_, _≤_}
+use Prim.Native.Nat.{ℕ, zero, suc, _+_, _-_, _≤_}
 use mathlib.Core.Bool.{Bool, true, false}
 use mathlib.Core.Option.{Option, none, some}
 use mathlib.Core.List.{List, [], _∷_}
@@ -12,7 +12,7 @@ use Rattle.rules.specs.Label.{Table, recordAll}
 use Rattle.text.specs.declared.Span.{Span}
 use Rattle.numeral.specs.declared.unsigned.Number.{Number}
 use Rattle.numeral.specs.declared.unsigned.Number.the-variants.{Value, Unreadable}
-use Rattle.label.specs.Table.{tableOf, Held}
+use Rattle.label.specs.Table.{cellOf, tableOf, Held}
 use Rattle.label.specs.declared.Recorded.{Recorded}
 use Rattle.label.specs.declared.Recorded.the-variants.{Count, Full}
 use Rattle.line.specs.declared.Names.{Names}
@@ -27,7 +27,7 @@ pub record Stored (source : Text) (cells : List ℕ) (t : Table) (after : List �
   pub table : tableOf source after (length t) ≡ t
   pub held : Held source after (length t)
   pub long : length after ≡ length cells
-  pub past : drop (3 * length t) after ≡ drop (3 * length t) cells
+  pub past : drop (cellOf (length t)) after ≡ drop (cellOf (length t)) cells
 
 -- a label of the line that starts at i, as it stands in the source
 abbrev pub nameFrom : Text → ℕ → Span → Name
@@ -56,7 +56,7 @@ pub record InSource (source : Text) (i : ℕ) (s : Span) : Type 0 where
 pub record Naming (source : Text) (cells : List ℕ) (count i : ℕ) (ns : Names) : Type 0 where
   pub held : Held source cells count
   pub short : length source ≤ maxSource
-  pub room : 3 * maxLabels ≤ length cells
+  pub room : cellOf maxLabels ≤ length cells
   pub first : InSource source i (ns .first)
   pub second : InSource source i (ns .second)
 

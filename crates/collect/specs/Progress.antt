@@ -8,7 +8,7 @@ use Rattle.rules.specs.Text.{Text}
 use Rattle.rules.specs.Label.{Table}
 use Rattle.rules.specs.Answer.{Answer}
 use Rattle.rules.specs.Assemble.{Pass, firstPass, linesOf}
-use Rattle.label.specs.Table.{tableOf, Held}
+use Rattle.label.specs.Table.{cellOf, tableOf, Held}
 use Rattle.scan.specs.Lines.{linesFrom}
 use Rattle.collect.specs.Collect.{collectedFrom, collectedOf, stopLabels}
 use Rattle.collect.specs.Names.{Stored}
@@ -21,7 +21,7 @@ use Rattle.collect.specs.declared.Pace.the-variants.{On, Stop}
 pub record Setting (source : Text) (base : ℕ) (cells : List ℕ) : Type 0 where
   pub short : length source ≤ maxSource
   pub low : base < addressLimit
-  pub room : 3 * maxLabels ≤ length cells
+  pub room : cellOf maxLabels ≤ length cells
 
 -- a place to stand at
 pub record Valid (source : Text) (cells : List ℕ) (p : Progress) : Type 0 where
@@ -45,7 +45,7 @@ pub record Going (source : Text) (base : ℕ) (cells : List ℕ) (p q : Progress
   pub labels : stopFrom source base cells p ≡ stopFrom source base after q
   pub grows : p .labels ≤ q .labels
   pub long : length after ≡ length cells
-  pub past : drop (3 * q .labels) after ≡ drop (3 * q .labels) cells
+  pub past : drop (cellOf (q .labels)) after ≡ drop (cellOf (q .labels)) cells
   pub further : p .at < q .at
 
 -- the pass stops here: what is left comes to this

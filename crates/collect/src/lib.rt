@@ -7,6 +7,7 @@ use numeral::unsigned::Number;
 ghost use mathlib.Core.Path.{_≡_};
 ghost use Prim.Native.Nat.{_≤_};
 ghost use lib.ListN.{length};
+ghost use Rattle.label.specs.Table.{Held};
 ghost use Rattle.collect.specs.Names.{Naming, Named, Reading, namesFrom, namesRead, dataWords, endRead};
 ghost use Rattle.collect.specs.Progress.{Setting, Valid, Paced, Passed};
 
@@ -151,9 +152,9 @@ fn collect_line(source: &[u8], base: u32, table: &mut [u32], p: Progress) -> Pac
     })
 }
 
-// The first pass over a source.
+// The first pass over a source, into a table that has no labels yet.
 pub fn first_pass(source: &[u8], base: u32, table: &mut [u32]) -> Collected
-    requires { ⌜ Setting (now source) base (now table) ⌝ }
+    requires { ⌜ Setting (now source) base (now table) × Held (now source) (now table) 0 ⌝ }
     ensures { λ r. ⌜ Passed (now (source .entry)) base (now (table .entry)) r (now (table .exit)) ⌝ }
 {
     let mut p = Progress {

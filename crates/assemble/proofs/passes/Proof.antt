@@ -1,5 +1,8 @@
 -- `passes` goes by what the first pass answered. Assumes nothing.
 use native.Mathlib.Omega.{arith}
+use Rattle.rules.specs.Limits.{maxLabels}
+use Rattle.label.specs.Table.{cellOf}
+use Rattle.label.proofs.Table.{held-zeros}
 use Rattle.assemble.proofs.TwoPasses.{walking, values-is, passes-refused, passes-done}
 use borrow.Author.Needs.{needs}
 use Rattle.assemble.proofs.passes.Statement.{statement}
@@ -9,7 +12,7 @@ slice-aggregate-first-pass : tie.Need-slice-aggregate-first-pass
 slice-aggregate-first-pass c = search needs
 
 first-pass-requires : tie.Need-first-pass-requires
-first-pass-requires c κs = record { short = c .before .before .before .before .before .pre .0; low = c .before .before .before .before .before .pre .1; room = omega arith }
+first-pass-requires c κs = (record { short = c .before .before .before .before .before .pre .0; low = c .before .before .before .before .before .pre .1; room = omega arith }, held-zeros _ (cellOf maxLabels) (omega arith))
 
 enum-known-n : tie.Need-enum-known-n
 enum-known-n c = search needs

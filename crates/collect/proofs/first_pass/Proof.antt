@@ -14,19 +14,19 @@ abbrev μ-loop : tie.MeasureT-loop
 μ-loop source base table₀ p₀ table p = length source - p .at
 
 loop-holds : tie.Need-loop-holds Inv-loop μ-loop
-loop-holds c = begins _ _ _ (c .before .before .pre)
+loop-holds c = begins _ _ _ (c .before .before .pre .0) (c .before .before .pre .1)
 
 collect-line-requires : tie.Need-collect-line-requires Inv-loop μ-loop
-collect-line-requires c κs = (setting _ _ _ (c .before .before .before .before .pre) _ _ (c .before .loop .inv), c .before .loop .inv .valid)
+collect-line-requires c κs = (setting _ _ _ (c .before .before .before .before .pre .0) _ _ (c .before .loop .inv), c .before .loop .inv .valid)
 
 enum-known-q : tie.Need-enum-known-q Inv-loop μ-loop
 enum-known-q c = search needs
 
 loop-less : tie.Need-loop-less Inv-loop μ-loop
-loop-less c = let h = nearer _ _ _ (c .before .before .before .before .before .before .before .before .before .before .pre) _ _ (c .before .before .before .before .before .before .before .loop .inv) _ _ (c .before .before .before .before .before .collect-line .ensures) _ (c .before .q .given .1) in omega arith
+loop-less c = let h = nearer _ _ _ (c .before .before .before .before .before .before .before .before .before .before .pre .0) _ _ (c .before .before .before .before .before .before .before .loop .inv) _ _ (c .before .before .before .before .before .collect-line .ensures) _ (c .before .q .given .1) in omega arith
 
 loop-again : tie.Need-loop-again Inv-loop μ-loop
-loop-again c = goes-on _ _ _ (c .before .before .before .before .before .before .before .before .before .before .pre) _ _ (c .before .before .before .before .before .before .before .loop .inv) _ _ (c .before .before .before .before .before .collect-line .ensures) _ (c .before .q .given .1)
+loop-again c = goes-on _ _ _ (c .before .before .before .before .before .before .before .before .before .before .pre .0) _ _ (c .before .before .before .before .before .before .before .loop .inv) _ _ (c .before .before .before .before .before .collect-line .ensures) _ (c .before .q .given .1)
 
 enum-known-r : tie.Need-enum-known-r Inv-loop μ-loop
 enum-known-r c = search needs
@@ -35,7 +35,7 @@ same-length : tie.Need-same-length Inv-loop μ-loop
 same-length c = search needs
 
 returns : tie.Need-returns Inv-loop μ-loop
-returns c = ends _ _ _ (c .before .before .before .before .before .before .before .before .before .before .pre) _ _ (c .before .before .before .before .before .before .before .loop .inv) _ _ (c .before .before .before .before .before .collect-line .ensures) _ (c .before .r .given .1)
+returns c = ends _ _ _ (c .before .before .before .before .before .before .before .before .before .before .pre .0) _ _ (c .before .before .before .before .before .before .before .loop .inv) _ _ (c .before .before .before .before .before .collect-line .ensures) _ (c .before .r .given .1)
 
 pub first-pass-spec : {M : Type 1} → statement M
 first-pass-spec =
