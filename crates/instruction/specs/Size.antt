@@ -2,9 +2,8 @@
 use Prim.Native.Nat.{ℕ}
 use mathlib.Core.Bool.{Bool, true, false, not, _||_, cond}
 use mathlib.Core.List.{List, [], _∷_}
-use Rattle.rules.specs.Text.{Text, bytes, uppers, pieces, joined, same, starts, firstText, otherTexts, lastText}
+use Rattle.rules.specs.Text.{Text, bytes, uppers, same, starts, firstText, lastText}
 use Rattle.rules.specs.Line.{isL, isPlain}
-use Rattle.rules.specs.Assemble.{over}
 use Rattle.instruction.specs.FirstPiece.{headParts, suffixOf}
 use Rattle.instruction.specs.declared.SizeRule.{SizeRule}
 use Rattle.instruction.specs.declared.SizeRule.the-variants.{Fixed, Immediate, Move}
@@ -38,7 +37,3 @@ sizeBy k (s ∷ t ∷ ps) = cond (isLongBy k s (lastText t ps)) 4 2
 -- what decides the size of the instruction t
 unfoldable pub sizedOf : Text → SizeRule
 sizedOf t = sizedBy (uppers (firstText (headParts t))) (isL (suffixOf t))
-
--- the scratch after its size was found: the joined tail, if any operand decides
-unfoldable pub sizeScratch : Text → Text → Text
-sizeScratch t old = cond (hasOperands (sizedOf t)) (over (joined (otherTexts (pieces t))) old) old

@@ -1,4 +1,5 @@
-// What an instruction's text says: its mnemonic and suffix, its operands in a normalised copy of the tail, its size.
+// What an instruction's text says: its mnemonic and suffix, its operands, its size.
+// The operands are those of the joined tail: the text itself where it stands joined already, else a normalised copy.
 use text::Span;
 ghost use mathlib.Core.Path.{_≡_};
 ghost use Prim.Native.Nat.{_+_, _≤_, _<_};
@@ -6,10 +7,12 @@ ghost use lib.ListN.{length, drop};
 ghost use Rattle.rules.specs.Text.{uppers, cutAt, pieces, joined, firstText};
 ghost use Rattle.rules.specs.Line.{instructionOf, isPlain, size};
 ghost use Rattle.rules.specs.Assemble.{over};
+ghost use Rattle.rules.specs.Limits.{maxSource};
 ghost use Rattle.instruction.specs.FirstPiece.{part, firstIsL, headOf};
 ghost use Rattle.instruction.specs.Tail.{written, space, spaced};
+ghost use Rattle.instruction.specs.Joined.{isSingle, isJoined};
 ghost use Rattle.instruction.specs.Split.{operandsIn, trimmedSpan, operandsAt, withSpan};
-ghost use Rattle.instruction.specs.Size.{sizedBy, hasOperands, isLongBy, sizeBy, sizeScratch};
+ghost use Rattle.instruction.specs.Size.{sizedBy, hasOperands, isLongBy, sizeBy};
 
 // ---- The first piece: mnemonic and suffix.
 
@@ -119,6 +122,40 @@ pub fn join_pieces(t: &[u8], at: usize, out: &mut [u8]) -> usize
         n = add_piece(&t[start..end], out, n);
         i = end;
     }
+}
+
+// No blank stands at i, or a single space before a byte that is none.
+fn is_single(t: &[u8], i: usize) -> bool
+    requires { ⌜ i < length (now t) ⌝ }
+    ensures { λ r. ⌜ r ≡ isSingle (drop i (now (t .entry))) ⌝ }
+{
+    let b = t[i];
+    if 32 < b {
+        return true;
+    }
+    if b != 32 {
+        return !text::is_blank(b);
+    }
+    let next = i + 1;
+    if next == t.len() {
+        return false;
+    }
+    !text::is_blank(t[next])
+}
+
+// From `at` on each blank is a single space between pieces: with none in front, the text is its own joined tail.
+pub fn is_joined(t: &[u8], at: usize) -> bool
+    requires { ⌜ at ≤ length (now t) ⌝ }
+    ensures { λ r. ⌜ r ≡ isJoined (drop at (now (t .entry))) ⌝ }
+{
+    let mut i = at;
+    while i < t.len() {
+        if !is_single(t, i) {
+            return false;
+        }
+        i += 1;
+    }
+    true
 }
 
 // ---- The operands of a joined tail.
@@ -233,7 +270,7 @@ fn is_plain(t: &[u8]) -> bool
 }
 
 // Which operands decide the size.
-enum SizeRule {
+pub enum SizeRule {
     // 2 whatever the operands.
     Fixed,
     // 4 where the first starts with #.
@@ -243,7 +280,7 @@ enum SizeRule {
 }
 
 // Which operands decide, by the mnemonic and whether the suffix is `L`.
-fn sized(mnemonic: &[u8], long: bool) -> SizeRule
+pub fn sized(mnemonic: &[u8], long: bool) -> SizeRule
     ensures { λ r. ⌜ r ≡ sizedBy (uppers (now (mnemonic .entry))) long ⌝ }
 {
     if text::same_upper(mnemonic, b"MULS") {
@@ -292,7 +329,7 @@ fn takes_four(rule: SizeRule, first: &[u8], last: &[u8]) -> bool
 }
 
 // The size of an instruction whose operands stand in `tail`.
-fn size_of(rule: SizeRule, o: Operands, tail: &[u8]) -> u32
+pub fn size_of(rule: SizeRule, o: Operands, tail: &[u8]) -> u32
     requires { ⌜ o ≡ operandsAt (now tail) ⌝ }
     ensures { λ r. ⌜ r ≡ sizeBy rule (operandsIn (now (tail .entry))) ⌝ }
 {
@@ -309,11 +346,62 @@ fn size_of(rule: SizeRule, o: Operands, tail: &[u8]) -> u32
     2
 }
 
-// How many bytes an instruction takes.
-pub fn instruction_size(t: &[u8], scratch: &mut [u8]) -> u32
-    requires { ⌜ length (now t) ≤ length (now scratch) ⌝ }
+// The size by a copy of the tail that starts at `at`.
+fn size_joined(rule: SizeRule, t: &[u8], at: usize, scratch: &mut [u8]) -> u32
+    requires { ⌜ (at ≤ length (now t)) × (length (now t) ≤ length (now scratch)) ⌝ }
+    ensures { λ r. ⌜ r ≡ sizeBy rule (operandsIn (joined (pieces (drop at (now (t .entry)))))) ⌝ }
+    ensures { λ _. ⌜ now (scratch .exit) ≡ over (joined (pieces (drop at (now (t .entry))))) (now (scratch .entry)) ⌝ }
+{
+    let n = join_pieces(t, at, scratch);
+    let tail = &scratch[..n];
+    size_of(rule, split_operands(tail), tail)
+}
+
+// The same for a short text: the copy has little room, so that little is cleared.
+fn size_of_short(rule: SizeRule, t: &[u8], at: usize) -> u32
+    requires { ⌜ (at ≤ length (now t)) × (length (now t) ≤ 64) ⌝ }
+    ensures { λ r. ⌜ r ≡ sizeBy rule (operandsIn (joined (pieces (drop at (now (t .entry)))))) ⌝ }
+{
+    let mut scratch = [0u8; 64];
+    size_joined(rule, t, at, &mut scratch)
+}
+
+// For a longer one.
+fn size_of_long(rule: SizeRule, t: &[u8], at: usize) -> u32
+    requires { ⌜ (at ≤ length (now t)) × (length (now t) ≤ 1024) ⌝ }
+    ensures { λ r. ⌜ r ≡ sizeBy rule (operandsIn (joined (pieces (drop at (now (t .entry)))))) ⌝ }
+{
+    let mut scratch = [0u8; 1024];
+    size_joined(rule, t, at, &mut scratch)
+}
+
+// For one of any length that a source has.
+fn size_of_longest(rule: SizeRule, t: &[u8], at: usize) -> u32
+    requires { ⌜ (at ≤ length (now t)) × (length (now t) ≤ maxSource) ⌝ }
+    ensures { λ r. ⌜ r ≡ sizeBy rule (operandsIn (joined (pieces (drop at (now (t .entry)))))) ⌝ }
+{
+    let mut scratch = [0u8; rules::MAX_SOURCE];
+    size_joined(rule, t, at, &mut scratch)
+}
+
+// The size by a copy of the tail, in the room that it takes.
+fn size_of_copy(rule: SizeRule, t: &[u8], at: usize) -> u32
+    requires { ⌜ (at ≤ length (now t)) × (length (now t) ≤ maxSource) ⌝ }
+    ensures { λ r. ⌜ r ≡ sizeBy rule (operandsIn (joined (pieces (drop at (now (t .entry)))))) ⌝ }
+{
+    if t.len() <= 64 {
+        return size_of_short(rule, t, at);
+    }
+    if t.len() <= 1024 {
+        return size_of_long(rule, t, at);
+    }
+    size_of_longest(rule, t, at)
+}
+
+// How many bytes an instruction takes; the tail is copied only where it does not stand joined.
+pub fn instruction_size(t: &[u8]) -> u32
+    requires { ⌜ length (now t) ≤ maxSource ⌝ }
     ensures { λ r. ⌜ r ≡ size (instructionOf (now (t .entry))) ⌝ }
-    ensures { λ _. ⌜ now (scratch .exit) ≡ sizeScratch (now (t .entry)) (now (scratch .entry)) ⌝ }
 {
     let head = read_head(t);
     let a = head.start;
@@ -322,7 +410,10 @@ pub fn instruction_size(t: &[u8], scratch: &mut [u8]) -> u32
     if !has_operands(rule) {
         return 2;
     }
-    let n = join_pieces(t, head.tail, scratch);
-    let tail = &scratch[..n];
-    size_of(rule, split_operands(tail), tail)
+    let start = text::skip_blanks(t, head.tail);
+    if is_joined(t, start) {
+        let tail = &t[start..];
+        return size_of(rule, split_operands(tail), tail);
+    }
+    size_of_copy(rule, t, head.tail)
 }

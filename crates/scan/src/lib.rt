@@ -9,7 +9,7 @@ ghost use Rattle.rules.specs.Text.{cutAt};
 ghost use Rattle.rules.specs.Assemble.{firstHigh};
 ghost use Rattle.text.specs.Find.{foundOf};
 ghost use Rattle.rules.specs.Limits.{maxSource};
-ghost use Rattle.rules.specs.Line.{instructionOf, size};
+ghost use Rattle.rules.specs.Line.{size};
 ghost use Rattle.line.specs.Line.{bodyAt, lineAt, BodyIn, Within};
 ghost use Rattle.scan.specs.Lines.{lineEnd};
 ghost use Rattle.scan.specs.Walk.{addressAfter};
@@ -62,45 +62,6 @@ pub fn line_end(s: &[u8], at: usize) -> usize
 
 // ---- A line's size, and the address after it.
 
-// The size of a short instruction: its tail is copied into little room, so that little is cleared.
-fn size_of_short(t: &[u8]) -> u32
-    requires { ⌜ length (now t) ≤ 64 ⌝ }
-    ensures { λ r. ⌜ r ≡ size (instructionOf (now (t .entry))) ⌝ }
-{
-    let mut tail = [0u8; 64];
-    instruction::instruction_size(t, &mut tail)
-}
-
-fn size_of_long(t: &[u8]) -> u32
-    requires { ⌜ length (now t) ≤ 1024 ⌝ }
-    ensures { λ r. ⌜ r ≡ size (instructionOf (now (t .entry))) ⌝ }
-{
-    let mut tail = [0u8; 1024];
-    instruction::instruction_size(t, &mut tail)
-}
-
-fn size_of_longest(t: &[u8]) -> u32
-    requires { ⌜ length (now t) ≤ maxSource ⌝ }
-    ensures { λ r. ⌜ r ≡ size (instructionOf (now (t .entry))) ⌝ }
-{
-    let mut tail = [0u8; rules::MAX_SOURCE];
-    instruction::instruction_size(t, &mut tail)
-}
-
-// How many bytes an instruction takes.
-fn instruction_size(t: &[u8]) -> u32
-    requires { ⌜ length (now t) ≤ maxSource ⌝ }
-    ensures { λ r. ⌜ r ≡ size (instructionOf (now (t .entry))) ⌝ }
-{
-    if t.len() <= 64 {
-        return size_of_short(t);
-    }
-    if t.len() <= 1024 {
-        return size_of_long(t);
-    }
-    size_of_longest(t)
-}
-
 // By how much a body of the line advances the address.
 fn body_size(line: &[u8], body: Body) -> u32
     requires { ⌜ (length (now line) ≤ maxSource) × BodyIn (now line) body ⌝ }
@@ -112,7 +73,7 @@ fn body_size(line: &[u8], body: Body) -> u32
         Body::Instruction(span) => {
             let a = span.start;
             let b = span.end;
-            instruction_size(&line[a..b])
+            instruction::instruction_size(&line[a..b])
         }
     }
 }
