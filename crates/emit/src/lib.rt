@@ -6,18 +6,16 @@ use numeral::unsigned::Number;
 ghost use mathlib.Core.Path.{_≡_};
 ghost use mathlib.Core.Bool.{_||_};
 ghost use mathlib.Core.List.{_∷_, []};
-ghost use Prim.Native.Nat.{_+_, _≤_, _<_};
+ghost use Prim.Native.Nat.{_+_, _<_};
 ghost use lib.Dec.{eqb};
 ghost use lib.ListN.{length};
-ghost use Rattle.rules.specs.Limits.{maxSource, addressLimit};
+ghost use Rattle.rules.specs.Limits.{addressLimit};
 ghost use Rattle.rules.specs.Text.{Text};
-ghost use Rattle.rules.specs.Line.{instructionOf};
 ghost use Rattle.label.specs.Table.{tableOf};
 ghost use Rattle.line.specs.Line.{lineAt};
 ghost use Rattle.scan.specs.Walk.{bodyOf, isEnd};
 ghost use Rattle.encode.specs.Code.{codeOf, place, placesOf, codeLength};
 ghost use Rattle.encode.specs.Body.{encodeBody};
-ghost use Rattle.encode.specs.Near.{Near};
 ghost use Rattle.emit.specs.Emit.{listOf, Walking, Room, Written};
 ghost use Rattle.emit.specs.Read.{codeIn, dataCode, Lined, Standing, Reads, Stored};
 
@@ -52,47 +50,6 @@ fn value_code(read: Line) -> Code
     }
 }
 
-// The words of a short instruction: its tail is copied into little room, so that little is cleared.
-fn encode_short(source: &[u8], table: &[u32], labels: usize, address: u32, t: &[u8]) -> Code
-    requires { ⌜ Near (now source) (now table) labels address × (length (now t) ≤ 64) ⌝ }
-    ensures { λ r. ⌜ r ≡ codeOf (encodeBody (tableOf (now (source .entry)) (now (table .entry)) labels) address (instructionOf (now (t .entry)))) ⌝ }
-{
-    let mut tail = [0u8; 64];
-    encode::encode_instruction(source, table, labels, address, t, &mut tail)
-}
-
-// A longer one.
-fn encode_long(source: &[u8], table: &[u32], labels: usize, address: u32, t: &[u8]) -> Code
-    requires { ⌜ Near (now source) (now table) labels address × (length (now t) ≤ 1024) ⌝ }
-    ensures { λ r. ⌜ r ≡ codeOf (encodeBody (tableOf (now (source .entry)) (now (table .entry)) labels) address (instructionOf (now (t .entry)))) ⌝ }
-{
-    let mut tail = [0u8; 1024];
-    encode::encode_instruction(source, table, labels, address, t, &mut tail)
-}
-
-// One of any length that a source has.
-fn encode_longest(source: &[u8], table: &[u32], labels: usize, address: u32, t: &[u8]) -> Code
-    requires { ⌜ Near (now source) (now table) labels address × (length (now t) ≤ maxSource) ⌝ }
-    ensures { λ r. ⌜ r ≡ codeOf (encodeBody (tableOf (now (source .entry)) (now (table .entry)) labels) address (instructionOf (now (t .entry)))) ⌝ }
-{
-    let mut tail = [0u8; rules::MAX_SOURCE];
-    encode::encode_instruction(source, table, labels, address, t, &mut tail)
-}
-
-// The words of an instruction, by the room that its tail takes.
-fn encode_text(source: &[u8], table: &[u32], labels: usize, address: u32, t: &[u8]) -> Code
-    requires { ⌜ Near (now source) (now table) labels address × (length (now t) ≤ maxSource) ⌝ }
-    ensures { λ r. ⌜ r ≡ codeOf (encodeBody (tableOf (now (source .entry)) (now (table .entry)) labels) address (instructionOf (now (t .entry)))) ⌝ }
-{
-    if t.len() <= 64 {
-        return encode_short(source, table, labels, address, t);
-    }
-    if t.len() <= 1024 {
-        return encode_long(source, table, labels, address, t);
-    }
-    encode_longest(source, table, labels, address, t)
-}
-
 // The words of a line's instruction, if it has one.
 fn instruction_code(
     source: &[u8],
@@ -115,7 +72,14 @@ fn instruction_code(
             Body::Instruction(span) => {
                 let a = span.start;
                 let b = span.end;
-                encode_text(source, table, labels, address, &line[a..b])
+                let answer = encode::encode_instruction(
+                    source,
+                    table,
+                    labels,
+                    address,
+                    &line[a..b],
+                );
+                answer.code
             }
         },
     }

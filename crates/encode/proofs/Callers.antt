@@ -1,24 +1,19 @@
--- For callers: an instruction's code has all its places, how many words it has, and the scratch keeps its length. Assumes nothing.
-use Prim.Native.Nat.{ℕ, _≤_}
+-- For callers: an instruction's code has all its places, and how many words it has. Assumes nothing.
+use Prim.Native.Nat.{ℕ}
 use mathlib.Core.Path.{_≡_, refl}
 use mathlib.Core.Bool.{Bool, true, false, cond}
 use mathlib.Core.Option.{Option, none, Option·getD}
 use mathlib.Core.List.{List, [], _∷_}
-use native.Mathlib.Omega.{arith}
-use lib.ListN.{length, drop, length-drop}
-use Rattle.rules.specs.Text.{Text, bytes, uppers, after, pieces, joined, firstText, otherTexts}
+use lib.ListN.{length}
+use Rattle.rules.specs.Text.{Text, bytes, after}
 use Rattle.rules.specs.Line.{Body, bare, directive, instruction}
 use Rattle.rules.specs.Label.{Table}
 use Rattle.rules.specs.Encode.{Cell, Operation, moveq, move, movea, muls, tst, subq, asl, dbra, nop, simhalt, add, sub, cmp, jmp, branch}
 use Rattle.rules.specs.Encode.{mnemonics, operationIn, dataRegister, addressRegister, two, one, oneOrMore, displacement, isSome, jumps, encodeMove, encodeOperation, encode}
-use Rattle.rules.specs.Assemble.{over, placeOf, placesAt, codeCells}
-use Rattle.instruction.specs.FirstPiece.{headParts, headOf}
-use Rattle.instruction.proofs.Lists.{length-over}
-use Rattle.instruction.proofs.FirstPiece.{head-of}
-use Rattle.instruction.proofs.Tail.{joined-le}
+use Rattle.rules.specs.Assemble.{placeOf, placesAt, codeCells}
 use Rattle.encode.specs.Code.{codeOf, placesOf, codeLength}
 use Rattle.encode.specs.Rows.{registersRow, moveqRow, quickRow, highRow, lowRow, fromIndirect, toIndirect, fromLabel, toLabel}
-use Rattle.encode.specs.Body.{encodeBody, encodeScratch}
+use Rattle.encode.specs.Body.{encodeBody}
 use Rattle.encode.specs.declared.Code.{Code}
 use Rattle.encode.specs.declared.Code.the-variants.{Nothing, Word, Value, Label}
 use Rattle.encode.proofs.Shaped.{Shaped, no-word, one-word, with-value, with-address, shaped-bind, shaped-else, shaped-label, shaped-high, shaped-low, shaped-registers, shaped-quick, shaped-moveq, shaped-from-indirect, shaped-to-indirect, shaped-from-label, shaped-to-label}
@@ -99,18 +94,3 @@ code-words a Nothing = refl
 code-words a (Word w) = refl
 code-words a (Value w v) = refl
 code-words a (Label w x) = refl
-
--- ---- the scratch
-pub length-scratch : (t old : Text) → length t ≤ length old → length (encodeScratch t old) ≡ length old
-unfolding encodeScratch
-length-scratch t old p = go (isSome (operationIn mnemonics (uppers (firstText (headParts t)))))
-  where
-    tail : Text
-    tail = joined (otherTexts (pieces t))
-
-    short : length tail ≤ length old
-    short = omega (arith, rw (head-of t (headOf t) refl .others) at (joined-le (drop (headOf t .tail) t)), length-drop (headOf t .tail) t)
-
-    go : (y : Bool) → length (cond y (over tail old) old) ≡ length old
-    go true = length-over tail old (over tail old) refl short
-    go false = refl

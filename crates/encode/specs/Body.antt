@@ -1,21 +1,21 @@
--- The words of an operation and of an instruction, and the scratch after it was encoded. Assumes nothing.
+-- The words and the size of an operation and of an instruction. Assumes nothing.
 use Prim.Native.Nat.{ℕ, _<_}
 use mathlib.Core.Path.{_≡_}
-use mathlib.Core.Bool.{cond}
 use mathlib.Core.Option.{Option, none, bind}
 use mathlib.Core.List.{List}
-use Rattle.rules.specs.Text.{Text, uppers, pieces, joined, firstText, otherTexts}
+use Rattle.rules.specs.Text.{Text}
 use Rattle.rules.specs.Line.{Body, bare, directive, instruction}
 use Rattle.rules.specs.Label.{Table}
-use Rattle.rules.specs.Encode.{Cell, mnemonics, operationIn, isSome, encodeOperation, encode}
+use Rattle.rules.specs.Encode.{Cell, encodeOperation, encode}
 use Rattle.rules.specs.Encode.{Operation as Ruled}
-use Rattle.rules.specs.Assemble.{over}
 use Rattle.opcode.specs.Operation.{operationOf}
 use Rattle.opcode.specs.declared.mnemonic.Operation.{Operation}
 use Rattle.opcode.specs.declared.mnemonic.Operation.the-variants.{Branch}
-use Rattle.instruction.specs.FirstPiece.{headParts}
+use Rattle.instruction.specs.Size.{sizeBy}
+use Rattle.instruction.specs.declared.SizeRule.{SizeRule}
 use Rattle.encode.specs.Code.{codeOf}
 use Rattle.encode.specs.declared.Code.{Code}
+use Rattle.encode.specs.declared.Encoded.{Encoded}
 
 -- a branch's condition has 4 bits
 abbrev pub Conditioned : Operation → Type 0
@@ -25,12 +25,13 @@ Conditioned o = (k : ℕ) → o ≡ Branch k → k < 16
 abbrev pub Encodes : Code → Table → ℕ → Operation → List Text → Type 0
 Encodes r ls a o ps = (q : Option Ruled) → o ≡ operationOf q → r ≡ codeOf (bind q (λ p. encodeOperation ls a p ps))
 
+-- r is that code, and the size by the rule k
+pub record Answers (r : Encoded) (ls : Table) (a : ℕ) (o : Operation) (k : SizeRule) (ps : List Text) : Type 0 where
+  pub code : Encodes (r .code) ls a o ps
+  pub size : r .size ≡ sizeBy k ps
+
 -- the words of an instruction; there are none of other bodies
 unfoldable pub encodeBody : Table → ℕ → Body → Option (List Cell)
 encodeBody ls a bare = none
 encodeBody ls a (directive n v) = none
 encodeBody ls a (instruction m f ps) = encode ls a m ps
-
--- the joined tail, if the mnemonic names an operation
-unfoldable pub encodeScratch : Text → Text → Text
-encodeScratch t old = cond (isSome (operationIn mnemonics (uppers (firstText (headParts t))))) (over (joined (otherTexts (pieces t))) old) old

@@ -1,22 +1,26 @@
-// One instruction to its words, by value. The functions keep the names of the Rust original.
+// One instruction to its words and its size, by value. The functions keep the names of the Rust original.
 ghost use mathlib.Core.Path.{_≡_};
 ghost use Prim.Native.Nat.{_≤_};
 ghost use lib.ListN.{length};
-ghost use Rattle.rules.specs.Line.{instructionOf};
+ghost use Rattle.rules.specs.Limits.{maxSource};
+ghost use Rattle.rules.specs.Line.{instructionOf, size};
 ghost use Rattle.label.specs.Table.{tableOf};
-ghost use Rattle.instruction.specs.Split.{operandsIn};
+ghost use Rattle.instruction.specs.Split.{operandsIn, operandsAt};
 ghost use Rattle.encode.specs.Code.{codeOf};
 ghost use Rattle.encode.specs.Rows.{twoRows};
 ghost use Rattle.encode.specs.Near.{Near};
-ghost use Rattle.encode.specs.Body.{Conditioned, Encodes, encodeBody, encodeScratch};
+ghost use Rattle.encode.specs.Body.{Conditioned, Encodes, Answers, encodeBody};
 use branch::encode_branch;
 use branch::encode_dbra;
+use copied::encode_copied;
 use form::encode_cmp;
 use form::encode_moveq;
 use form::encode_muls;
 use form::encode_quick;
 use form::encode_registers;
 use form::encode_tst;
+use instruction::Operands;
+use instruction::SizeRule;
 use labelled::encode_jump;
 use labelled::encode_move;
 use labelled::encode_movea;
@@ -25,6 +29,7 @@ use opcode::mnemonic::Operation;
 mod form; // form.rt: registers and immediates
 mod labelled; // labelled.rt: MOVE, MOVEA, JMP
 mod branch; // branch.rt: branches and DBRA
+mod copied; // copied.rt: an instruction by a copy of its tail
 
 // The words of an instruction: the second an extension word, a value or a label's address.
 pub enum Code {
@@ -32,6 +37,12 @@ pub enum Code {
     Word(u16),
     Value(u16, u16),
     Label(u16, u16),
+}
+
+// An instruction's words, and how many bytes it takes: the size goes by the text, also where there are no words.
+pub struct Encoded {
+    pub code: Code,
+    pub size: u32,
 }
 
 // Forms of exactly two operands.
@@ -67,16 +78,18 @@ fn encode_two(
     }
 }
 
-// The words of an operation, its operands in `tail`: counts are exact, but a branch needs one or more and two forms take any.
+// The words of an operation, its operands `found` in `tail`: counts are exact, but a branch needs one or more and two forms take any.
 fn encode_operation(
     source: &[u8],
     table: &[u32],
     labels: usize,
     address: u32,
     o: Operation,
+    found: Operands,
     tail: &[u8],
 ) -> Code
     requires { ⌜ Near (now source) (now table) labels address × Conditioned o ⌝ }
+    requires { ⌜ found ≡ operandsAt (now tail) ⌝ }
     ensures { λ r. ⌜ Encodes r (tableOf (now (source .entry)) (now (table .entry)) labels) address o (operandsIn (now (tail .entry))) ⌝ }
 {
     if let Operation::Nop = o {
@@ -85,7 +98,6 @@ fn encode_operation(
     if let Operation::Simhalt = o {
         return Code::Word(0x4E72);
     }
-    let found = instruction::split_operands(tail);
     let count = found.count;
     let a = found.first.start;
     let b = found.first.end;
@@ -116,27 +128,46 @@ fn encode_operation(
     encode_two(source, table, labels, address, o, s, &tail[c..d])
 }
 
-// The words of the instruction whose text is `t`; its tail is joined in `scratch`.
+// The words and the size of an operation, its operands cut once from `tail`.
+fn encode_tail(
+    source: &[u8],
+    table: &[u32],
+    labels: usize,
+    address: u32,
+    o: Operation,
+    rule: SizeRule,
+    tail: &[u8],
+) -> Encoded
+    requires { ⌜ Near (now source) (now table) labels address × Conditioned o ⌝ }
+    ensures { λ r. ⌜ Answers r (tableOf (now (source .entry)) (now (table .entry)) labels) address o rule (operandsIn (now (tail .entry))) ⌝ }
+{
+    let found = instruction::split_operands(tail);
+    let size = instruction::size_of(rule, found, tail);
+    let code = encode_operation(source, table, labels, address, o, found, tail);
+    Encoded { code, size }
+}
+
+// The words and the size of the instruction whose text is `t`; its tail is copied only where it does not stand joined.
 pub fn encode_instruction(
     source: &[u8],
     table: &[u32],
     labels: usize,
     address: u32,
     t: &[u8],
-    scratch: &mut [u8],
-) -> Code
-    requires { ⌜ Near (now source) (now table) labels address × (length (now t) ≤ length (now scratch)) ⌝ }
-    ensures { λ r. ⌜ r ≡ codeOf (encodeBody (tableOf (now (source .entry)) (now (table .entry)) labels) address (instructionOf (now (t .entry)))) ⌝ }
-    ensures { λ _. ⌜ now (scratch .exit) ≡ encodeScratch (now (t .entry)) (now (scratch .entry)) ⌝ }
+) -> Encoded
+    requires { ⌜ Near (now source) (now table) labels address × (length (now t) ≤ maxSource) ⌝ }
+    ensures { λ r. ⌜ r .code ≡ codeOf (encodeBody (tableOf (now (source .entry)) (now (table .entry)) labels) address (instructionOf (now (t .entry)))) ⌝ }
+    ensures { λ r. ⌜ r .size ≡ size (instructionOf (now (t .entry))) ⌝ }
 {
     let head = instruction::read_head(t);
     let a = head.start;
     let b = head.end;
-    let o = opcode::mnemonic::find_operation(&t[a..b]);
-    if let Operation::Unknown = o {
-        return Code::Nothing;
+    let mnemonic = &t[a..b];
+    let o = opcode::mnemonic::find_operation(mnemonic);
+    let rule = instruction::sized(mnemonic, head.long);
+    let start = text::skip_blanks(t, head.tail);
+    if instruction::is_joined(t, start) {
+        return encode_tail(source, table, labels, address, o, rule, &t[start..]);
     }
-    let n = instruction::join_pieces(t, head.tail, scratch);
-    let tail = &scratch[..n];
-    encode_operation(source, table, labels, address, o, tail)
+    encode_copied(source, table, labels, address, o, rule, t, head.tail)
 }

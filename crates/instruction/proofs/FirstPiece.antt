@@ -12,7 +12,6 @@ use lib.ListN.{length, length-take, take, drop, getD, length-drop, drop-of-lengt
 use lib.Seq.{length-take-le, take-nil, take-take}
 use Rattle.rules.specs.Text.{Text, bytes, uppers, leading, cutWhere, cutAt, onFirst, dropEmpty, pieces, joined, same, nth, firstText, otherTexts}
 use Rattle.rules.specs.Line.{instruction, operandsOf, instructionOf, isL}
-use Rattle.rules.specs.Assemble.{over}
 use Rattle.text.specs.Pieces.{until, run, nextPiece}
 use Rattle.text.specs.Find.{indexOf, foundOf}
 use Rattle.text.specs.declared.Span.{Span}
@@ -26,7 +25,6 @@ use Rattle.text.proofs.Find.{Indexed, found-at, found-nowhere}
 use Rattle.instruction.specs.FirstPiece.{part, suffixOf, firstIsL, headOf, HeadOf}
 use Rattle.instruction.specs.Split.{operandsIn}
 use Rattle.instruction.specs.declared.Head.{Head}
-use Rattle.instruction.proofs.Lists.{take-over}
 
 -- ---- where the first piece stands
 pub record Piece (t : Text) (r : Span) : Type 0 where
@@ -188,8 +186,3 @@ module _ (t : Text) (h : Head) (e : h ≡ headOf t) where
   pub instruction-read : instructionOf t ≡ instruction (uppers (part (h .start) (h .end) t)) (suffixOf t) (operandsIn (joined (pieces (drop (h .tail) t))))
   unfolding instructionOf
   instruction-read = rw (head-of .mnemonic, operands-read)
-
-  -- the same with the joined tail as `join_pieces` leaves it, n bytes at the front of l
-  pub instruction-joined : (n : ℕ) (old l : Text) → n ≡ length (joined (pieces (drop (h .tail) t))) → l ≡ over (joined (pieces (drop (h .tail) t))) old
-      → instructionOf t ≡ instruction (uppers (part (h .start) (h .end) t)) (suffixOf t) (operandsIn (take n l))
-  instruction-joined n old l p q = rw (take-over (joined (pieces (drop (h .tail) t))) old l n q p) instruction-read

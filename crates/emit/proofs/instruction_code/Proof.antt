@@ -27,17 +27,17 @@ enum-told-5 c = search needs
 enum-known-body : tie.Need-enum-known-body
 enum-known-body c = search needs
 
-sub-encode-text : tie.Need-sub-encode-text
-sub-encode-text c = span-in _ _ _ _ (c .before .before .before .before .read .given .1) _ (c .before .body .given .1) (c .before .before .before .before .before .before .before .before .before .pre .within) .ordered
+sub-encode-instruction : tie.Need-sub-encode-instruction
+sub-encode-instruction c = span-in _ _ _ _ (c .before .before .before .before .read .given .1) _ (c .before .body .given .1) (c .before .before .before .before .before .before .before .before .before .pre .within) .ordered
 
-part-encode-text-start : tie.Need-part-encode-text-start
-part-encode-text-start c = let h = span-in _ _ _ _ (c .before .before .before .before .read .given .1) _ (c .before .body .given .1) (c .before .before .before .before .before .before .before .before .before .pre .within) in search needs
+part-encode-instruction-start : tie.Need-part-encode-instruction-start
+part-encode-instruction-start c = let h = span-in _ _ _ _ (c .before .before .before .before .read .given .1) _ (c .before .body .given .1) (c .before .before .before .before .before .before .before .before .before .pre .within) in search needs
 
-part-encode-text-end : tie.Need-part-encode-text-end
-part-encode-text-end c = let h = span-in _ _ _ _ (c .before .before .before .before .read .given .1) _ (c .before .body .given .1) (c .before .before .before .before .before .before .before .before .before .pre .within) in search needs
+part-encode-instruction-end : tie.Need-part-encode-instruction-end
+part-encode-instruction-end c = let h = span-in _ _ _ _ (c .before .before .before .before .read .given .1) _ (c .before .body .given .1) (c .before .before .before .before .before .before .before .before .before .pre .within) in search needs
 
-encode-text-requires : tie.Need-encode-text-requires
-encode-text-requires c κs = (c .before .before .before .before .before .before .before .before .before .before .pre .near, let h = span-in _ _ _ _ (c .before .before .before .before .before .read .given .1) _ (c .before .before .body .given .1) (c .before .before .before .before .before .before .before .before .before .before .pre .within) in let s = c .before .before .before .before .before .before .before .before .before .before .pre .short in simp (length-take, length-drop) (omega arith))
+encode-instruction-requires : tie.Need-encode-instruction-requires
+encode-instruction-requires c κs = (c .before .before .before .before .before .before .before .before .before .before .pre .near, let h = span-in _ _ _ _ (c .before .before .before .before .before .read .given .1) _ (c .before .before .body .given .1) (c .before .before .before .before .before .before .before .before .before .before .pre .within) in let s = c .before .before .before .before .before .before .before .before .before .before .pre .short in simp (length-take, length-drop) (omega arith))
 
 returns : tie.Need-returns
 returns c = no-code _ _ _ (body-skipped _ _ (c .enum-told .given .1))
@@ -55,7 +55,7 @@ returns-5 : tie.Need-returns-5
 returns-5 c = data-no-code _ _ _ _ _ (body-data _ _ _ _ (c .before .before .before .read .given .1) _ _ (c .enum-told5 .given .1))
 
 returns-6 : tie.Need-returns-6
-returns-6 c = body-code _ _ _ _ _ (body-instruction (c .before .before .before .before .before .before .before .before .before .before .before .args .line .now) _ _ _ (c .before .before .before .before .before .before .read .given .1) _ (c .before .before .before .body .given .1)) (c .encode-text .ensures)
+returns-6 c = body-code _ _ _ _ _ (body-instruction (c .before .before .before .before .before .before .before .before .before .before .before .args .line .now) _ _ _ (c .before .before .before .before .before .before .read .given .1) _ (c .before .before .before .body .given .1)) (c .encode-instruction .ensures .0)
 
 pub instruction-code-spec : {M : Type 1} → statement M
 instruction-code-spec =
@@ -68,10 +68,10 @@ instruction-code-spec =
     enum-told-4
     enum-told-5
     enum-known-body
-    sub-encode-text
-    part-encode-text-start
-    part-encode-text-end
-    encode-text-requires
+    sub-encode-instruction
+    part-encode-instruction-start
+    part-encode-instruction-end
+    encode-instruction-requires
     returns
     returns-2
     returns-3

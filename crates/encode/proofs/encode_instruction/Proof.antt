@@ -1,55 +1,61 @@
--- `encode_instruction` meets its contract: the tail is read only where the mnemonic names an operation. Assumes nothing.
+-- `encode_instruction` meets its contract: by the head, and by the tail in place or a copy of it. Assumes nothing.
 use borrow.Author.Needs.{needs}
-use mathlib.Core.Path.{sym}
 use native.Mathlib.Omega.{arith}
-use lib.Seq.{length-take-le}
-use Rattle.instruction.proofs.Lists.{over-room}
 use Rattle.instruction.proofs.FirstPiece.{head-of}
-use Rattle.encode.proofs.Instructions.{conditioned, unknown, encoded}
+use Rattle.instruction.proofs.Joined.{start-within}
+use Rattle.encode.proofs.Instructions.{conditioned, encoded, encoded-there}
 use Rattle.encode.proofs.encode_instruction.Statement.{statement}
 use Rattle.encode.proofs.encode_instruction.Tie as tie
 
-sub-find-operation : tie.Need-sub-find-operation
-sub-find-operation c = head-of _ _ (c .read-head .ensures) .ordered
+sub-mnemonic : tie.Need-sub-mnemonic
+sub-mnemonic c = head-of _ _ (c .read-head .ensures) .ordered
 
-part-find-operation-start : tie.Need-part-find-operation-start
-part-find-operation-start c = omega (arith, head-of _ _ (c .read-head .ensures))
+part-mnemonic-start : tie.Need-part-mnemonic-start
+part-mnemonic-start c = omega (arith, head-of _ _ (c .read-head .ensures))
 
-part-find-operation-end : tie.Need-part-find-operation-end
-part-find-operation-end c = omega (arith, head-of _ _ (c .read-head .ensures))
+part-mnemonic-end : tie.Need-part-mnemonic-end
+part-mnemonic-end c = omega (arith, head-of _ _ (c .read-head .ensures))
+
+skip-blanks-requires : tie.Need-skip-blanks-requires
+skip-blanks-requires c κs = head-of _ _ (c .before .before .before .read-head .ensures) .within
+
+is-joined-requires : tie.Need-is-joined-requires
+is-joined-requires c κs = omega (arith, start-within _ _ _ (c .skip-blanks .ensures) (head-of _ _ (c .before .before .before .before .read-head .ensures) .within))
+
+sub-encode-tail : tie.Need-sub-encode-tail
+sub-encode-tail c = start-within _ _ _ (c .before .before .skip-blanks .ensures) (head-of _ _ (c .before .before .before .before .before .before .read-head .ensures) .within)
+
+part-encode-tail-start : tie.Need-part-encode-tail-start
+part-encode-tail-start c = omega (arith, start-within _ _ _ (c .before .before .skip-blanks .ensures) (head-of _ _ (c .before .before .before .before .before .before .read-head .ensures) .within))
+
+encode-tail-requires : tie.Need-encode-tail-requires
+encode-tail-requires c κs = (c .before .before .before .before .before .before .before .before .before .before .before .pre .0, conditioned _ _ (c .before .before .before .before .before .before .before .read-head .ensures) (c .before .before .before .before .before .find-operation .ensures))
 
 returns : tie.Need-returns
-returns c = unknown _ _ (c .before .before .before .before .read-head .ensures) (c .before .before .find-operation .ensures) _ _ _ (c .enum-told .given .1)
+returns c = encoded-there _ _ (c .before .before .before .before .before .before .before .before .read-head .ensures) (c .before .before .before .before .before .before .find-operation .ensures) (c .before .before .before .before .before .sized .ensures) (c .before .before .before .before .skip-blanks .ensures) (c .before .before .before .is-joined .ensures) (c .before .before .if1 .taken) (c .encode-tail .ensures)
 
-join-pieces-requires : tie.Need-join-pieces-requires
-join-pieces-requires c κs = (head-of _ _ (c .before .before .before .before .read-head .ensures) .within, c .before .before .before .before .before .before .before .before .before .pre .1)
-
-slice-reshare-prefix-tail : tie.Need-slice-reshare-prefix-tail
-slice-reshare-prefix-tail c = over-room _ _ _ _ (c .before .before .join-pieces .ensures .1) (c .before .before .join-pieces .ensures .0)
-
-slice-aggregate-tail : tie.Need-slice-aggregate-tail
-slice-aggregate-tail c = sym (length-take-le _ _ (over-room _ _ _ _ (c .before .before .before .join-pieces .ensures .1) (c .before .before .before .join-pieces .ensures .0)))
-
-encode-operation-requires : tie.Need-encode-operation-requires
-encode-operation-requires c κs = (c .before .before .before .before .before .before .before .before .before .before .before .before .before .pre .0, conditioned _ _ (c .before .before .before .before .before .before .before .before .read-head .ensures) (c .before .before .before .before .before .before .find-operation .ensures))
+encode-copied-requires : tie.Need-encode-copied-requires
+encode-copied-requires c κs = ((c .before .before .before .before .before .before .before .before .before .before .pre .0, conditioned _ _ (c .before .before .before .before .before .before .read-head .ensures) (c .before .before .before .before .find-operation .ensures)), (head-of _ _ (c .before .before .before .before .before .before .read-head .ensures) .within, c .before .before .before .before .before .before .before .before .before .before .pre .1))
 
 returns-2 : tie.Need-returns-2
-returns-2 c = encoded _ _ (c .before .before .before .before .before .before .before .before .before .read-head .ensures) (c .before .before .before .before .before .before .before .find-operation .ensures) _ _ _ _ _ (c .before .before .before .before .before .before .match .keys2) (c .before .before .before .before .join-pieces .ensures .0) (c .before .before .before .before .join-pieces .ensures .1) (c .encode-operation .ensures)
+returns-2 c = encoded _ _ (c .before .before .before .before .before .before .before .read-head .ensures) (c .before .before .before .before .before .find-operation .ensures) (c .before .before .before .before .sized .ensures) (c .encode-copied .ensures)
 
 pub encode-instruction-spec : {M : Type 1} → statement M
 encode-instruction-spec =
     tie.close
     (tie.spec
     (λ c κs. search needs)
-    sub-find-operation
-    part-find-operation-start
-    part-find-operation-end
+    sub-mnemonic
+    part-mnemonic-start
+    part-mnemonic-end
     (λ c κs. search needs)
+    (λ c κs. search needs)
+    skip-blanks-requires
+    is-joined-requires
+    sub-encode-tail
+    part-encode-tail-start
     (λ c. search needs)
+    encode-tail-requires
     returns
-    join-pieces-requires
-    slice-reshare-prefix-tail
-    slice-aggregate-tail
-    encode-operation-requires
-    (λ c. search needs)
+    encode-copied-requires
     returns-2)

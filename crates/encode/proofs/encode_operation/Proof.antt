@@ -7,11 +7,11 @@ use Rattle.encode.proofs.encode_operation.Statement.{statement}
 use Rattle.encode.proofs.encode_operation.Tie as tie
 
 -- an operation that none of the tests takes
-paired : (c : tie.At-match5-keys2) → Paired (c .before .before .before .before .before .before .before .before .before .before .args .o)
+paired : (c : tie.At-match5-keys2) → Paired (c .before .before .before .before .before .before .before .before .before .args .o)
 paired c =
     record {
-      not-nop = c .before .before .before .before .before .before .match .keys2;
-      not-simhalt = c .before .before .before .before .before .match2 .keys2;
+      not-nop = c .before .before .before .before .before .match .keys2;
+      not-simhalt = c .before .before .before .before .match2 .keys2;
       not-branch = c .before .before .match3 .keys2;
       not-tst = c .before .match4 .keys2;
       not-jmp = c .match5 .keys2;
@@ -24,55 +24,55 @@ returns-2 : tie.Need-returns-2
 returns-2 c = simhalt _ _ _ (c .enum-told2 .given .1)
 
 sub-s : tie.Need-sub-s
-sub-s c = first-lies _ _ (c .split-operands .ensures) .0
+sub-s c = first-lies _ _ (c .before .before .before .before .before .pre .1) .0
 
 part-s-start : tie.Need-part-s-start
-part-s-start c = omega (arith, first-lies _ _ (c .split-operands .ensures))
+part-s-start c = omega (arith, first-lies _ _ (c .before .before .before .before .before .pre .1))
 
 part-s-end : tie.Need-part-s-end
-part-s-end c = first-lies _ _ (c .split-operands .ensures) .1
+part-s-end c = first-lies _ _ (c .before .before .before .before .before .pre .1) .1
 
 returns-3 : tie.Need-returns-3
-returns-3 c = branch-none _ _ _ _ (c .before .before .before .before .before .split-operands .ensures) (c .before .before .o .given .1) (c .if1 .taken)
+returns-3 c = branch-none _ _ _ _ (c .before .before .before .before .before .before .before .before .before .before .pre .1) (c .before .before .o .given .1) (c .if1 .taken)
 
 encode-branch-requires : tie.Need-encode-branch-requires
-encode-branch-requires c κs = (c .before .before .before .before .before .before .before .before .before .before .before .pre .0, c .before .before .before .before .before .before .before .before .before .before .before .pre .1 _ (c .before .before .o .given .1))
+encode-branch-requires c κs = (c .before .before .before .before .before .before .before .before .before .before .pre .0 .0, c .before .before .before .before .before .before .before .before .before .before .pre .0 .1 _ (c .before .before .o .given .1))
 
 returns-4 : tie.Need-returns-4
-returns-4 c = branch-some _ _ _ _ (c .before .before .before .before .before .before .split-operands .ensures) (c .before .before .before .o .given .1) (c .before .if1 .left) (c .encode-branch .ensures)
+returns-4 c = branch-some _ _ _ _ (c .before .before .before .before .before .before .before .before .before .before .before .pre .1) (c .before .before .before .o .given .1) (c .before .if1 .left) (c .encode-branch .ensures)
 
 returns-5 : tie.Need-returns-5
-returns-5 c = tst-none _ _ _ _ (c .before .before .before .before .before .split-operands .ensures) (c .before .enum-told3 .given .1) (c .if2 .taken)
+returns-5 c = tst-none _ _ _ _ (c .before .before .before .before .before .before .before .before .before .before .pre .1) (c .before .enum-told3 .given .1) (c .if2 .taken)
 
 returns-6 : tie.Need-returns-6
-returns-6 c = tst-one _ _ _ _ (c .before .before .before .before .before .before .split-operands .ensures) (c .before .before .enum-told3 .given .1) (c .before .if2 .left) (c .encode-tst .ensures)
+returns-6 c = tst-one _ _ _ _ (c .before .before .before .before .before .before .before .before .before .before .before .pre .1) (c .before .before .enum-told3 .given .1) (c .before .if2 .left) (c .encode-tst .ensures)
 
 returns-7 : tie.Need-returns-7
-returns-7 c = jmp-none _ _ _ _ (c .before .before .before .before .before .before .split-operands .ensures) (c .before .enum-told4 .given .1) (c .if3 .taken)
+returns-7 c = jmp-none _ _ _ _ (c .before .before .before .before .before .before .before .before .before .before .before .pre .1) (c .before .enum-told4 .given .1) (c .if3 .taken)
 
 encode-jump-requires : tie.Need-encode-jump-requires
-encode-jump-requires c κs = c .before .before .before .before .before .before .before .before .before .before .before .before .pre .0 .held
+encode-jump-requires c κs = c .before .before .before .before .before .before .before .before .before .before .before .pre .0 .0 .held
 
 returns-8 : tie.Need-returns-8
-returns-8 c = jmp-one _ _ _ _ (c .before .before .before .before .before .before .before .split-operands .ensures) (c .before .before .enum-told4 .given .1) (c .before .if3 .left) (c .encode-jump .ensures)
+returns-8 c = jmp-one _ _ _ _ (c .before .before .before .before .before .before .before .before .before .before .before .before .pre .1) (c .before .before .enum-told4 .given .1) (c .before .if3 .left) (c .encode-jump .ensures)
 
 returns-9 : tie.Need-returns-9
-returns-9 c = no-pair _ _ _ _ (c .before .before .before .before .before .split-operands .ensures) (paired (c .before)) (c .if4 .taken)
+returns-9 c = no-pair _ _ _ _ (c .before .before .before .before .before .before .before .before .before .before .pre .1) (paired (c .before)) (c .if4 .taken)
 
 sub-encode-two : tie.Need-sub-encode-two
-sub-encode-two c = omega (arith, operands-of _ _ (c .before .before .before .before .before .split-operands .ensures) .second (omega arith))
+sub-encode-two c = omega (arith, operands-of _ _ (c .before .before .before .before .before .before .before .before .before .before .pre .1) .second (omega arith))
 
 part-encode-two-start : tie.Need-part-encode-two-start
-part-encode-two-start c = omega (arith, operands-of _ _ (c .before .before .before .before .before .split-operands .ensures) .second (omega arith))
+part-encode-two-start c = omega (arith, operands-of _ _ (c .before .before .before .before .before .before .before .before .before .before .pre .1) .second (omega arith))
 
 part-encode-two-end : tie.Need-part-encode-two-end
-part-encode-two-end c = omega (arith, operands-of _ _ (c .before .before .before .before .before .split-operands .ensures) .second (omega arith))
+part-encode-two-end c = omega (arith, operands-of _ _ (c .before .before .before .before .before .before .before .before .before .before .pre .1) .second (omega arith))
 
 encode-two-requires : tie.Need-encode-two-requires
-encode-two-requires c κs = c .before .before .before .before .before .before .before .before .before .before .before .before .pre .0
+encode-two-requires c κs = c .before .before .before .before .before .before .before .before .before .before .before .pre .0 .0
 
 returns-10 : tie.Need-returns-10
-returns-10 c = pair _ _ _ _ (c .before .before .before .before .before .before .before .split-operands .ensures) (paired (c .before .before .before)) (c .before .before .if4 .left) (c .encode-two .ensures)
+returns-10 c = pair _ _ _ _ (c .before .before .before .before .before .before .before .before .before .before .before .before .pre .1) (paired (c .before .before .before)) (c .before .before .if4 .left) (c .encode-two .ensures)
 
 pub encode-operation-spec : {M : Type 1} → statement M
 encode-operation-spec =
@@ -82,7 +82,6 @@ encode-operation-spec =
     returns
     (λ c. search needs)
     returns-2
-    (λ c κs. search needs)
     sub-s
     part-s-start
     part-s-end
