@@ -1,7 +1,7 @@
 -- `branch::encode_branch` meets its contract: the displacement is read. Assumes nothing.
 use native.Mathlib.Omega.{arith}
 use borrow.Author.Needs.{needs}
-use mathlib.Core.Path.{_≡_, sym, _∙_}
+use mathlib.Core.Path.{_≡_, sym, ap, _∙_}
 use mathlib.Core.Option.{some}
 use denote.Ref.{now}
 use mir.Syntax.{w8}
@@ -12,6 +12,7 @@ use Rattle.rules.specs.Encode.{displacement}
 use Rattle.label.specs.Table.{tableOf}
 use Rattle.numeral.proofs.Answers.{signed-some, signed-none}
 use Rattle.encode.specs.Code.{codeOf}
+use Rattle.encode.specs.declared.Code.the-variants.{Word}
 use Rattle.encode.specs.Rows.{branchRow}
 use Rattle.encode.proofs.Readings.{stops, goes}
 use Rattle.encode.proofs.branch.encode_branch.Statement.{statement}
@@ -39,7 +40,7 @@ branch-word-requires c κs = c .before .before .before .before .before .before .
 
 returns-2 : tie.Need-returns-2
 unfolding branchRow
-returns-2 c = goes codeOf _ _ (read (c .before .before)) (cc (c .branch-word .ensures, low (c .before)))
+returns-2 c = goes codeOf _ _ (read (c .before .before)) (ap Word (rw (low (c .before)) at (c .branch-word .ensures)))
 
 pub encode-branch-spec : {M : Type 1} → statement M
 encode-branch-spec =

@@ -1,5 +1,5 @@
 -- `form::encode_moveq` meets its contract: an immediate and a data register are read. Assumes nothing.
-use mathlib.Core.Path.{_≡_, sym, _∙_}
+use mathlib.Core.Path.{_≡_, sym, ap, _∙_}
 use mathlib.Core.Option.{some}
 use borrow.Author.Needs.{needs}
 use denote.Ref.{now}
@@ -10,6 +10,7 @@ use Rattle.numeral.proofs.Answers.{signed-none, signed-some}
 use Rattle.numeral.proofs.Bounds.{imm8-bound}
 use Rattle.opcode.proofs.Callers.{registered, unregistered, data-small}
 use Rattle.encode.specs.Code.{codeOf}
+use Rattle.encode.specs.declared.Code.the-variants.{Word}
 use Rattle.encode.specs.Rows.{moveqRow}
 use Rattle.encode.proofs.Readings.{stops, goes}
 use Rattle.encode.proofs.form.encode_moveq.Statement.{statement}
@@ -39,7 +40,7 @@ moveq-word-requires c κs = data-small _ _ (second (c .before))
 
 returns-3 : tie.Need-returns-3
 unfolding moveqRow
-returns-3 c = goes codeOf _ _ (first (c .before .before .before .before .before .before)) (goes codeOf _ _ (second (c .before .before)) (cc (c .moveq-word .ensures, low (c .before))))
+returns-3 c = goes codeOf _ _ (first (c .before .before .before .before .before .before)) (goes codeOf _ _ (second (c .before .before)) (ap Word (rw (low (c .before)) at (c .moveq-word .ensures))))
 
 pub encode-moveq-spec : {M : Type 1} → statement M
 encode-moveq-spec =
