@@ -34,11 +34,11 @@ unfolding isJoined
 joined-parts b s h = both _ _ h
 
 -- ---- cut at its blanks, it joins to itself
-joinMore-cut : (s : Text) → joinMore (cutWhere blank s) ≡ 32 ∷ joined (cutWhere blank s)
+pub joinMore-cut : (s : Text) → joinMore (cutWhere blank s) ≡ 32 ∷ joined (cutWhere blank s)
 unfolding joinMore joined
 joinMore-cut s = rw (cut-first blank s)
 
-joined-onFirst : (b : ℕ) (ps : List Text) → joined (onFirst b ps) ≡ b ∷ joined ps
+pub joined-onFirst : (b : ℕ) (ps : List Text) → joined (onFirst b ps) ≡ b ∷ joined ps
 unfolding joinMore joined onFirst
 joined-onFirst b [] = refl
 joined-onFirst b (p ∷ ps) = refl

@@ -4,4 +4,5 @@ pub mod Tail
 pub mod Joined
 pub mod Split
 pub mod Places
+pub mod Initials
 pub mod Size

@@ -3,27 +3,25 @@ use mathlib.Core.Path.{_≡_, refl, sym, _∙_}
 use mathlib.Core.Bool.{Bool, true, false, not, _&&_, _||_, cond, or-false}
 use mathlib.Core.Option.{Option}
 use mathlib.Core.List.{List, [], _∷_}
-use Prim.Native.Nat.{ℕ, _+_, _-_, _≤_, _<_}
+use Prim.Native.Nat.{ℕ, _-_, _≤_, _<_}
 use native.Mathlib.Omega.{arith}
 use borrow.Author.Tests.{ne-eqb, not-true}
 use lib.Dec.{eqb}
 use lib.ListN.{length, take, getD, drop}
-use Rattle.rules.specs.Text.{Text, bytes, uppers, leading, pieces, joined, same, starts, firstText, otherTexts, lastText}
+use Rattle.rules.specs.Text.{Text, bytes, uppers, pieces, joined, same, starts, firstText, otherTexts, lastText}
 use Rattle.rules.specs.Line.{instructionOf, operandsOf, isL, isPlain, isLong, instructionSize, size}
-use Rattle.rules.specs.Assemble.{over}
+use Rattle.text.proofs.Kept.{rest-is}
 use Rattle.text.proofs.Compare.{eqb-sym, same-is}
 use Rattle.instruction.specs.FirstPiece.{part, headOf}
-use Rattle.instruction.specs.Joined.{isJoined}
 use Rattle.instruction.specs.Split.{operandsIn, textAt, operandsAt}
 use Rattle.instruction.specs.Size.{sizedBy, hasOperands, isLongBy, sizeBy, sizedOf}
 use Rattle.instruction.specs.declared.Operands.{Operands}
 use Rattle.instruction.specs.declared.SizeRule.{SizeRule}
 use Rattle.instruction.specs.declared.SizeRule.the-variants.{Fixed, Immediate, Move}
 use Rattle.instruction.specs.declared.Head.{Head}
-use Rattle.instruction.proofs.Lists.{take-over}
 use Rattle.instruction.proofs.FirstPiece.{head-of}
-use Rattle.instruction.proofs.Joined.{joined-there}
 use Rattle.instruction.proofs.Places.{operands-of}
+use Rattle.instruction.proofs.Initials.{size-standing}
 
 -- ---- paper 01's test, mnemonic by mnemonic
 module _ (m : Text) (f : Option Text) (s t : Text) where
@@ -179,23 +177,18 @@ module _ (k : SizeRule) (t : Text) (o : Operands) (e : o ≡ operandsAt t) where
       pub size-two : y ≡ false → 2 ≡ sizeBy k (operandsIn t)
       size-two p = rw (← q, p) at size-many
 
--- ---- by a copy of the tail, the first n bytes of l
-pub size-copied : (k : SizeRule) (new old l : Text) (n : ℕ) {r : ℕ} → n ≡ length new → l ≡ over new old → r ≡ sizeBy k (operandsIn (take n l)) → r ≡ sizeBy k (operandsIn new)
-size-copied k new old l n m w a = rw (take-over new old l n w m) at a
-
 -- ---- the returns of `instruction_size`
 module _ (t : Text) (h : Head) (e : h ≡ headOf t) {k : SizeRule} (q : k ≡ sizedBy (uppers (part (h .start) (h .end) t)) (h .long)) where
   rule-is : k ≡ sizedOf t
   unfolding sizedOf
   rule-is = q ∙ rw (head-of t h e .mnemonic, head-of t h e .suffix)
 
-  -- by the joined tail, however it is come by
+  -- by the joined tail
   pub answer-by : {r : ℕ} → r ≡ sizeBy k (operandsIn (joined (pieces (drop (h .tail) t)))) → r ≡ size (instructionOf t)
   answer-by a = a ∙ rw (head-of t h e .others, rule-is) (sym (size-is t))
 
   pub answer-fixed : {y : Bool} → y ≡ hasOperands k → not y ≡ true → 2 ≡ size (instructionOf t)
   answer-fixed {y} u p = answer-by (size-fixed k _ (sym u ∙ not-true y p))
 
-  pub answer-there : {s : ℕ} {y : Bool} {r : ℕ} → s ≡ h .tail + leading (drop (h .tail) t) → y ≡ isJoined (drop s t) → y ≡ true
-      → r ≡ sizeBy k (operandsIn (take (length t - s) (drop s t))) → r ≡ size (instructionOf t)
-  answer-there {s} w j y a = answer-by (rw (joined-there t (h .tail) s w j y) at a)
+  pub answer-standing : {r : ℕ} → r ≡ sizeBy k (operandsIn (take (length t - h .tail) (drop (h .tail) t))) → r ≡ size (instructionOf t)
+  answer-standing a = answer-by (rw (rest-is t (h .tail)) at a ∙ size-standing k (drop (h .tail) t))

@@ -1,5 +1,6 @@
 // What an instruction's text says: its mnemonic and suffix, its operands, its size.
 // The operands are those of the joined tail: the text itself where it stands joined already, else a normalised copy.
+// The size is the same without: it goes by the first bytes of operands.
 use text::Span;
 ghost use mathlib.Core.Path.{_≡_};
 ghost use Prim.Native.Nat.{_+_, _≤_, _<_};
@@ -346,59 +347,7 @@ pub fn size_of(rule: SizeRule, o: Operands, tail: &[u8]) -> u32
     2
 }
 
-// The size by a copy of the tail that starts at `at`.
-fn size_joined(rule: SizeRule, t: &[u8], at: usize, scratch: &mut [u8]) -> u32
-    requires { ⌜ (at ≤ length (now t)) × (length (now t) ≤ length (now scratch)) ⌝ }
-    ensures { λ r. ⌜ r ≡ sizeBy rule (operandsIn (joined (pieces (drop at (now (t .entry)))))) ⌝ }
-    ensures { λ _. ⌜ now (scratch .exit) ≡ over (joined (pieces (drop at (now (t .entry))))) (now (scratch .entry)) ⌝ }
-{
-    let n = join_pieces(t, at, scratch);
-    let tail = &scratch[..n];
-    size_of(rule, split_operands(tail), tail)
-}
-
-// The same for a short text: the copy has little room, so that little is cleared.
-fn size_of_short(rule: SizeRule, t: &[u8], at: usize) -> u32
-    requires { ⌜ (at ≤ length (now t)) × (length (now t) ≤ 64) ⌝ }
-    ensures { λ r. ⌜ r ≡ sizeBy rule (operandsIn (joined (pieces (drop at (now (t .entry)))))) ⌝ }
-{
-    let mut scratch = [0u8; 64];
-    size_joined(rule, t, at, &mut scratch)
-}
-
-// For a longer one.
-fn size_of_long(rule: SizeRule, t: &[u8], at: usize) -> u32
-    requires { ⌜ (at ≤ length (now t)) × (length (now t) ≤ 1024) ⌝ }
-    ensures { λ r. ⌜ r ≡ sizeBy rule (operandsIn (joined (pieces (drop at (now (t .entry)))))) ⌝ }
-{
-    let mut scratch = [0u8; 1024];
-    size_joined(rule, t, at, &mut scratch)
-}
-
-// For one of any length that a source has.
-fn size_of_longest(rule: SizeRule, t: &[u8], at: usize) -> u32
-    requires { ⌜ (at ≤ length (now t)) × (length (now t) ≤ maxSource) ⌝ }
-    ensures { λ r. ⌜ r ≡ sizeBy rule (operandsIn (joined (pieces (drop at (now (t .entry)))))) ⌝ }
-{
-    let mut scratch = [0u8; rules::MAX_SOURCE];
-    size_joined(rule, t, at, &mut scratch)
-}
-
-// The size by a copy of the tail, in the room that it takes.
-fn size_of_copy(rule: SizeRule, t: &[u8], at: usize) -> u32
-    requires { ⌜ (at ≤ length (now t)) × (length (now t) ≤ maxSource) ⌝ }
-    ensures { λ r. ⌜ r ≡ sizeBy rule (operandsIn (joined (pieces (drop at (now (t .entry)))))) ⌝ }
-{
-    if t.len() <= 64 {
-        return size_of_short(rule, t, at);
-    }
-    if t.len() <= 1024 {
-        return size_of_long(rule, t, at);
-    }
-    size_of_longest(rule, t, at)
-}
-
-// How many bytes an instruction takes; the tail is copied only where it does not stand joined.
+// How many bytes an instruction takes; no copy is needed, for blanks do not change an operand's first byte.
 pub fn instruction_size(t: &[u8]) -> u32
     requires { ⌜ length (now t) ≤ maxSource ⌝ }
     ensures { λ r. ⌜ r ≡ size (instructionOf (now (t .entry))) ⌝ }
@@ -410,10 +359,7 @@ pub fn instruction_size(t: &[u8]) -> u32
     if !has_operands(rule) {
         return 2;
     }
-    let start = text::skip_blanks(t, head.tail);
-    if is_joined(t, start) {
-        let tail = &t[start..];
-        return size_of(rule, split_operands(tail), tail);
-    }
-    size_of_copy(rule, t, head.tail)
+    let start = head.tail;
+    let tail = &t[start..];
+    size_of(rule, split_operands(tail), tail)
 }
