@@ -3,11 +3,11 @@ use mathlib.Core.Path.{_≡_, refl, sym, ap, _∙_}
 use mathlib.Core.Bool.{Bool, true, false, false≢true}
 use mathlib.Core.Option.{Option, none, some}
 use mathlib.Core.List.{List, [], _∷_}
-use Prim.Native.Nat.{ℕ, suc, _+_, _*_, _≤_, _<_}
+use Prim.Native.Nat.{ℕ, suc, _+_, _-_, _*_, _≤_, _<_}
 use native.Mathlib.Omega.{arith}
 use borrow.Author.Tests.{lt-ltb, le-ltb}
 use lib.Dec.{ltb}
-use lib.ListN.{length, drop}
+use lib.ListN.{length, take, drop}
 use Rattle.rules.specs.Limits.{addressLimit}
 use Rattle.rules.specs.Text.{Text}
 use Rattle.rules.specs.Line.{Name, lineOf}
@@ -25,6 +25,7 @@ use Rattle.scan.specs.Walk.{addressAfter, bodyOf, isEnd, putAt}
 use Rattle.scan.specs.Scan.{Scan}
 use Rattle.scan.specs.declared.Scanned.{Scanned}
 use Rattle.scan.proofs.LineLaws.{next-line, last-line, more-lines, line-end-le}
+use Rattle.scan.proofs.Scanning.{scanned-says}
 use Rattle.collect.specs.declared.Collected.{Collected}
 use Rattle.collect.specs.declared.Collected.the-variants.{Done, Refused}
 use Rattle.collect.specs.declared.Progress.{Progress}
@@ -45,7 +46,7 @@ recorded-count none n e = absurd (false≢true cc)
 recorded-count (some t) n e = (t, refl, cc)
 
 module _ (source : Text) (base : ℕ) (cells : List ℕ) (p : Progress) (g : Setting source base cells) (v : Valid source cells p)
-    (s : Scanned) (c : Scan source (p .at) base (p .address) s) where
+    (s : Scanned) (c : Scan source (p .at) s) where
   -- the line, its labels so far, and the rest
   line : Text
   line = lineFrom source (p .at)
@@ -107,7 +108,8 @@ module _ (source : Text) (base : ℕ) (cells : List ℕ) (p : Progress) (g : Set
           stored = rw (next-line source (p .number) (p .at), stop-full base (p .address) table this _ h, ← names-said) (d .stored);
         }
 
-    module _ (n : ℕ) (e : answer ≡ Count n) where
+    module _ (n : ℕ) (e : answer ≡ Count n)
+        (later : ℕ) (says-later : later ≡ addressAfter base (p .address) (lineAt (take (s .end - p .at) (drop (p .at) source)) (s .read))) where
       -- the labels with this line's
       now : Table
       now = recordSome (p .at) (p .address) (namesRead source (p .at) (s .read)) table
@@ -119,23 +121,23 @@ module _ (source : Text) (base : ℕ) (cells : List ℕ) (p : Progress) (g : Set
           let z = record-some (p .at) (p .address) (namesRead source (p .at) (s .read)) table (k .0) (k .1) in
           (ap (λ ns. recordAll (p .at) (p .address) ns table) (sym names-said) ∙ k .1 ∙ ap some (sym z), k .2 ∙ ap length (sym z))
 
-      goes : step base (p .at) (p .address) table (lineOf line) ≡ next (s .after) now (bodyOf (lineOf line))
+      goes : step base (p .at) (p .address) table (lineOf line) ≡ next (later) now (bodyOf (lineOf line))
       unfolding line
-      goes = step-next base (p .at) (p .address) table (lineOf line) reads-on now (records .0) ∙ ap (λ x. next x now (bodyOf (lineOf line))) (sym (c .after))
+      goes = step-next base (p .at) (p .address) table (lineOf line) reads-on now (records .0) ∙ ap (λ x. next x now (bodyOf (lineOf line))) (sym (says-later ∙ ap (addressAfter base (p .address)) (scanned-says c)))
 
       -- the address is too high
-      pub stops-out : addressLimit ≤ s .after → Stopping source base cells p (Refused 5 (p .number)) after
+      pub stops-out : addressLimit ≤ later → Stopping source base cells p (Refused 5 (p .number)) after
       unfolding line table this now
       stops-out h =
-          let f = le-ltb (s .after) addressLimit h in
+          let f = le-ltb (later) addressLimit h in
           record {
-            answer = sym (ap (λ ls. collectedFrom (p .words) (firstPass base (p .address) table ls)) (next-line source (p .number) (p .at)) ∙ collected-out (p .words) base (p .address) table this _ (s .after) now (bodyOf (lineOf line)) goes f);
-            stored = rw (next-line source (p .number) (p .at), stop-out base (p .address) table this _ (s .after) now (bodyOf (lineOf line)) goes f) (d .stored);
+            answer = sym (ap (λ ls. collectedFrom (p .words) (firstPass base (p .address) table ls)) (next-line source (p .number) (p .at)) ∙ collected-out (p .words) base (p .address) table this _ (later) now (bodyOf (lineOf line)) goes f);
+            stored = rw (next-line source (p .number) (p .at), stop-out base (p .address) table this _ (later) now (bodyOf (lineOf line)) goes f) (d .stored);
           }
 
-      module _ (h : s .after < addressLimit) where
-        inside : ltb (s .after) addressLimit ≡ true
-        inside = lt-ltb (s .after) addressLimit h
+      module _ (h : later < addressLimit) where
+        inside : ltb (later) addressLimit ≡ true
+        inside = lt-ltb (later) addressLimit h
 
         -- the data words with this line's
         words-said : dataWords (s .read) ≡ length (dataPlaces (record { address = p .address; body = bodyOf (lineOf line) }))
@@ -144,16 +146,16 @@ module _ (source : Text) (base : ℕ) (cells : List ℕ) (p : Progress) (g : Set
 
         -- what is left behind this line
         left-more : (ls : List SourceLine) → linesFrom source (p .number) (p .at) ≡ this ∷ ls
-            → collectedFrom (p .words) (leftFrom source base cells p) ≡ collectedFrom (p .words + dataWords (s .read)) (firstPass base (s .after) now ls)
+            → collectedFrom (p .words) (leftFrom source base cells p) ≡ collectedFrom (p .words + dataWords (s .read)) (firstPass base (later) now ls)
         unfolding line table this
         left-more ls k =
             ap (λ x. collectedFrom (p .words) (firstPass base (p .address) table x)) k
-            ∙ collected-more (p .words) base (p .address) table this ls (s .after) now (bodyOf (lineOf line)) goes inside
-            ∙ ap (λ x. collectedFrom (p .words + x) (firstPass base (s .after) now ls)) (sym words-said)
+            ∙ collected-more (p .words) base (p .address) table this ls (later) now (bodyOf (lineOf line)) goes inside
+            ∙ ap (λ x. collectedFrom (p .words + x) (firstPass base (later) now ls)) (sym words-said)
 
-        labels-more : (ls : List SourceLine) → linesFrom source (p .number) (p .at) ≡ this ∷ ls → stopFrom source base cells p ≡ stopLabels base (s .after) now ls
+        labels-more : (ls : List SourceLine) → linesFrom source (p .number) (p .at) ≡ this ∷ ls → stopFrom source base cells p ≡ stopLabels base (later) now ls
         unfolding line table this
-        labels-more ls k = ap (stopLabels base (p .address) table) k ∙ stop-more base (p .address) table this ls (s .after) now (bodyOf (lineOf line)) goes inside
+        labels-more ls k = ap (stopLabels base (p .address) table) k ∙ stop-more base (p .address) table this ls (later) now (bodyOf (lineOf line)) goes inside
 
         -- no line is left
         pub stops-last : s .end ≡ length source → Stopping source base cells p (Done n (p .words + dataWords (s .read))) after
@@ -161,7 +163,7 @@ module _ (source : Text) (base : ℕ) (cells : List ℕ) (p : Progress) (g : Set
         stops-last z =
             let k = last-line source (p .number) (p .at) (omega (arith, c .ends, z)) in
             record {
-              answer = sym (left-more [] k ∙ collected-last (p .words + dataWords (s .read)) base (s .after) now ∙ ap (λ x. Done x (p .words + dataWords (s .read))) (sym (records .1)));
+              answer = sym (left-more [] k ∙ collected-last (p .words + dataWords (s .read)) base (later) now ∙ ap (λ x. Done x (p .words + dataWords (s .read))) (sym (records .1)));
               stored = rw (labels-more [] k) (d .stored);
             }
 
@@ -169,7 +171,7 @@ module _ (source : Text) (base : ℕ) (cells : List ℕ) (p : Progress) (g : Set
         unfolding now table
         held-now = ap (tableOf source after) (records .1) ∙ d .stored .table
 
-        pub goes-on : (s .end ≡ length source → ⊥) → Going source base cells p (record { at = s .end + 1; number = p .number + 1; address = s .after; labels = n; words = p .words + dataWords (s .read) }) after
+        pub goes-on : (s .end ≡ length source → ⊥) → Going source base cells p (record { at = s .end + 1; number = p .number + 1; address = later; labels = n; words = p .words + dataWords (s .read) }) after
         unfolding line this now table
         goes-on z =
             let b : s .end < length source = omega (arith, c .ends, line-end-le source (p .at) (v .inside)) in
@@ -199,5 +201,5 @@ module _ (source : Text) (base : ℕ) (cells : List ℕ) (p : Progress) (g : Set
           stops-last-with z = rw k (stops-last z)
 
           pub goes-on-with : (s .end ≡ length source → ⊥)
-              → Going source base cells p (record { at = s .end + 1; number = p .number + 1; address = s .after; labels = n; words = p .words + w }) after
+              → Going source base cells p (record { at = s .end + 1; number = p .number + 1; address = later; labels = n; words = p .words + w }) after
           goes-on-with z = rw k (goes-on z)

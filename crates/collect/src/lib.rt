@@ -126,7 +126,8 @@ fn collect_line(source: &[u8], base: u32, table: &mut [u32], p: Progress) -> Pac
     let at = p.at;
     let address = p.address;
     let number = p.number;
-    let s = scan::scan_line(source, at, base, address);
+    let s = scan::scan_line(source, at);
+    let end = s.end;
     let read = s.read;
     if is_end(read) {
         return Pace::Stop(Collected::Done(p.labels, p.words));
@@ -134,12 +135,11 @@ fn collect_line(source: &[u8], base: u32, table: &mut [u32], p: Progress) -> Pac
     let Recorded::Count(labels) = record_line(source, table, p.labels, at, read, address) else {
         return Pace::Stop(Collected::Refused(6, number));
     };
-    let after = s.after;
+    let after = scan::address_after(&source[at..end], read, base, address);
     if rules::ADDRESS_LIMIT as u64 <= after {
         return Pace::Stop(Collected::Refused(5, number));
     }
     let words = p.words + data_words(read);
-    let end = s.end;
     if end == source.len() {
         return Pace::Stop(Collected::Done(labels, words));
     }

@@ -4,7 +4,7 @@ use mathlib.Core.List.{[], _∷_}
 use Prim.Native.Nat.{ℕ, zero, suc, _+_, _-_, _≤_}
 use native.Mathlib.Omega.{arith}
 use lib.ListN.{length, take, drop, length-take, length-drop}
-use lib.Seq.{drop-drop, take-take, take-length, take-nil, length-take-le}
+use lib.Seq.{drop-drop, take-take, take-nil, length-take-le}
 use Rattle.rules.specs.Text.{Text, leading, trimEnd, trim}
 use Rattle.text.specs.declared.Span.{Span}
 use Rattle.text.proofs.Trim.{first-none, leading-none, leading-trim, drop-leading, trim-part, trim-le, trim-within}
@@ -31,14 +31,16 @@ module _ (t : Text) (a e : ℕ) where
   pub length-part : Part t a e → length (part t a e) ≡ e - a
   length-part p = rw (length-take-le (e - a) (drop a t) (rw (length-drop a t) (omega arith)))
 
-pub part-whole : (t : Text) → part t 0 (length t) ≡ t
-part-whole t = let z : length t - 0 ≡ length t = omega arith in rw (z, take-length t)
-
 -- ---- trimming
 -- the length that is left, by what stands behind the leading blanks
-kept-is : (t : Text) (s n : ℕ) → s ≡ leading t → n ≡ length (trimEnd (take (length t - s) (drop s t))) → n ≡ length (trim t)
+pub kept-is : (t : Text) (s n : ℕ) → s ≡ leading t → n ≡ length (trimEnd (take (length t - s) (drop s t))) → n ≡ length (trim t)
 unfolding trim
 kept-is t s n p q = q ∙ rw (rest-is t s, p, drop-leading t)
+
+-- with no blank in front, only those at the end go
+pub trim-kept : (t : Text) → leading t ≡ 0 → trim t ≡ trimEnd t
+unfolding trim
+trim-kept t z = rw (← drop-leading t, z)
 
 pub leading-take : (n : ℕ) (t : Text) → leading t ≡ 0 → leading (take n t) ≡ 0
 unfolding leading

@@ -1,22 +1,32 @@
--- What the steps hand to each other: parts of a line, labels so far, and step 5's label and directive. Assumes nothing.
+-- What the steps hand to each other: parts of a line, labels so far, the label and what is behind it. Assumes nothing.
 use mathlib.Core.Path.{_≡_}
-use Prim.Native.Nat.{ℕ, zero, suc, _+_, _≤_}
+use Prim.Native.Nat.{ℕ, zero, suc, _+_, _≤_, _<_}
 use mathlib.Core.List.{List, _++_}
+use lib.Dec.{eqb}
 use lib.ListN.{length, take, drop}
 use Rattle.rules.specs.Text.{Text, uppers, leading, trim}
-use Rattle.rules.specs.Line.{Name, item, dataSize, dataValue, dataBody, nonempty, dataLine}
+use Rattle.rules.specs.Line.{Name, item, bare, dataSize, dataValue, dataBody, nonempty, dataLine, restLine, labelLine}
 use Rattle.text.specs.declared.Span.{Span}
+use Rattle.text.specs.Pieces.{until}
 use Rattle.numeral.specs.Number.{numberOf}
-use Rattle.line.specs.Line.{part, Part}
+use Rattle.line.specs.Line.{part, namesAt, Part, NamesIn}
 use Rattle.line.specs.declared.Names.{Names}
 use Rattle.line.specs.declared.Body.{Body}
 use Rattle.line.specs.declared.Body.the-variants.{Data}
 use Rattle.line.specs.declared.Head.{Head}
+use Rattle.line.specs.declared.Split.{Split}
 
 -- a part of the line that no blank leads
 pub record Trimmed (line : Text) (a e : ℕ) : Type 0 where
   pub placed : Part line a e
   pub no-blank : leading (part line a e) ≡ 0
+
+-- a line between its outer blanks, of which something is left, and its first colon
+pub record Whole (line : Text) (a e colon : ℕ) : Type 0 where
+  pub starts : a ≡ leading line
+  pub ends : e ≡ a + length (trim line)
+  pub some : a < e
+  pub before : colon ≡ until (eqb 58) line
 
 -- a part without its outer blanks
 abbrev pub trimmedPart : Text → ℕ → ℕ → Span
@@ -45,3 +55,10 @@ pub record Headed (t : Text) (h : Head) : Type 0 where
   pub label-in : h .label ≤ length t
   pub directive-in : h .directive ≤ length t
   pub says : (ns : List Name) (i : ℕ) → dataLine ns i t ≡ item (ns ++ nonempty i (take (h .label) t)) (dataBody t (drop (h .directive) t))
+
+-- step 4 on a part of the line: the labels, and the rest that goes on
+pub record Goes (line : Text) (a e : ℕ) (r : Split) : Type 0 where
+  pub names-in : NamesIn line 1 (r .names)
+  pub rest-in : Trimmed line (r .start) (r .end)
+  pub done : r .start ≡ r .end → labelLine a (part line a e) ≡ item (namesAt line (r .names)) bare
+  pub on : r .start < r .end → labelLine a (part line a e) ≡ restLine (namesAt line (r .names)) (r .start) (part line (r .start) (r .end))

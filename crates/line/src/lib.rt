@@ -6,10 +6,11 @@ ghost use mathlib.Core.Bool.{_||_};
 ghost use Prim.Native.Nat.{_≤_};
 ghost use lib.ListN.{length, take, drop};
 ghost use Rattle.rules.specs.Text.{uppers, leading, trim, pieces, uncut, firstCut, contains, nth};
-ghost use Rattle.rules.specs.Line.{numberIn, dataSize, isDirective, dataLine, restLine, labelLine, lineOf};
+ghost use Rattle.rules.specs.Line.{numberIn, dataSize, isDirective, dataLine, isData, restLine, labelLine, lineOf};
 ghost use Rattle.numeral.specs.Number.{numberOf};
 ghost use Rattle.line.specs.Line.{part, namesAt, Part, NamesIn, Says};
-ghost use Rattle.line.specs.Steps.{Trimmed, trimmedPart, noNames, withName, dataOf, Headed};
+ghost use Rattle.line.specs.Outline.{Outlined};
+ghost use Rattle.line.specs.Steps.{Trimmed, Whole, trimmedPart, noNames, withName, dataOf, Headed, Goes};
 
 // The labels of a line: as many of the two as the count says.
 pub struct Names {
@@ -216,43 +217,69 @@ fn data_line(line: &[u8], names: Names, start: usize, end: usize) -> Line
 
 // ---- The six steps.
 
-// Steps 5 and 6, behind the labels of step 4.
-fn rest_line(line: &[u8], names: Names, start: usize, end: usize) -> Line
-    requires { ⌜ Trimmed (now line) start end × NamesIn (now line) 1 names ⌝ }
+// Steps 5 and 6, behind the labels of step 4; without DC. or DS. in the line there is none in its rest.
+fn rest_line(line: &[u8], names: Names, start: usize, end: usize, defines: bool) -> Line
+    requires { ⌜ Trimmed (now line) start end × NamesIn (now line) 1 names × (defines ≡ isData (now line)) ⌝ }
     ensures { λ r. ⌜ Says (now (line .entry)) (restLine (namesAt (now (line .entry)) names) start (part (now (line .entry)) start end)) r ⌝ }
 {
-    if contains_either(&line[start..end], b"DC.", b"DS.") {
-        return data_line(line, names, start, end);
+    if defines {
+        if contains_either(&line[start..end], b"DC.", b"DS.") {
+            return data_line(line, names, start, end);
+        }
     }
     Line::Item(names, Body::Instruction(Span { start, end }))
 }
 
-// Step 4, then the others.
-fn label_line(line: &[u8], start: usize, end: usize) -> Line
-    requires { ⌜ Trimmed (now line) start end ⌝ }
+// The labels of step 4, and the rest of the line, from `start` to before `end`.
+struct Split {
+    names: Names,
+    start: usize,
+    end: usize,
+}
+
+// Step 4's cut at the colon.
+fn split_label(line: &[u8], start: usize, end: usize, colon: usize) -> Split
+    requires { ⌜ Whole (now line) start end colon ⌝ }
+    ensures { λ r. ⌜ Goes (now (line .entry)) start end r ⌝ }
+{
+    if line.len() <= colon {
+        return Split {
+            names: no_names(),
+            start,
+            end,
+        };
+    }
+    let label = text::kept_length(&line[start..colon]);
+    let names = with_name(no_names(), start, start + label);
+    let rest = trimmed_part(line, colon + 1, end);
+    Split {
+        names,
+        start: rest.start,
+        end: rest.end,
+    }
+}
+
+// Step 4, then the others; `rest_line` is called at one place, so that it is inlined.
+fn label_line(line: &[u8], start: usize, end: usize, colon: usize, defines: bool) -> Line
+    requires { ⌜ Whole (now line) start end colon × (defines ≡ isData (now line)) ⌝ }
     ensures { λ r. ⌜ Says (now (line .entry)) (labelLine start (part (now (line .entry)) start end)) r ⌝ }
 {
-    let t = &line[start..end];
-    let text::Found::At(colon) = text::find_byte(t, b':') else {
-        return rest_line(line, no_names(), start, end);
-    };
-    let names = with_name(no_names(), start, start + label_length(t, colon));
-    let rest = trimmed_part(line, start + colon + 1, end);
-    let from = rest.start;
-    let to = rest.end;
+    let split = split_label(line, start, end, colon);
+    let names = split.names;
+    let from = split.start;
+    let to = split.end;
     if from == to {
         return Line::Item(names, Body::Bare);
     }
-    rest_line(line, names, from, to)
+    rest_line(line, names, from, to, defines)
 }
 
-// Steps 1 to 3, then the others.
-pub fn read_line(line: &[u8]) -> Line
+// Steps 1 to 3, then the others, on a line of which the caller tells where it starts, its first colon, and whether DC. or DS. is in it.
+pub fn read_line(line: &[u8], start: usize, colon: usize, defines: bool) -> Line
+    requires { ⌜ Outlined (now line) start colon defines ⌝ }
     ensures { λ r. ⌜ Says (now (line .entry)) (lineOf (now (line .entry))) r ⌝ }
 {
-    let whole = trimmed_part(line, 0, line.len());
-    let start = whole.start;
-    let end = whole.end;
+    let end = start + text::kept_length(&line[start..]);
     let t = &line[start..end];
     if t.len() == 0 {
         return Line::Skipped;
@@ -266,5 +293,5 @@ pub fn read_line(line: &[u8]) -> Line
     if text::starts_upper(t, b"ORG") {
         return Line::Org(second_number(t, 0));
     }
-    label_line(line, start, end)
+    label_line(line, start, end, colon, defines)
 }

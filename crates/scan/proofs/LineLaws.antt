@@ -10,7 +10,7 @@ use lib.Seq.{drop-cons, drop-drop, length-take-le}
 use Rattle.rules.specs.Text.{Text, cutAt, cutWhere, onFirst, otherTexts}
 use Rattle.rules.specs.Assemble.{SourceLine, numbered, linesOf}
 use Rattle.text.specs.Pieces.{until}
-use Rattle.text.proofs.Until.{until-le, until-rest, cut-first, cut-here, until-later}
+use Rattle.text.proofs.Until.{until-le, until-rest, cut-first, cut-here, until-here, until-later}
 use Rattle.scan.specs.Lines.{lineEnd, lineFrom, linesFrom}
 
 -- the whole source's lines
@@ -61,3 +61,16 @@ line-part s i e h = let k : e - i ≡ until (eqb 10) (drop i s) = omega arith in
 
 pub line-part-le : (s : Text) (i e : ℕ) → length (take (e - i) (drop i s)) ≤ length s
 line-part-le s i e = simp (length-take, length-drop) (omega arith)
+
+-- ---- a line byte by byte
+module _ (s : Text) (i : ℕ) where
+  pub line-ended : length s ≤ i → lineFrom s i ≡ []
+  unfolding until
+  line-ended h = rw (drop-of-length-le s h)
+
+  module _ (h : i < length s) where
+    pub line-over : eqb 10 (getD s i 0) ≡ true → lineFrom s i ≡ []
+    line-over e = rw (drop-cons s i 0 h, until-here (eqb 10) (getD s i 0) (drop (suc i) s) e)
+
+    pub line-more : eqb 10 (getD s i 0) ≡ false → lineFrom s i ≡ getD s i 0 ∷ lineFrom s (suc i)
+    line-more e = rw (drop-cons s i 0 h, until-later (eqb 10) (getD s i 0) (drop (suc i) s) e)

@@ -17,8 +17,7 @@ use Rattle.text.specs.Find.{foundOf}
 use Rattle.text.specs.declared.Found.{Found}
 use Rattle.text.specs.declared.Found.the-variants.{At, Nothing}
 use Rattle.text.proofs.Compare.{eqb-sym}
-use Rattle.text.proofs.Until.{cut-here, cut-later, cut-first, Stepped, stepped-all, stepped-stop, stepped-more}
-use Rattle.scan.specs.Lines.{lineEnd}
+use Rattle.text.proofs.Until.{cut-here, cut-later, cut-first}
 
 -- no byte before i is over 127
 pub record Plain (s : Text) (i : ℕ) : Type 0 where
@@ -67,20 +66,3 @@ module _ (s : Text) (n i : ℕ) (inv : Counted s n i) where
     counted-more e =
         let c = cut-later (eqb 10) (getD s i 0) (drop (suc i) s) (eqb-sym 10 (getD s i 0) ∙ ne-eqb (getD s i 0) 10 e) in
         record { within = omega arith; few = omega (arith, inv .few); same = rw (add-one i) (rw (drop-cons s i 0 h, c, length-onFirst (getD s i 0) (drop (suc i) s)) at (inv .same)) }
-
--- the line's end is not passed
-pub record Inside (s : Text) (at i : ℕ) : Type 0 where
-  pub within : i ≤ length s
-  pub same : Stepped (eqb 10) s at i
-
-module _ (s : Text) (at i : ℕ) (inv : Inside s at i) where
-  pub inside-all : length s ≤ i → i ≡ lineEnd s at
-  inside-all h = stepped-all (eqb 10) s at i h (inv .same)
-
-  module _ (h : i < length s) where
-    pub inside-stop : getD s i 0 ≡ 10 → i ≡ lineEnd s at
-    inside-stop e = stepped-stop (eqb 10) s at i h (eqb-sym 10 (getD s i 0) ∙ eq-eqb (getD s i 0) 10 e) (inv .same)
-
-    pub inside-more : getD s i 0 ≢ 10 → Inside s at (i + 1)
-    inside-more e =
-        record { within = omega arith; same = stepped-more (eqb 10) s at i h (eqb-sym 10 (getD s i 0) ∙ ne-eqb (getD s i 0) 10 e) (inv .same) }

@@ -4,16 +4,21 @@ use Prim.Native.Nat.{ℕ, _-_}
 use lib.ListN.{take, drop}
 use Rattle.rules.specs.Text.{Text}
 use Rattle.rules.specs.Line.{lineOf}
-use Rattle.line.specs.Line.{lineAt, Says}
+use Rattle.line.specs.Line.{lineAt, Says, Within}
 use Rattle.scan.specs.Lines.{lineEnd, lineFrom}
 use Rattle.scan.specs.Walk.{addressAfter}
 use Rattle.scan.specs.Scan.{Scan}
 use Rattle.scan.specs.declared.Scanned.{Scanned}
 use Rattle.scan.proofs.LineLaws.{line-part}
 
-pub scanned : (s : Text) (i base a : ℕ) (r : Scanned) → r .end ≡ lineEnd s i
-    → Says (take (r .end - i) (drop i s)) (lineOf (take (r .end - i) (drop i s))) (r .read)
-    → r .after ≡ addressAfter base a (lineAt (take (r .end - i) (drop i s)) (r .read)) → Scan s i base a r
-scanned s i base a r e f g =
-    let p = line-part s i (r .end) e in
-    record { ends = e; reads = rw p at f; after = g ∙ ap (addressAfter base a) (f .says) ∙ rw p }
+pub scanned : (s : Text) (i : ℕ) (r : Scanned) → r .end ≡ lineEnd s i
+    → Says (take (r .end - i) (drop i s)) (lineOf (take (r .end - i) (drop i s))) (r .read) → Scan s i r
+scanned s i r e f = record { ends = e; reads = rw (line-part s i (r .end) e) at f }
+
+-- what was read of the line, as its part of the source is lent
+module _ {s : Text} {i : ℕ} {r : Scanned} (d : Scan s i r) where
+  pub scanned-says : lineAt (take (r .end - i) (drop i s)) (r .read) ≡ lineOf (lineFrom s i)
+  scanned-says = rw (line-part s i (r .end) (d .ends)) (d .reads .says)
+
+  pub scanned-within : Within (take (r .end - i) (drop i s)) (r .read)
+  scanned-within = rw (line-part s i (r .end) (d .ends)) (d .reads .within)

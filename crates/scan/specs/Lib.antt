@@ -1,3 +1,4 @@
 pub mod Lines
 pub mod Walk
 pub mod Scan
+pub mod Outline

@@ -3,20 +3,39 @@ use line::Body;
 use line::Line;
 use numeral::unsigned::Number;
 ghost use mathlib.Core.Path.{_≡_};
-ghost use Prim.Native.Nat.{_≤_};
+ghost use mathlib.Core.Bool.{_&&_, _||_};
+ghost use Prim.Native.Nat.{_+_, _≤_};
+ghost use lib.Dec.{eqb};
 ghost use lib.ListN.{length};
-ghost use Rattle.rules.specs.Text.{cutAt};
+ghost use Rattle.rules.specs.Text.{cutAt, leading};
 ghost use Rattle.rules.specs.Assemble.{firstHigh};
 ghost use Rattle.text.specs.Find.{foundOf};
 ghost use Rattle.rules.specs.Limits.{maxSource};
 ghost use Rattle.rules.specs.Line.{size};
 ghost use Rattle.line.specs.Line.{bodyAt, lineAt, BodyIn, Within};
-ghost use Rattle.scan.specs.Lines.{lineEnd};
+ghost use Rattle.scan.specs.Lines.{lineFrom};
+ghost use Rattle.scan.specs.Outline.{highestFrom, isDefine, back, nextColon, outlineBy, Outlines};
 ghost use Rattle.scan.specs.Walk.{addressAfter};
 ghost use Rattle.scan.specs.Scan.{Scan};
 
+// The highest byte, 0 where there is none.
+fn highest(s: &[u8]) -> u8
+    ensures { λ r. ⌜ r ≡ highestFrom 0 (now (s .entry)) ⌝ }
+{
+    let mut m = 0u8;
+    let mut i = 0;
+    while i < s.len() {
+        let b = s[i];
+        if m < b {
+            m = b;
+        }
+        i += 1;
+    }
+    m
+}
+
 // The first byte over 127.
-pub fn first_high(s: &[u8]) -> text::Found
+fn find_high(s: &[u8]) -> text::Found
     ensures { λ r. ⌜ r ≡ foundOf (firstHigh 0 (now (s .entry))) ⌝ }
 {
     let mut i = 0;
@@ -29,12 +48,22 @@ pub fn first_high(s: &[u8]) -> text::Found
     text::Found::Nothing
 }
 
-// How many lines the source has.
+// The same, sought only where there is one: the highest byte is found many bytes at a time.
+pub fn first_high(s: &[u8]) -> text::Found
+    ensures { λ r. ⌜ r ≡ foundOf (firstHigh 0 (now (s .entry))) ⌝ }
+{
+    if highest(s) < 128 {
+        return text::Found::Nothing;
+    }
+    find_high(s)
+}
+
+// How many lines the source has. The count is small, so that many bytes are looked at at a time.
 pub fn count_lines(s: &[u8]) -> usize
     requires { ⌜ length (now s) ≤ maxSource ⌝ }
     ensures { λ r. ⌜ r ≡ length (cutAt 10 (now (s .entry))) ⌝ }
 {
-    let mut n = 1;
+    let mut n: u16 = 1;
     let mut i = 0;
     while i < s.len() {
         if s[i] == 10 {
@@ -42,22 +71,144 @@ pub fn count_lines(s: &[u8]) -> usize
         }
         i += 1;
     }
-    n
+    n as usize
 }
 
-// Where the line that starts at `at` ends.
-pub fn line_end(s: &[u8], at: usize) -> usize
-    requires { ⌜ at ≤ length (now s) ⌝ }
-    ensures { λ r. ⌜ r ≡ lineEnd (now (s .entry)) at ⌝ }
+// ---- A line's outline.
+
+// Where the text of the line that starts at `at` begins, behind its leading blanks.
+fn text_start(source: &[u8], at: usize) -> usize
+    requires { ⌜ at ≤ length (now source) ⌝ }
+    ensures { λ r. ⌜ r ≡ at + leading (lineFrom (now (source .entry)) at) ⌝ }
 {
     let mut i = at;
-    while i < s.len() {
-        if s[i] == 10 {
+    while i < source.len() {
+        if source[i] == 10 {
+            return i;
+        }
+        if !text::is_blank(source[i]) {
             return i;
         }
         i += 1;
     }
     i
+}
+
+// The two bytes are DC or DS, in either case.
+fn is_define(p: u8, q: u8) -> bool
+    ensures { λ r. ⌜ r ≡ isDefine p q ⌝ }
+{
+    if text::upper_case(p) != b'D' {
+        return false;
+    }
+    let c = text::upper_case(q);
+    if c == b'C' {
+        return true;
+    }
+    c == b'S'
+}
+
+// DC or DS stands before i, from `start` on.
+fn has_define(source: &[u8], start: usize, i: usize) -> bool
+    requires { ⌜ (start ≤ i) × (i ≤ length (now source)) ⌝ }
+    ensures { λ r. ⌜ r ≡ isDefine (back (now (source .entry)) start i 2) (back (now (source .entry)) start i 1) ⌝ }
+{
+    if i < start + 2 {
+        return false;
+    }
+    is_define(source[i - 2], source[i - 1])
+}
+
+// DC. or DS. is there, with one more byte at i.
+fn next_define(source: &[u8], start: usize, i: usize, defines: bool, b: u8) -> bool
+    requires { ⌜ (start ≤ i) × (i ≤ length (now source)) ⌝ }
+    ensures { λ r. ⌜ r ≡ (defines || (eqb b 46 && isDefine (back (now (source .entry)) start i 2) (back (now (source .entry)) start i 1))) ⌝ }
+{
+    if defines {
+        return true;
+    }
+    if b != b'.' {
+        return false;
+    }
+    has_define(source, start, i)
+}
+
+// The first colon, `none` where there is none yet, with one more byte at i.
+fn next_colon(none: usize, colon: usize, i: usize, b: u8) -> usize
+    ensures { λ r. ⌜ r ≡ nextColon none colon i b ⌝ }
+{
+    if b != b':' {
+        return colon;
+    }
+    if colon != none {
+        return colon;
+    }
+    i
+}
+
+// What one look at a line finds.
+pub struct Outline {
+    // How many blanks lead.
+    pub start: usize,
+    // How many bytes stand before the first colon: all of them where there is none.
+    pub colon: usize,
+    // Whether DC. or DS. is in it.
+    pub defines: bool,
+    // Where it ends, in the source.
+    pub end: usize,
+}
+
+// The outline of the line that starts at `at` and ends at `end`, by places in the source.
+fn outline_by(
+    at: usize,
+    start: usize,
+    none: usize,
+    colon: usize,
+    defines: bool,
+    end: usize,
+) -> Outline
+    requires { ⌜ (at ≤ start) × (at ≤ colon) × (at ≤ end) ⌝ }
+    ensures { λ r. ⌜ r ≡ outlineBy at start none colon defines end ⌝ }
+{
+    let start = start - at;
+    if colon == none {
+        return Outline {
+            start,
+            colon: end - at,
+            defines,
+            end,
+        };
+    }
+    Outline {
+        start,
+        colon: colon - at,
+        defines,
+        end,
+    }
+}
+
+// Looks once at each byte of the line that starts at `at`. No byte over the colon's matters.
+fn outline_line(source: &[u8], at: usize) -> Outline
+    requires { ⌜ at ≤ length (now source) ⌝ }
+    ensures { λ r. ⌜ Outlines (now (source .entry)) at r ⌝ }
+{
+    let none = source.len();
+    let start = text_start(source, at);
+    let mut i = start;
+    let mut colon = none;
+    let mut defines = false;
+    while i < source.len() {
+        let b = source[i];
+        if b <= b':' {
+            if b == 10 {
+                return outline_by(at, start, none, colon, defines, i);
+            }
+            colon = next_colon(none, colon, i, b);
+            defines = next_define(source, start, i, defines, b);
+        }
+        i += 1;
+    }
+    outline_by(at, start, none, colon, defines, i)
 }
 
 // ---- A line's size, and the address after it.
@@ -79,7 +230,7 @@ fn body_size(line: &[u8], body: Body) -> u32
 }
 
 // The address after a line that is read at `address`.
-fn address_after(line: &[u8], read: Line, base: u32, address: u32) -> u64
+pub fn address_after(line: &[u8], read: Line, base: u32, address: u32) -> u64
     requires { ⌜ (length (now line) ≤ maxSource) × Within (now line) read ⌝ }
     ensures { λ r. ⌜ r ≡ addressAfter base address (lineAt (now (line .entry)) read) ⌝ }
 {
@@ -94,21 +245,19 @@ fn address_after(line: &[u8], read: Line, base: u32, address: u32) -> u64
     }
 }
 
-// A line: what it says, where it ends, and the address after it.
+// A line: what it says, and where it ends.
 pub struct Scanned {
     pub read: Line,
     pub end: usize,
-    pub after: u64,
 }
 
 // Reads the line that starts at `at`.
-pub fn scan_line(source: &[u8], at: usize, base: u32, address: u32) -> Scanned
-    requires { ⌜ (length (now source) ≤ maxSource) × (at ≤ length (now source)) ⌝ }
-    ensures { λ r. ⌜ Scan (now (source .entry)) at base address r ⌝ }
+pub fn scan_line(source: &[u8], at: usize) -> Scanned
+    requires { ⌜ at ≤ length (now source) ⌝ }
+    ensures { λ r. ⌜ Scan (now (source .entry)) at r ⌝ }
 {
-    let end = line_end(source, at);
-    let line = &source[at..end];
-    let read = line::read_line(line);
-    let after = address_after(line, read, base, address);
-    Scanned { read, end, after }
+    let found = outline_line(source, at);
+    let end = found.end;
+    let read = line::read_line(&source[at..end], found.start, found.colon, found.defines);
+    Scanned { read, end }
 }

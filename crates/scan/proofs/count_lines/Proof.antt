@@ -36,6 +36,9 @@ loop-again c =
     (λ w. rw (w .1) (counted-more _ _ _ (c .before .before .before .loop .inv) (search needs) (w .0 .left)))
     (c .if1 .came)
 
+cast-result : tie.Need-cast-result Inv-loop μ-loop
+cast-result c = search needs
+
 returns : tie.Need-returns Inv-loop μ-loop
 returns c = search (counted-all, needs)
 
@@ -51,4 +54,5 @@ count-lines-spec =
     add-i
     loop-less
     loop-again
+    cast-result
     returns)

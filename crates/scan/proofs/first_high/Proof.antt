@@ -1,49 +1,22 @@
--- `first_high` looks at one byte after the other. Assumes nothing.
-use mathlib.Core.Path.{refl}
-use Prim.Native.Nat.{_-_}
-use lib.ListN.{length}
-use Rattle.scan.proofs.Loops.{Plain, plain-none, plain-found, plain-more}
+-- `first_high` seeks only where the highest byte is over 127. Assumes nothing.
+use mathlib.Core.Path.{sym, ap}
 use borrow.Author.Needs.{needs}
+use Rattle.text.specs.Find.{foundOf}
+use Rattle.scan.proofs.Seen.{none-high}
 use Rattle.scan.proofs.first_high.Statement.{statement}
 use Rattle.scan.proofs.first_high.Tie as tie
 
-abbrev Inv-loop : tie.InvT-loop
-Inv-loop s i₀ i = Plain s i
+highest-requires : tie.Need-highest-requires
+highest-requires c κs = search needs
 
-abbrev μ-loop : tie.MeasureT-loop
-μ-loop s i₀ i = length s - i
+returns : tie.Need-returns
+returns c = sym (ap foundOf (none-high 0 0 _ (rw (c .before .highest .ensures) at (c .if1 .taken))))
 
-loop-holds : tie.Need-loop-holds Inv-loop μ-loop
-loop-holds c = record { within = search needs; same = refl }
+find-high-requires : tie.Need-find-high-requires
+find-high-requires c κs = search needs
 
-shared-slice-read-if1 : tie.Need-shared-slice-read-if1 Inv-loop μ-loop
-shared-slice-read-if1 c = search needs
-
-returns : tie.Need-returns Inv-loop μ-loop
-returns c = search (plain-found, needs)
-
-add-i : tie.Need-add-i Inv-loop μ-loop
-add-i c = search needs
-
-loop-less : tie.Need-loop-less Inv-loop μ-loop
-loop-less c = search needs
-
-loop-again : tie.Need-loop-again Inv-loop μ-loop
-loop-again c = search (plain-more, needs)
-
-returns-2 : tie.Need-returns-2 Inv-loop μ-loop
-returns-2 c = search (plain-none, needs)
+returns-2 : tie.Need-returns-2
+returns-2 c = search needs
 
 pub first-high-spec : {M : Type 1} → statement M
-first-high-spec =
-    tie.close
-    (tie.spec
-    Inv-loop
-    μ-loop
-    loop-holds
-    shared-slice-read-if1
-    returns
-    add-i
-    loop-less
-    loop-again
-    returns-2)
+first-high-spec = tie.close (tie.spec highest-requires returns find-high-requires returns-2)

@@ -1,17 +1,17 @@
--- `line_end` steps over the bytes before the first byte 10. Assumes nothing.
-use Prim.Native.Nat.{_-_}
+-- `find_high` looks at one byte after the other. Assumes nothing.
 use mathlib.Core.Path.{refl}
+use Prim.Native.Nat.{_-_}
 use lib.ListN.{length}
-use Rattle.scan.proofs.Loops.{Inside, inside-all, inside-stop, inside-more}
+use Rattle.scan.proofs.Loops.{Plain, plain-none, plain-found, plain-more}
 use borrow.Author.Needs.{needs}
-use Rattle.scan.proofs.line_end.Statement.{statement}
-use Rattle.scan.proofs.line_end.Tie as tie
+use Rattle.scan.proofs.find_high.Statement.{statement}
+use Rattle.scan.proofs.find_high.Tie as tie
 
 abbrev Inv-loop : tie.InvT-loop
-Inv-loop s at i₀ i = Inside s at i
+Inv-loop s i₀ i = Plain s i
 
 abbrev μ-loop : tie.MeasureT-loop
-μ-loop s at i₀ i = length s - i
+μ-loop s i₀ i = length s - i
 
 loop-holds : tie.Need-loop-holds Inv-loop μ-loop
 loop-holds c = record { within = search needs; same = refl }
@@ -20,7 +20,7 @@ shared-slice-read-if1 : tie.Need-shared-slice-read-if1 Inv-loop μ-loop
 shared-slice-read-if1 c = search needs
 
 returns : tie.Need-returns Inv-loop μ-loop
-returns c = search (inside-stop, needs)
+returns c = search (plain-found, needs)
 
 add-i : tie.Need-add-i Inv-loop μ-loop
 add-i c = search needs
@@ -29,13 +29,13 @@ loop-less : tie.Need-loop-less Inv-loop μ-loop
 loop-less c = search needs
 
 loop-again : tie.Need-loop-again Inv-loop μ-loop
-loop-again c = search (inside-more, needs)
+loop-again c = search (plain-more, needs)
 
 returns-2 : tie.Need-returns-2 Inv-loop μ-loop
-returns-2 c = search (inside-all, needs)
+returns-2 c = search (plain-none, needs)
 
-pub line-end-spec : {M : Type 1} → statement M
-line-end-spec =
+pub find-high-spec : {M : Type 1} → statement M
+find-high-spec =
     tie.close
     (tie.spec
     Inv-loop
