@@ -1,4 +1,3 @@
-pub mod Slices
 pub mod Lists
 pub mod Refusals
 pub mod Below

@@ -1,25 +1,20 @@
 -- What a call gives: refusal 7 or the list. Assumes nothing.
 use mathlib.Core.Path.{_≡_, refl, sym, ap, _∙_}
-use mathlib.Core.Bool.{Bool, true, false, false≢true, _||_}
-use mathlib.Core.List.{List, [], _∷_, _++_}
-use Prim.Native.Nat.{ℕ, suc, _+_, _*_, _≤_}
+use mathlib.Core.Bool.{Bool, true, false, false≢true, not, _||_}
+use mathlib.Core.List.{List, []}
+use Prim.Native.Nat.{ℕ, _≤_}
 use native.Mathlib.Omega.{arith}
-use borrow.Author.Tests.{ltb-false}
-use lib.Dec.{eqb, ltb}
-use lib.ListN.{length, length-append}
-use Rattle.rules.specs.Limits.{maxSource}
-use Rattle.rules.specs.Text.{Text, cutWhere, cutAt}
-use Rattle.rules.specs.Label.{Table}
+use borrow.Author.Tests.{ltb-false, le-ltb}
+use lib.Dec.{ltb}
+use lib.ListN.{length}
 use Rattle.rules.specs.Answer.{Answer as Ruled, accepted, refused, refuseIf, andThen}
-use Rattle.rules.specs.Assemble.{Place, Slices, short, holding, writeList}
+use Rattle.rules.specs.Assemble.{Place, Slices, short, over, holding, writeList}
 use Rattle.answer.specs.Answer.{answerOf}
 use Rattle.answer.specs.declared.Answer.the-variants.{Accepted, Refused}
-use Rattle.text.proofs.Until.{cut-here, cut-later}
-use Rattle.scan.proofs.Loops.{length-onFirst}
-use Rattle.emit.specs.Emit.{listOf, Room, Written}
-use Rattle.emit.specs.declared.Part.{Part}
-use Rattle.emit.proofs.Callers.{list-few}
-use Rattle.assemble.specs.Assembled.{called, Gives}
+use Rattle.emit.specs.Emit.{Room, Written}
+use Rattle.assemble.specs.Assembled.{called, fitBy, fitOf, Gives}
+use Rattle.assemble.specs.declared.Fit.{Fit}
+use Rattle.assemble.specs.declared.Fit.the-variants.{Fits, Short}
 use Rattle.rules.specs.Assemble.{slices}
 
 -- a refusal changes nothing
@@ -41,10 +36,6 @@ pub held-columns : (l : List Place) (xs ws ms xs′ ws′ ms′ : List ℕ) → 
 unfolding holding
 held-columns l xs ws ms xs′ ws′ ms′ w = rw (w .addresses, w .words, w .marks)
 
--- the count is that of both parts
-pub count-is : (a b : List Place) (n m : ℕ) → n ≡ length a → m ≡ length b → n + m ≡ length (a ++ b)
-count-is a b n m e f = rw (length-append a b, e, f)
-
 -- none of three tests holds
 none-of : (a b c : Bool) → (a || b || c) ≡ false → (a ≡ false) × (b ≡ false) × (c ≡ false)
 none-of false false false e = (refl, refl, refl)
@@ -53,26 +44,59 @@ none-of false true c e = absurd (false≢true (sym e))
 none-of true b c e = absurd (false≢true (sym e))
 
 -- slices that are not short have room
-pub has-room : (l : List Place) (xs ws ms : List ℕ) (n : ℕ) → n ≡ length l → short (slices xs ws ms) n ≡ false → Room (length l) xs ws ms
+pub has-room : (xs ws ms : List ℕ) (n : ℕ) → short (slices xs ws ms) n ≡ false → Room n xs ws ms
 unfolding short
-has-room l xs ws ms n e s =
-    let t = none-of (ltb (length xs) (length l)) (ltb (length ws) (length l)) (ltb (length ms) (length l)) (rw e at s) in
-    record {
-      addresses = ltb-false (length xs) (length l) (t .0);
-      words = ltb-false (length ws) (length l) (t .1);
-      marks = ltb-false (length ms) (length l) (t .2);
-    }
+has-room xs ws ms n s =
+    let t = none-of (ltb (length xs) n) (ltb (length ws) n) (ltb (length ms) n) s in
+    record { addresses = ltb-false (length xs) n (t .0); words = ltb-false (length ws) n (t .1); marks = ltb-false (length ms) n (t .2) }
 
--- a source has at most one line more than bytes, so a part's list is short
-cut-few : (s : Text) → length (cutWhere (eqb 10) s) ≤ suc (length s)
-unfolding cutWhere
-cut-few [] = omega arith
-cut-few (b ∷ s) = go (eqb 10 b) refl (cut-few s)
-  where
-    go : (y : Bool) → eqb 10 b ≡ y → length (cutWhere (eqb 10) s) ≤ suc (length s) → length (cutWhere (eqb 10) (b ∷ s)) ≤ suc (length (b ∷ s))
-    go true e ih = rw (cut-here (eqb 10) b s e) (omega arith)
-    go false e ih = rw (cut-later (eqb 10) b s e, length-onFirst b s) (omega arith)
+-- and those that have room are not short
+pub not-short : (xs ws ms : List ℕ) (n : ℕ) → Room n xs ws ms → short (slices xs ws ms) n ≡ false
+unfolding short
+not-short xs ws ms n r = rw (le-ltb (length xs) n (r .addresses), le-ltb (length ws) n (r .words), le-ltb (length ms) n (r .marks))
 
-pub list-short : (part : Part) (t : Table) (base : ℕ) (s : Text) → length s ≤ maxSource → length (listOf part t base s) ≤ 2 * maxSource + 2
-unfolding cutAt
-list-short part t base s h = omega (arith, list-few part t base s, cut-few s)
+-- ---- whether the list fits
+module _ (l : List Place) (xs ws ms : List ℕ) where
+  -- more room than it needs
+  pub fits-surely : (m : ℕ) → length l ≤ m → short (slices xs ws ms) m ≡ false → Fits ≡ fitOf l (slices xs ws ms)
+  fits-surely m h s =
+      let r = has-room xs ws ms m s in
+      rw (not-short xs ws ms (length l) (record { addresses = omega (arith, r .addresses); words = omega (arith, r .words); marks = omega (arith, r .marks) }))
+
+  pub fits-counted : (n : ℕ) → n ≡ length l → short (slices xs ws ms) n ≡ false → Fits ≡ fitOf l (slices xs ws ms)
+  fits-counted n e s = rw (rw e at s)
+
+  pub short-counted : (n : ℕ) → n ≡ length l → short (slices xs ws ms) n ≡ true → Short n ≡ fitOf l (slices xs ws ms)
+  short-counted n e s = rw (rw e at s) (ap Short e)
+
+fit-short : (y : Bool) (m n : ℕ) → fitBy y m ≡ Short n → (y ≡ true) × (n ≡ m)
+fit-short true m n e = (refl, cc)
+fit-short false m n e = absurd (false≢true cc)
+
+fit-fits : (y : Bool) (m : ℕ) → fitBy y m ≡ Fits → y ≡ false
+fit-fits true m e = absurd (false≢true cc)
+fit-fits false m e = refl
+
+module _ (l : List Place) (x : Slices) (r : Fit) (e : r ≡ fitOf l x) where
+  pub gives-refusal-7 : (n : ℕ) → r ≡ Short n → Gives (accepted l) x (Refused 7 n) x
+  gives-refusal-7 n f = let k = fit-short (short x (length l)) (length l) n (sym e ∙ f) in gives-short l x n (k .1) (ap (short x) (k .1) ∙ k .0)
+
+  pub fits : r ≡ Fits → short x (length l) ≡ false
+  fits f = fit-fits (short x (length l)) (length l) (sym e ∙ f)
+
+-- nothing was written
+pub as-before : (xs ws ms xs′ ws′ ms′ : List ℕ) → Written [] xs ws ms xs′ ws′ ms′ → slices xs′ ws′ ms′ ≡ slices xs ws ms
+unfolding over
+as-before xs ws ms xs′ ws′ ms′ w = rw (w .addresses, w .words, w .marks)
+
+-- nothing needs no room
+pub no-room : (xs ws ms : List ℕ) → Room 0 xs ws ms
+no-room xs ws ms = record { addresses = omega arith; words = omega arith; marks = omega arith }
+
+-- slices that are as others were have their room
+pub same-room : (l : List Place) (xs ws ms xs′ ws′ ms′ : List ℕ) → slices xs′ ws′ ms′ ≡ slices xs ws ms → short (slices xs ws ms) (length l) ≡ false → Room (length l) xs′ ws′ ms′
+same-room l xs ws ms xs′ ws′ ms′ e s = has-room xs′ ws′ ms′ (length l) (rw e s)
+
+pub is-not : (b : Bool) → not b ≡ true → b ≡ false
+is-not true e = absurd (false≢true e)
+is-not false e = refl

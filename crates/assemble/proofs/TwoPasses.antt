@@ -10,7 +10,7 @@ use lib.Dec.{ltb}
 use borrow.Author.Tests.{ltb-true}
 use lib.ListN.{length}
 use Rattle.rules.specs.Limits.{maxSource, maxLabels, addressLimit}
-use Rattle.rules.specs.Text.{Text}
+use Rattle.rules.specs.Text.{Text, cutAt}
 use Rattle.rules.specs.Line.{Name, Body, Line, lineOf}
 use Rattle.rules.specs.Label.{Label, Table, find, recorded, hasRoom}
 use Rattle.rules.specs.Answer.{Answer as Ruled, accepted, refused, andThen}
@@ -28,9 +28,8 @@ use Rattle.collect.specs.declared.Collected.{Collected}
 use Rattle.collect.specs.declared.Collected.the-variants.{Done}
 use Rattle.collect.specs.declared.Collected.the-variants.{Refused as Refuses}
 use Rattle.collect.proofs.Steps.{stop-accepted}
-use Rattle.emit.specs.Emit.{Walking, listOf}
-use Rattle.emit.specs.declared.Part.the-variants.{Values, Instructions}
-use Rattle.assemble.specs.Assembled.{Gives, listBy, passesOf}
+use Rattle.emit.specs.Emit.{Values, Instructions, Walking, listOf, listBy}
+use Rattle.assemble.specs.Assembled.{Second, Gives, passesOf}
 use Rattle.assemble.proofs.Lists.{gives-refusal}
 use Rattle.assemble.proofs.Below.{stop-below}
 
@@ -70,7 +69,7 @@ module _ (base : ℕ) (s : Text) (cells after : List ℕ) (r : Collected) (label
   table-is : tableOf s after labels ≡ done .pass .labels
   table-is = ap (tableOf s after) (done .count ∙ ap length (sym stop-is)) ∙ p .stored .table ∙ stop-is
 
-  pub walking : Walking s base after labels
+  walking : Walking s base after labels
   walking =
       record {
         short = h;
@@ -83,8 +82,11 @@ module _ (base : ℕ) (s : Text) (cells after : List ℕ) (r : Collected) (label
   puts-is : done .pass .puts ≡ walk base base (linesOf s)
   puts-is = pass-walked base base [] (linesOf s) (done .pass) (done .is) .puts
 
-  pub values-is : values ≡ length (listOf Values (tableOf s after labels) base s)
+  values-is : values ≡ length (listOf Values (tableOf s after labels) base s)
   values-is = done .words ∙ ap (λ ps. length (flatMap dataPlaces ps)) puts-is
+
+  pub second : (lines : ℕ) → lines ≡ length (cutAt 10 s) → Second s base after labels values lines
+  second lines k = record { walking = walking; values-are = values-is; lines-are = k }
 
   list-is : passesOf base s ≡ accepted (listBy (tableOf s after labels) base s)
   unfolding andThen secondPass

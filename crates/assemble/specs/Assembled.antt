@@ -1,16 +1,18 @@
 -- What an assembling call gives: its answer, and the three lent slices afterwards. Assumes nothing.
 use mathlib.Core.Path.{_≡_}
 use Prim.Native.Nat.{ℕ}
-use mathlib.Core.List.{List, [], _++_}
+use mathlib.Core.Bool.{Bool, true, false}
+use mathlib.Core.List.{List, []}
 use lib.ListN.{length}
-use Rattle.rules.specs.Text.{Text}
-use Rattle.rules.specs.Label.{Table}
+use Rattle.rules.specs.Text.{Text, cutAt}
 use Rattle.rules.specs.Answer.{Answer as Ruled, accepted, refuseIf, andThen}
 use Rattle.rules.specs.Assemble.{Place, Slices, short, writeList, firstPass, secondPass, linesOf, assembleAnswer, assembleSlices}
 use Rattle.answer.specs.Answer.{answerOf}
 use Rattle.answer.specs.declared.Answer.{Answer}
-use Rattle.emit.specs.Emit.{listOf}
-use Rattle.emit.specs.declared.Part.the-variants.{Values, Instructions}
+use Rattle.label.specs.Table.{tableOf}
+use Rattle.emit.specs.Emit.{Values, listOf, Walking}
+use Rattle.assemble.specs.declared.Fit.{Fit}
+use Rattle.assemble.specs.declared.Fit.the-variants.{Fits, Short}
 
 -- a call's answer, once the list or a refusal is known: "then 7"
 abbrev pub called : Ruled (List Place) → Slices → Ruled ℕ
@@ -21,9 +23,19 @@ pub record Gives (list : Ruled (List Place)) (x : Slices) (r : Answer) (y : Slic
   pub answer : r ≡ answerOf (called list x)
   pub slices : y ≡ writeList list x
 
--- the list by the labels t: data words, and instruction words behind them
-abbrev pub listBy : Table → ℕ → Text → List Place
-listBy t base source = listOf Values t base source ++ listOf Instructions t base source
+-- what the second pass needs: the labels and data words of the first, and how many lines there are
+pub record Second (source : Text) (base : ℕ) (cells : List ℕ) (labels values lines : ℕ) : Type 0 where
+  pub walking : Walking source base cells labels
+  pub values-are : values ≡ length (listOf Values (tableOf source cells labels) base source)
+  pub lines-are : lines ≡ length (cutAt 10 source)
+
+-- whether a list fits into the slices, and else its length
+abbrev pub fitBy : Bool → ℕ → Fit
+fitBy true n = Short n
+fitBy false n = Fits
+
+abbrev pub fitOf : List Place → Slices → Fit
+fitOf l x = fitBy (short x (length l)) (length l)
 
 -- both passes
 abbrev pub passesOf : ℕ → Text → Ruled (List Place)

@@ -1,85 +1,112 @@
 // The assembler: refusals 1 to 7, and the list of a source at a base in three lent slices.
 use answer::Answer;
 use collect::Collected;
-use emit::Part;
 ghost use mathlib.Core.Path.{_≡_};
 ghost use Prim.Native.Nat.{_≤_, _<_};
 ghost use lib.ListN.{length};
 ghost use Rattle.rules.specs.Limits.{maxSource, addressLimit};
+ghost use Rattle.rules.specs.Text.{cutAt};
 ghost use Rattle.rules.specs.Answer.{accepted};
-ghost use Rattle.label.specs.Table.{tableOf};
-ghost use Rattle.emit.specs.Emit.{Walking, Room, Written, listOf};
-ghost use Rattle.emit.specs.declared.Part.the-variants.{Values};
-ghost use Rattle.assemble.specs.Assembled.{Gives, listBy, passesOf, Assembled};
 ghost use Rattle.rules.specs.Assemble.{slices};
+ghost use Rattle.label.specs.Table.{tableOf};
+ghost use Rattle.emit.specs.Emit.{listBy};
+ghost use Rattle.assemble.specs.Assembled.{Second, fitOf, Gives, passesOf, Assembled};
 
-// The list, in slices that have room for it: instruction words go in behind the data words.
-fn write_list(
+// Whether the slices have room for the list: if not, how many places it has.
+enum Fit {
+    Fits,
+    Short(usize),
+}
+
+// Looks whether the list fits. It is counted only where two places a line, the most that it has, would not.
+fn fit_list(
     source: &[u8],
     base: u32,
     table: &[u32],
     labels: usize,
     values: usize,
+    lines: usize,
     addresses: &mut [u32],
     words: &mut [u16],
     marks: &mut [u8],
-)
-    requires { ⌜ Walking (now source) base (now table) labels × (values ≡ length (listOf Values (tableOf (now source) (now table) labels) base (now source))) × Room (length (listBy (tableOf (now source) (now table) labels) base (now source))) (now addresses) (now words) (now marks) ⌝ }
-    ensures { λ _. ⌜ Written (listBy (tableOf (now (source .entry)) (now (table .entry)) labels) base (now (source .entry))) (now (addresses .entry)) (now (words .entry)) (now (marks .entry)) (now (addresses .exit)) (now (words .exit)) (now (marks .exit)) ⌝ }
+) -> Fit
+    requires { ⌜ Second (now source) base (now table) labels values lines ⌝ }
+    ensures { λ r. ⌜ r ≡ fitOf (listBy (tableOf (now (source .entry)) (now (table .entry)) labels) base (now (source .entry))) (slices (now (addresses .entry)) (now (words .entry)) (now (marks .entry))) ⌝ }
+    ensures { λ _. ⌜ slices (now (addresses .exit)) (now (words .exit)) (now (marks .exit)) ≡ slices (now (addresses .entry)) (now (words .entry)) (now (marks .entry)) ⌝ }
 {
-    emit::write_words(
-        Part::Values,
+    if !answer::is_short(addresses, words, marks, 2 * lines) {
+        return Fit::Fits;
+    }
+    let count = emit::emit_words(
+        false,
         source,
         base,
         table,
         labels,
+        values,
         addresses,
         words,
         marks,
     );
-    emit::write_words(
-        Part::Instructions,
-        source,
-        base,
-        table,
-        labels,
-        &mut addresses[values..],
-        &mut words[values..],
-        &mut marks[values..],
-    );
+    if answer::is_short(addresses, words, marks, count) {
+        return Fit::Short(count);
+    }
+    Fit::Fits
 }
 
-// The second pass: the count, then refusal 7, then the words.
+// The second pass: refusal 7, or the words.
 fn second_pass(
     source: &[u8],
     base: u32,
     table: &[u32],
     labels: usize,
     values: usize,
+    lines: usize,
     addresses: &mut [u32],
     words: &mut [u16],
     marks: &mut [u8],
 ) -> Answer
-    requires { ⌜ Walking (now source) base (now table) labels × (values ≡ length (listOf Values (tableOf (now source) (now table) labels) base (now source))) ⌝ }
+    requires { ⌜ Second (now source) base (now table) labels values lines ⌝ }
     ensures { λ r. ⌜ Gives (accepted (listBy (tableOf (now (source .entry)) (now (table .entry)) labels) base (now (source .entry)))) (slices (now (addresses .entry)) (now (words .entry)) (now (marks .entry))) r (slices (now (addresses .exit)) (now (words .exit)) (now (marks .exit))) ⌝ }
 {
-    let count = values + emit::count_words(Part::Instructions, source, base, table, labels);
-    if answer::is_short(addresses, words, marks, count) {
+    let room = fit_list(
+        source,
+        base,
+        table,
+        labels,
+        values,
+        lines,
+        addresses,
+        words,
+        marks,
+    );
+    if let Fit::Short(count) = room {
         return Answer::Refused(7, count);
     }
-    write_list(source, base, table, labels, values, addresses, words, marks);
+    let count = emit::emit_words(
+        true,
+        source,
+        base,
+        table,
+        labels,
+        values,
+        addresses,
+        words,
+        marks,
+    );
     Answer::Accepted(count)
 }
 
-// Both passes over a source within the limits.
+// Both passes over a source within the limits, of so many lines.
 fn passes(
     source: &[u8],
     base: u32,
+    lines: usize,
     addresses: &mut [u32],
     words: &mut [u16],
     marks: &mut [u8],
 ) -> Answer
-    requires { ⌜ (length (now source) ≤ maxSource) × (base < addressLimit) ⌝ }
+    requires { ⌜ (length (now source) ≤ maxSource) × (base < addressLimit) × (lines ≡ length (cutAt 10 (now source))) ⌝ }
     ensures { λ r. ⌜ Gives (passesOf base (now (source .entry))) (slices (now (addresses .entry)) (now (words .entry)) (now (marks .entry))) r (slices (now (addresses .exit)) (now (words .exit)) (now (marks .exit))) ⌝ }
 {
     let mut table = [0u32; label::TABLE];
@@ -92,6 +119,7 @@ fn passes(
                 &table,
                 labels,
                 values,
+                lines,
                 addresses,
                 words,
                 marks,
@@ -125,5 +153,5 @@ pub fn assemble(
     if rules::ADDRESS_LIMIT <= base {
         return Answer::Refused(4, 0);
     }
-    passes(source, base, addresses, words, marks)
+    passes(source, base, lines, addresses, words, marks)
 }

@@ -19,9 +19,9 @@ use Rattle.scan.specs.Walk.{addressAfter, bodyOf, isEnd, walk, low}
 use Rattle.scan.proofs.LineLaws.{lines-of, line-end-le, last-line, more-lines}
 use Rattle.scan.proofs.WalkLaws.{walk-end, walk-more, low-more}
 use Rattle.encode.specs.Code.{placesOf}
-use Rattle.emit.specs.Emit.{partPlaces, listOf, Walking}
-use Rattle.emit.specs.Read.{Reads}
-use Rattle.emit.specs.declared.Part.{Part}
+use Rattle.encode.specs.declared.Code.{Code}
+use Rattle.emit.specs.Emit.{Part, partPlaces, listOf, Walking}
+use Rattle.emit.specs.Read.{ReadsIn}
 use Rattle.emit.specs.declared.Words.{Words}
 use Rattle.emit.proofs.LineCode.{code-places, end-places, end-after}
 
@@ -34,9 +34,9 @@ pub record Ahead (part : Part) (t : Table) (base : ℕ) (source : Text) (at a : 
   pub words : left ≡ flatMap (partPlaces part t) (walk base a (linesFrom source number at))
 
 -- a line read: its words, and those of the lines behind it
-pub record Next (part : Part) (t : Table) (base : ℕ) (source : Text) (a : ℕ) (left : List Place) (r : Words) : Type 0 where
+pub record Next (part : Part) (t : Table) (base : ℕ) (source : Text) (a : ℕ) (left : List Place) (c : Code) (r : Words) : Type 0 where
   pub rest : List Place
-  pub split : left ≡ placesOf a (r .code) ++ rest
+  pub split : left ≡ placesOf a c ++ rest
   pub ends : r .last ≡ true → rest ≡ []
   pub goes : r .last ≡ false → Ahead part t base source (r .next) (r .after) rest
 
@@ -74,9 +74,9 @@ module _ {part : Part} {t : Table} {base : ℕ} {source : Text} {at a : ℕ} {le
       go false e = low-more base a _ (here .others) e (rw (here .same) at (h .stays)) .0
 
   -- nothing is left behind END
-  at-end : (r : Words) → Reads part t base source at a r → isEnd (lineOf (lineFrom source at)) ≡ true → Next part t base source a left r
+  at-end : (c : Code) (r : Words) → ReadsIn part t base source at a c r → isEnd (lineOf (lineFrom source at)) ≡ true → Next part t base source a left c r
   unfolding flatMap
-  at-end r d e =
+  at-end c r d e =
       let here = lines-here source (h .number) at in
       record {
         rest = [];
@@ -85,17 +85,17 @@ module _ {part : Part} {t : Table} {base : ℕ} {source : Text} {at a : ℕ} {le
         goes = λ f. absurd (false≢true (sym f ∙ d .last ∙ ap (λ (y : Bool). y || eqb (lineEnd source at) (length source)) e));
       }
 
-  module _ (r : Words) (d : Reads part t base source at a r) (e : isEnd (lineOf (lineFrom source at)) ≡ false) where
+  module _ (c : Code) (r : Words) (d : ReadsIn part t base source at a c r) (e : isEnd (lineOf (lineFrom source at)) ≡ false) where
     is-last : r .last ≡ eqb (lineEnd source at) (length source)
     is-last = d .last ∙ ap (λ (y : Bool). y || eqb (lineEnd source at) (length source)) e
 
     -- the words of this line and of others
     split-off : (ls : List SourceLine) → linesFrom source (h .number) at ≡ lineHere source (h .number) at ∷ ls
-        → left ≡ placesOf a (r .code) ++ flatMap (partPlaces part t) (walk base (addressAfter base a (lineOf (lineFrom source at))) ls)
+        → left ≡ placesOf a c ++ flatMap (partPlaces part t) (walk base (addressAfter base a (lineOf (lineFrom source at))) ls)
     unfolding flatMap
     split-off ls s = h .words ∙ rw (s, walk-more base a (lineHere source (h .number) at) ls e, d .code, code-places t a part (bodyOf (lineOf (lineFrom source at))))
 
-    at-last : lineEnd source at ≡ length source → Next part t base source a left r
+    at-last : lineEnd source at ≡ length source → Next part t base source a left c r
     unfolding walk flatMap
     at-last f =
         record {
@@ -105,7 +105,7 @@ module _ {part : Part} {t : Table} {base : ℕ} {source : Text} {at a : ℕ} {le
           goes = λ g. absurd (eqb-false _ _ (sym is-last ∙ g) f);
         }
 
-    at-more : (lineEnd source at ≡ length source → ⊥) → Next part t base source a left r
+    at-more : (lineEnd source at ≡ length source → ⊥) → Next part t base source a left c r
     at-more f =
         let lt : lineEnd source at < length source = omega (arith, line-end-le source at (h .inside)) in
         let s = more-lines source (h .number) at lt in
@@ -117,13 +117,13 @@ module _ {part : Part} {t : Table} {base : ℕ} {source : Text} {at a : ℕ} {le
           goes = λ g. rw (d .next, d .after, add-one (lineEnd source at)) (record { number = suc (h .number); inside = omega arith; below = l .0; stays = l .1; words = refl });
         }
 
-  pub next : (r : Words) → Reads part t base source at a r → Next part t base source a left r
-  next r d = go (isEnd (lineOf (lineFrom source at))) refl
+  pub next : (c : Code) (r : Words) → ReadsIn part t base source at a c r → Next part t base source a left c r
+  next c r d = go (isEnd (lineOf (lineFrom source at))) refl
     where
-      within : (y : Bool) → isEnd (lineOf (lineFrom source at)) ≡ false → eqb (lineEnd source at) (length source) ≡ y → Next part t base source a left r
-      within true e f = at-last r d e (eqb-true _ _ f)
-      within false e f = at-more r d e (eqb-false _ _ f)
+      within : (y : Bool) → isEnd (lineOf (lineFrom source at)) ≡ false → eqb (lineEnd source at) (length source) ≡ y → Next part t base source a left c r
+      within true e f = at-last c r d e (eqb-true _ _ f)
+      within false e f = at-more c r d e (eqb-false _ _ f)
 
-      go : (y : Bool) → isEnd (lineOf (lineFrom source at)) ≡ y → Next part t base source a left r
-      go true e = at-end r d e
+      go : (y : Bool) → isEnd (lineOf (lineFrom source at)) ≡ y → Next part t base source a left c r
+      go true e = at-end c r d e
       go false e = within (eqb (lineEnd source at) (length source)) e refl

@@ -1,5 +1,6 @@
 pub mod Columns
 pub mod Slices
+pub mod Halves
 pub mod LineCode
 pub mod Reading
 pub mod Ahead

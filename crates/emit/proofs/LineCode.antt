@@ -1,12 +1,13 @@
 -- A line's code: by the kind of line that was read, and its places are those of the line's put. Assumes nothing.
-use mathlib.Core.Path.{_≡_, refl}
+use mathlib.Core.Path.{_≡_, refl, ap, _∙_}
 use mathlib.Core.Bool.{Bool, true, false, _||_, false≢true}
 use mathlib.Core.Option.{Option, none, some}
 use mathlib.Core.List.{[]}
-use Prim.Native.Nat.{ℕ, _/_, _%_, _≤_}
+use Prim.Native.Nat.{ℕ, _+_, _/_, _%_, _≤_, _<_}
 use native.Mathlib.Omega.{arith}
+use Rattle.rules.specs.Limits.{addressLimit}
 use Rattle.rules.specs.Text.{Text}
-use Rattle.rules.specs.Line.{Body, bare, directive, instruction, instructionOf, Line, skipped, end, org, item}
+use Rattle.rules.specs.Line.{Body, bare, directive, instruction, instructionOf, size, Line, skipped, end, org, item}
 use Rattle.rules.specs.Label.{Table}
 use Rattle.rules.specs.Assemble.{placeOf, placesAt, valueCells, dataCells, dataPlaces, codePlaces}
 use Rattle.text.specs.declared.Span.{Span}
@@ -19,15 +20,15 @@ use Rattle.line.specs.declared.Line.{Line as ReadLine}
 use Rattle.line.specs.declared.Line.the-variants.{Skipped, End, Org, Item}
 use Rattle.line.specs.Line.{spanText, valueOf, lineAt, SpanIn, Within}
 use Rattle.scan.specs.Walk.{addressAfter, bodyOf, isEnd}
+use Rattle.scan.proofs.Bodies.{size-bare, size-data, size-instruction, after-skipped, after-end, after-org, after-no-org, after-item-of}
 use Rattle.encode.specs.Code.{codeOf, placesOf, codeLength}
 use Rattle.encode.specs.declared.Code.{Code}
 use Rattle.encode.specs.declared.Code.the-variants.{Nothing, Word, Value as Code·Value, Label}
 use Rattle.encode.specs.Body.{encodeBody}
 use Rattle.encode.proofs.Callers.{body-places}
-use Rattle.emit.specs.Emit.{partPlaces}
-use Rattle.emit.specs.Read.{dataCode, codeIn}
-use Rattle.emit.specs.declared.Part.{Part}
-use Rattle.emit.specs.declared.Part.the-variants.{Values, Instructions}
+use Rattle.emit.specs.Emit.{Part, Values, Instructions, partPlaces}
+use Rattle.emit.specs.Read.{dataCode, codeIn, noWords, Places}
+use Rattle.emit.specs.declared.Placed.{Placed}
 
 -- ---- what was read
 module _ (line : Text) (l : ReadLine) where
@@ -142,3 +143,48 @@ module _ (line : Text) (l : ReadLine) (y : Bool) where
   pub last-item : (ns : Names) (b : ReadBody) → l ≡ Item ns b → y ≡ (isEnd (lineAt line l) || y)
   unfolding isEnd
   last-item ns b e = rw e
+
+-- ---- no instruction, and one
+module _ (t : Table) (base a : ℕ) (line : Text) (l : ReadLine) where
+  places-bare : (n : ℕ) → bodyOf (lineAt line l) ≡ bare → n ≡ addressAfter base a (lineAt line l) → Places t base a (lineAt line l) (noWords n)
+  places-bare n e f = record { code = no-code (bodyOf (lineAt line l)) t a e; after = f }
+
+  pub places-skipped : l ≡ Skipped → Places t base a (lineAt line l) (noWords a)
+  places-skipped e = places-bare a (body-skipped line l e) (after-skipped line base a l e)
+
+  pub places-end : l ≡ End → Places t base a (lineAt line l) (noWords a)
+  places-end e = places-bare a (body-end line l e) (after-end line base a l e)
+
+  pub places-org : (v : Number) (n : ℕ) → l ≡ Org v → v ≡ Number·Value n → Places t base a (lineAt line l) (noWords (base + n))
+  places-org v n e f = places-bare (base + n) (body-org line l v e) (after-org line base a l n (e ∙ ap Org f))
+
+  pub org-fits : (v : Number) (n : ℕ) → l ≡ Org v → v ≡ Number·Value n → addressAfter base a (lineAt line l) < addressLimit → base + n < addressLimit
+  org-fits v n e f h = let k = after-org line base a l n (e ∙ ap Org f) in omega arith
+
+  pub places-no-org : (v : Number) → l ≡ Org v → v ≡ Unreadable → Places t base a (lineAt line l) (noWords a)
+  places-no-org v e f = places-bare a (body-org line l v e) (after-no-org line base a l (e ∙ ap Org f))
+
+  module _ (ns : Names) (b : ReadBody) (e : l ≡ Item ns b) where
+    pub places-bare-item : b ≡ Bare → Places t base a (lineAt line l) (noWords a)
+    places-bare-item f = places-bare a (body-bare line l ns b e f) (let h = after-item-of line base a l ns b e 0 (size-bare line b f) in omega arith)
+
+    data-after : (n : ℕ) (v : Number) → b ≡ Data n v → a + n ≡ addressAfter base a (lineAt line l)
+    data-after n v f = after-item-of line base a l ns b e n (size-data line b n v f)
+
+    pub data-fits : (n : ℕ) (v : Number) → b ≡ Data n v → addressAfter base a (lineAt line l) < addressLimit → a + n < addressLimit
+    data-fits n v f h = let k = data-after n v f in omega arith
+
+    pub places-data : (n : ℕ) (v : Number) → b ≡ Data n v → Places t base a (lineAt line l) (noWords (a + n))
+    places-data n v f = record { code = data-no-code (bodyOf (lineAt line l)) t a n (valueOf v) (body-data line l ns b e n v f); after = data-after n v f }
+
+    module _ (s : Span) (f : b ≡ Instruction s) where
+      instruction-after : (n : ℕ) → n ≡ size (instructionOf (spanText line s)) → a + n ≡ addressAfter base a (lineAt line l)
+      instruction-after n h = after-item-of line base a l ns b e n (h ∙ size-instruction line b s f)
+
+      pub instruction-fits : (n : ℕ) → n ≡ size (instructionOf (spanText line s)) → addressAfter base a (lineAt line l) < addressLimit → a + n < addressLimit
+      instruction-fits n h g = let k = instruction-after n h in omega arith
+
+      pub places-instruction : (r : Placed) (c : Code) (n : ℕ) → r .code ≡ c → r .after ≡ a + n → c ≡ codeOf (encodeBody t a (instructionOf (spanText line s)))
+          → n ≡ size (instructionOf (spanText line s)) → Places t base a (lineAt line l) r
+      places-instruction r c n u w g h =
+          record { code = u ∙ body-code (bodyOf (lineAt line l)) t a (spanText line s) c (body-instruction line l ns b e s f) g; after = w ∙ instruction-after n h }

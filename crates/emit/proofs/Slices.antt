@@ -55,7 +55,7 @@ field-start f l old h = record { column = column-start (map f l) old (rw (length
 
 module _ {f : Place → ℕ} {full left : List Place} {n : ℕ} {old xs : List ℕ} (a : ℕ) (code : Code) (rest : List Place)
     (k : Field f full left n old xs) (e : left ≡ placesOf a code ++ rest) where
-  field-length : length (map f (placesOf a code)) ≡ codeLength code
+  pub field-length : length (map f (placesOf a code)) ≡ codeLength code
   field-length = length-map (placesOf a code) f ∙ code-words a code
 
   field-split : map f left ≡ map f (placesOf a code) ++ map f rest

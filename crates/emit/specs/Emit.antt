@@ -1,7 +1,7 @@
--- The words of the data or of the instructions of all lines: their places, and the lent slices that hold them. Assumes nothing.
+-- The words of the data and of the instructions of all lines: their places, and the lent slices that hold them. Assumes nothing.
 use mathlib.Core.Path.{_≡_}
-use mathlib.Core.Bool.{true}
-use mathlib.Core.List.{List, map, flatMap}
+use mathlib.Core.Bool.{Bool, true, false}
+use mathlib.Core.List.{List, [], _++_, map, flatMap}
 use Prim.Native.Nat.{ℕ, _≤_, _<_}
 use lib.ListN.{length}
 use Rattle.rules.specs.Limits.{maxSource, addressLimit}
@@ -10,8 +10,11 @@ use Rattle.rules.specs.Label.{Table}
 use Rattle.rules.specs.Assemble.{Put, Place, linesOf, dataPlaces, codePlaces, over}
 use Rattle.label.specs.Table.{tableOf, Held, AllBelow}
 use Rattle.scan.specs.Walk.{walk, low}
-use Rattle.emit.specs.declared.Part.{Part}
-use Rattle.emit.specs.declared.Part.the-variants.{Values, Instructions}
+
+-- which words: data words come first, and instruction words behind them
+pub data Part : Type 0 where
+  Values : Part
+  Instructions : Part
 
 -- what a put comes to in a part
 abbrev pub partPlaces : Part → Table → Put → List Place
@@ -22,7 +25,16 @@ partPlaces Instructions t p = codePlaces t p
 abbrev pub listOf : Part → Table → ℕ → Text → List Place
 listOf part t base source = flatMap (partPlaces part t) (walk base base (linesOf source))
 
--- what both passes over the lines need: the labels are held, and every address stays below 2^30
+-- the list by the labels t: data words, and instruction words behind them
+abbrev pub listBy : Table → ℕ → Text → List Place
+listBy t base source = listOf Values t base source ++ listOf Instructions t base source
+
+-- the list where it is to be written, else nothing
+abbrev pub wanted : Bool → List Place → List Place
+wanted true l = l
+wanted false l = []
+
+-- what the pass over the lines needs: the labels are held, and every address stays below 2^30
 pub record Walking (source : Text) (base : ℕ) (cells : List ℕ) (count : ℕ) : Type 0 where
   pub short : length source ≤ maxSource
   pub base-below : base < addressLimit

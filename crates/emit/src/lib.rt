@@ -1,4 +1,4 @@
-// The second pass: the words of the data or of the instructions, counted and written into three lent slices.
+// The second pass: the words of the data and of the instructions, counted or written into three lent slices.
 use encode::Code;
 use line::Body;
 use line::Line;
@@ -6,24 +6,20 @@ use numeral::unsigned::Number;
 ghost use mathlib.Core.Path.{_≡_};
 ghost use mathlib.Core.Bool.{_||_};
 ghost use mathlib.Core.List.{_∷_, []};
-ghost use Prim.Native.Nat.{_+_, _<_};
+ghost use Prim.Native.Nat.{_+_, _≤_, _<_};
 ghost use lib.Dec.{eqb};
 ghost use lib.ListN.{length};
-ghost use Rattle.rules.specs.Limits.{addressLimit};
+ghost use Rattle.rules.specs.Limits.{maxSource, addressLimit};
 ghost use Rattle.rules.specs.Text.{Text};
+ghost use Rattle.rules.specs.Line.{instructionOf};
 ghost use Rattle.label.specs.Table.{tableOf};
 ghost use Rattle.line.specs.Line.{lineAt};
 ghost use Rattle.scan.specs.Walk.{bodyOf, isEnd};
 ghost use Rattle.encode.specs.Code.{codeOf, place, placesOf, codeLength};
 ghost use Rattle.encode.specs.Body.{encodeBody};
-ghost use Rattle.emit.specs.Emit.{listOf, Walking, Room, Written};
-ghost use Rattle.emit.specs.Read.{codeIn, dataCode, Lined, Standing, Reads, Stored};
-
-// Which words: data words come first, and instruction words behind them.
-pub enum Part {
-    Values,
-    Instructions,
-}
+ghost use Rattle.encode.specs.Near.{Near};
+ghost use Rattle.emit.specs.Emit.{Values, listOf, listBy, wanted, Walking, Room, Written};
+ghost use Rattle.emit.specs.Read.{dataCode, noWords, Lined, Places, Standing, Reads, Stored, endsAfter, Taking, StoredBoth};
 
 // ---- The words of a line.
 
@@ -50,57 +46,54 @@ fn value_code(read: Line) -> Code
     }
 }
 
-// The words of a line's instruction, if it has one.
+// An instruction's words, and the address after its line.
+struct Placed {
+    code: Code,
+    after: u32,
+}
+
+// No instruction, and the address after the line.
+fn no_words(after: u32) -> Placed
+    ensures { λ r. ⌜ r ≡ noWords after ⌝ }
+{
+    let code = Code::Nothing;
+    Placed { code, after }
+}
+
+// The words of a line's instruction, if it has one, and the address after the line.
 fn instruction_code(
     source: &[u8],
+    base: u32,
     table: &[u32],
     labels: usize,
     address: u32,
     line: &[u8],
     read: Line,
-) -> Code
-    requires { ⌜ Lined (now source) (now table) labels address (now line) read ⌝ }
-    ensures { λ r. ⌜ r ≡ codeOf (encodeBody (tableOf (now (source .entry)) (now (table .entry)) labels) address (bodyOf (lineAt (now (line .entry)) read))) ⌝ }
+) -> Placed
+    requires { ⌜ Lined (now source) base (now table) labels address (now line) read ⌝ }
+    ensures { λ r. ⌜ Places (tableOf (now (source .entry)) (now (table .entry)) labels) base address (lineAt (now (line .entry)) read) r ⌝ }
 {
     match read {
-        Line::Skipped => Code::Nothing,
-        Line::End => Code::Nothing,
-        Line::Org(_) => Code::Nothing,
+        Line::Skipped => no_words(address),
+        Line::End => no_words(address),
+        Line::Org(v) => match v {
+            Number::Value(n) => no_words(base + n),
+            Number::Unreadable => no_words(address),
+        },
         Line::Item(_, body) => match body {
-            Body::Bare => Code::Nothing,
-            Body::Data(_, _) => Code::Nothing,
+            Body::Bare => no_words(address),
+            Body::Data(n, _) => no_words(address + n),
             Body::Instruction(span) => {
                 let a = span.start;
                 let b = span.end;
-                let answer = encode::encode_instruction(
-                    source,
-                    table,
-                    labels,
-                    address,
-                    &line[a..b],
-                );
-                answer.code
+                let e = encode::encode_instruction(source, table, labels, address, &line[a..b]);
+                let code = e.code;
+                Placed {
+                    code,
+                    after: address + e.size,
+                }
             }
         },
-    }
-}
-
-// The words that a line puts into a part.
-fn line_code(
-    part: Part,
-    source: &[u8],
-    table: &[u32],
-    labels: usize,
-    address: u32,
-    line: &[u8],
-    read: Line,
-) -> Code
-    requires { ⌜ Lined (now source) (now table) labels address (now line) read ⌝ }
-    ensures { λ r. ⌜ r ≡ codeIn part (tableOf (now (source .entry)) (now (table .entry)) labels) address (bodyOf (lineAt (now (line .entry)) read)) ⌝ }
-{
-    match part {
-        Part::Values => value_code(read),
-        Part::Instructions => instruction_code(source, table, labels, address, line, read),
     }
 }
 
@@ -116,8 +109,10 @@ fn is_last(read: Line, end: usize, length: usize) -> bool
     }
 }
 
-// A line's words in a part, whether it is the last that is read, and where the next one starts and stands.
+// A line's words, those of its value and those of its instruction; whether it is the last that is read; and where the
+// next one starts and stands.
 struct Words {
+    value: Code,
     code: Code,
     last: bool,
     next: usize,
@@ -126,7 +121,6 @@ struct Words {
 
 // The words of the line that starts at `at`.
 fn read_words(
-    part: Part,
     source: &[u8],
     base: u32,
     table: &[u32],
@@ -135,54 +129,25 @@ fn read_words(
     address: u32,
 ) -> Words
     requires { ⌜ Standing (now source) base (now table) labels at address ⌝ }
-    ensures { λ r. ⌜ Reads part (tableOf (now (source .entry)) (now (table .entry)) labels) base (now (source .entry)) at address r ⌝ }
+    ensures { λ r. ⌜ Reads (tableOf (now (source .entry)) (now (table .entry)) labels) base (now (source .entry)) at address r ⌝ }
 {
-    let s = scan::scan_line(source, at, base, address);
+    let s = scan::scan_line(source, at);
     let end = s.end;
     let read = s.read;
-    let code = line_code(part, source, table, labels, address, &source[at..end], read);
+    let value = value_code(read);
+    let p = instruction_code(source, base, table, labels, address, &source[at..end], read);
+    let code = p.code;
     let last = is_last(read, end, source.len());
     Words {
+        value,
         code,
         last,
         next: end + 1,
-        after: s.after as u32,
+        after: p.after,
     }
 }
 
-// ---- All lines.
-
-// How many words a code has.
-fn code_words(code: Code) -> usize
-    ensures { λ r. ⌜ r ≡ codeLength code ⌝ }
-{
-    match code {
-        Code::Nothing => 0,
-        Code::Word(_) => 1,
-        Code::Value(_, _) => 2,
-        Code::Label(_, _) => 2,
-    }
-}
-
-// How many words a part has.
-pub fn count_words(part: Part, source: &[u8], base: u32, table: &[u32], labels: usize) -> usize
-    requires { ⌜ Walking (now source) base (now table) labels ⌝ }
-    ensures { λ r. ⌜ r ≡ length (listOf part (tableOf (now (source .entry)) (now (table .entry)) labels) base (now (source .entry))) ⌝ }
-{
-    let mut at = 0;
-    let mut address = base;
-    let mut n = 0;
-    loop {
-        let w = read_words(part, source, base, table, labels, at, address);
-        let code = w.code;
-        n += code_words(code);
-        if w.last {
-            return n;
-        }
-        at = w.next;
-        address = w.after;
-    }
-}
+// ---- The words of a line, put into the slices.
 
 // One word into place n.
 fn put(
@@ -250,30 +215,124 @@ fn put_code(
     }
 }
 
-// The words of a part, from the front of the slices on.
-pub fn write_words(
-    part: Part,
+// How many places hold data words, and how many behind them hold instruction words.
+struct Ends {
+    values: usize,
+    words: usize,
+}
+
+// A line's words into the slices, those of its value from place `done.values` on. Instruction words go in behind the
+// data words, of which there are `values`.
+fn put_line(
+    addresses: &mut [u32],
+    words: &mut [u16],
+    marks: &mut [u8],
+    values: usize,
+    done: Ends,
+    address: u32,
+    value: Code,
+    code: Code,
+) -> Ends
+    requires { ⌜ (address < addressLimit) × (done .values + codeLength value ≤ values) × Room (values + (done .words + codeLength code)) (now addresses) (now words) (now marks) ⌝ }
+    ensures { λ r. ⌜ r ≡ endsAfter done value code ⌝ }
+    ensures { λ _. ⌜ StoredBoth values (done .values) (placesOf address value) (done .words) (placesOf address code) (now (addresses .entry)) (now (words .entry)) (now (marks .entry)) (now (addresses .exit)) (now (words .exit)) (now (marks .exit)) ⌝ }
+{
+    let n = put_code(addresses, words, marks, done.values, address, value);
+    let m = put_code(
+        &mut addresses[values..],
+        &mut words[values..],
+        &mut marks[values..],
+        done.words,
+        address,
+        code,
+    );
+    Ends {
+        values: n,
+        words: m,
+    }
+}
+
+// How many words a code has.
+fn code_words(code: Code) -> usize
+    ensures { λ r. ⌜ r ≡ codeLength code ⌝ }
+{
+    match code {
+        Code::Nothing => 0,
+        Code::Word(_) => 1,
+        Code::Value(_, _) => 2,
+        Code::Label(_, _) => 2,
+    }
+}
+
+// A line's words, put into the slices if `write` says so, or only counted.
+fn take_line(
+    write: bool,
+    addresses: &mut [u32],
+    words: &mut [u16],
+    marks: &mut [u8],
+    values: usize,
+    done: Ends,
+    address: u32,
+    value: Code,
+    code: Code,
+) -> Ends
+    requires { ⌜ Taking write (now addresses) (now words) (now marks) values done address value code ⌝ }
+    ensures { λ r. ⌜ r ≡ endsAfter done value code ⌝ }
+    ensures { λ _. ⌜ StoredBoth values (done .values) (wanted write (placesOf address value)) (done .words) (wanted write (placesOf address code)) (now (addresses .entry)) (now (words .entry)) (now (marks .entry)) (now (addresses .exit)) (now (words .exit)) (now (marks .exit)) ⌝ }
+{
+    if write {
+        return put_line(addresses, words, marks, values, done, address, value, code);
+    }
+    let n = done.values + code_words(value);
+    let m = done.words + code_words(code);
+    Ends {
+        values: n,
+        words: m,
+    }
+}
+
+// ---- All lines.
+
+// How many words the list has, of which `values` are data words. They are put into the slices if `write` says so.
+pub fn emit_words(
+    write: bool,
     source: &[u8],
     base: u32,
     table: &[u32],
     labels: usize,
+    values: usize,
     addresses: &mut [u32],
     words: &mut [u16],
     marks: &mut [u8],
-)
-    requires { ⌜ Walking (now source) base (now table) labels ⌝ }
-    requires { ⌜ Room (length (listOf part (tableOf (now source) (now table) labels) base (now source))) (now addresses) (now words) (now marks) ⌝ }
-    ensures { λ _. ⌜ Written (listOf part (tableOf (now (source .entry)) (now (table .entry)) labels) base (now (source .entry))) (now (addresses .entry)) (now (words .entry)) (now (marks .entry)) (now (addresses .exit)) (now (words .exit)) (now (marks .exit)) ⌝ }
+) -> usize
+    requires { ⌜ Walking (now source) base (now table) labels × (values ≡ length (listOf Values (tableOf (now source) (now table) labels) base (now source))) ⌝ }
+    requires { ⌜ Room (length (wanted write (listBy (tableOf (now source) (now table) labels) base (now source)))) (now addresses) (now words) (now marks) ⌝ }
+    ensures { λ r. ⌜ r ≡ length (listBy (tableOf (now (source .entry)) (now (table .entry)) labels) base (now (source .entry))) ⌝ }
+    ensures { λ _. ⌜ Written (wanted write (listBy (tableOf (now (source .entry)) (now (table .entry)) labels) base (now (source .entry)))) (now (addresses .entry)) (now (words .entry)) (now (marks .entry)) (now (addresses .exit)) (now (words .exit)) (now (marks .exit)) ⌝ }
 {
     let mut at = 0;
     let mut address = base;
-    let mut n = 0;
+    let mut done = Ends {
+        values: 0,
+        words: 0,
+    };
     loop {
-        let w = read_words(part, source, base, table, labels, at, address);
+        let w = read_words(source, base, table, labels, at, address);
+        let value = w.value;
         let code = w.code;
-        n = put_code(addresses, words, marks, n, address, code);
+        done = take_line(
+            write,
+            addresses,
+            words,
+            marks,
+            values,
+            done,
+            address,
+            value,
+            code,
+        );
         if w.last {
-            return;
+            return values + done.words;
         }
         at = w.next;
         address = w.after;

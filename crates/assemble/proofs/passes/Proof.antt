@@ -3,7 +3,7 @@ use native.Mathlib.Omega.{arith}
 use Rattle.rules.specs.Limits.{maxLabels}
 use Rattle.label.specs.Table.{cellOf}
 use Rattle.label.proofs.Table.{held-zeros}
-use Rattle.assemble.proofs.TwoPasses.{walking, values-is, passes-refused, passes-done}
+use Rattle.assemble.proofs.TwoPasses.{second, passes-refused, passes-done}
 use borrow.Author.Needs.{needs}
 use Rattle.assemble.proofs.passes.Statement.{statement}
 use Rattle.assemble.proofs.passes.Tie as tie
@@ -24,7 +24,7 @@ slice-aggregate-second-pass : tie.Need-slice-aggregate-second-pass
 slice-aggregate-second-pass c = search needs
 
 second-pass-requires : tie.Need-second-pass-requires
-second-pass-requires c κs = (walking _ _ _ _ _ _ _ (c .before .before .before .before .before .before .before .before .first-pass .ensures) (c .before .before .before .before .before .labels .given .1) (c .before .before .before .before .before .before .before .before .before .before .before .before .before .before .pre .0) (c .before .before .before .before .before .before .before .before .before .before .before .before .before .before .pre .1), values-is _ _ _ _ _ _ _ (c .before .before .before .before .before .before .before .before .first-pass .ensures) (c .before .before .before .before .before .labels .given .1) (c .before .before .before .before .before .before .before .before .before .before .before .before .before .before .pre .0) (c .before .before .before .before .before .before .before .before .before .before .before .before .before .before .pre .1))
+second-pass-requires c κs = second _ _ _ _ _ _ _ (c .before .before .before .before .before .before .before .before .first-pass .ensures) (c .before .before .before .before .before .labels .given .1) (c .before .before .before .before .before .before .before .before .before .before .before .before .before .before .pre .0) (c .before .before .before .before .before .before .before .before .before .before .before .before .before .before .pre .1) _ (c .before .before .before .before .before .before .before .before .before .before .before .before .before .before .pre .2)
 
 returns : tie.Need-returns
 returns c = passes-refused _ _ _ _ _ _ _ _ (c .before .before .before .before .first-pass .ensures) (c .before .n .given .1)
