@@ -61,6 +61,15 @@ module _ (s : Text) (at i : ℕ) (inv : Begun s at i) where
           let k = rw (line-more s i h (no-ten _ e), leading-blank (getD s i 0) (lineFrom s (suc i)) (is-not _ b)) at (inv .same) in
           record { within = omega arith; same = rw (add-one i) (omega arith) }
 
+  -- from another byte on
+  pub begun-there : {r : ℕ} → r ≡ i + leading (lineFrom s i) → r ≡ at + leading (lineFrom s at)
+  begun-there e = e ∙ inv .same
+
+  -- a space is a blank
+  pub begun-space : i < length s → getD s i 0 ≡ 32 → Begun s at (i + 1)
+  unfolding blank
+  begun-space h e = begun-more h (λ z. absurd (omega arith)) (rw e)
+
 -- ---- a line from a place in it on
 module _ (f : ℕ → Bool) where
   until-drop : (k : ℕ) (t : Text) → k ≤ until f t → k + until f (drop k t) ≡ until f t
@@ -114,6 +123,11 @@ pub record Looked (s : Text) (at start i colon : ℕ) (d : Bool) : Type 0 where
   pub same-colon : colonBy s i colon ≡ at + until (eqb 58) (lineFrom s at)
   pub same-defines : definesBy s start i d ≡ isData (lineFrom s at)
 
+-- k is the first colon so far, with the byte at i
+pub record Colon (s : Text) (at i k : ℕ) : Type 0 where
+  pub behind : at ≤ k
+  pub same : colonBy s (i + 1) k ≡ at + until (eqb 58) (lineFrom s at)
+
 -- the byte before the next place is the byte here
 back-one : (s : Text) (start i : ℕ) → start ≤ i → back s start (i + 1) 1 ≡ getD s i 0
 back-one s start i h = let k : i + 1 - 1 ≡ i = omega arith in rw (le-leb (start + 1) (i + 1) (omega arith), k)
@@ -152,18 +166,24 @@ module _ (s : Text) (at start i colon : ℕ) (d : Bool) (inv : Looked s at start
     here : lineFrom s i ≡ getD s i 0 ∷ lineFrom s (suc i)
     here = line-more s i h (no-ten (getD s i 0) e)
 
-    colon-next : colonBy s (i + 1) (nextColon (length s) colon i (getD s i 0)) ≡ at + until (eqb 58) (lineFrom s at)
-    colon-next = go (eqb (getD s i 0) 58) (eqb colon (length s)) refl refl
+    -- a byte that is a colon, and one that is none
+    colon-here : getD s i 0 ≡ 58 → colonBy s (i + 1) (nextColon (length s) colon i) ≡ at + until (eqb 58) (lineFrom s at)
+    colon-here f = go (eqb colon (length s)) refl
       where
-        go : (y z : Bool) → eqb (getD s i 0) 58 ≡ y → eqb colon (length s) ≡ z → colonBy s (i + 1) (nextColon (length s) colon i (getD s i 0)) ≡ at + until (eqb 58) (lineFrom s at)
-        go true true f g =
-            let u = until-here (eqb 58) (getD s i 0) (lineFrom s (suc i)) (eqb-sym 58 (getD s i 0) ∙ f) in
-            rw (f, g, ne-eqb i (length s) (λ z. absurd (omega arith))) (let k = rw (g, here, u) at (inv .same-colon) in omega arith)
-        go false true f g =
-            let u = until-later (eqb 58) (getD s i 0) (lineFrom s (suc i)) (eqb-sym 58 (getD s i 0) ∙ f) in
-            rw (f, g, add-one i) (let k = rw (g, here, u) at (inv .same-colon) in omega arith)
-        go true false f g = rw (f, g) (rw g (rw g at (inv .same-colon)))
-        go false false f g = rw f (rw g (rw g at (inv .same-colon)))
+        go : (z : Bool) → eqb colon (length s) ≡ z → colonBy s (i + 1) (nextColon (length s) colon i) ≡ at + until (eqb 58) (lineFrom s at)
+        go true g =
+            let u = until-here (eqb 58) (getD s i 0) (lineFrom s (suc i)) (eqb-sym 58 (getD s i 0) ∙ eq-eqb (getD s i 0) 58 f) in
+            rw (g, ne-eqb i (length s) (λ z. absurd (omega arith))) (let k = rw (g, here, u) at (inv .same-colon) in omega arith)
+        go false g = rw g (rw g (rw g at (inv .same-colon)))
+
+    colon-later : getD s i 0 ≢ 58 → colonBy s (i + 1) colon ≡ at + until (eqb 58) (lineFrom s at)
+    colon-later f = go (eqb colon (length s)) refl
+      where
+        go : (z : Bool) → eqb colon (length s) ≡ z → colonBy s (i + 1) colon ≡ at + until (eqb 58) (lineFrom s at)
+        go true g =
+            let u = until-later (eqb 58) (getD s i 0) (lineFrom s (suc i)) (eqb-sym 58 (getD s i 0) ∙ ne-eqb (getD s i 0) 58 f) in
+            rw (g, add-one i) (let k = rw (g, here, u) at (inv .same-colon) in omega arith)
+        go false g = rw g (rw g at (inv .same-colon))
 
     defines-next : definesBy s start (i + 1) (d || (eqb (getD s i 0) 46 && isDefine (back s start i 2) (back s start i 1))) ≡ isData (lineFrom s at)
     unfolding definesFrom
@@ -172,30 +192,42 @@ module _ (s : Text) (at start i colon : ℕ) (d : Bool) (inv : Looked s at start
         (or-assoc d (eqb (getD s i 0) 46 && isDefine (back s start i 2) (back s start i 1)) (definesFrom (back s start i 1) (getD s i 0) (lineFrom s (suc i)))
         ∙ (rw here at (inv .same-defines)))
 
-    -- one byte more, at most a colon
-    pub looked-byte : Looked s at start (i + 1) (nextColon (length s) colon i (getD s i 0)) (d || (eqb (getD s i 0) 46 && isDefine (back s start i 2) (back s start i 1)))
-    looked-byte =
+    -- a dot, and a byte that is none
+    pub defines-here : getD s i 0 ≡ 46 → definesBy s start (i + 1) (d || isDefine (back s start i 2) (back s start i 1)) ≡ isData (lineFrom s at)
+    defines-here f = rw (eq-eqb (getD s i 0) 46 f) at defines-next
+
+    pub defines-later : getD s i 0 ≢ 46 → definesBy s start (i + 1) d ≡ isData (lineFrom s at)
+    defines-later f = rw (ne-eqb (getD s i 0) 46 f, or-false d) at defines-next
+
+    pub colon-found : getD s i 0 ≡ 58 → {k : ℕ} → k ≡ nextColon (length s) colon i → Colon s at i k
+    colon-found f q = rw q (record { behind = later; same = colon-here f })
+      where
+        later : at ≤ nextColon (length s) colon i
+        later = go (eqb colon (length s)) refl
+          where
+            go : (y : Bool) → eqb colon (length s) ≡ y → at ≤ nextColon (length s) colon i
+            go true g = rw g (let k = inv .ordered in let l = inv .begun in omega arith)
+            go false g = rw g (inv .behind)
+
+    pub colon-kept : getD s i 0 ≢ 58 → {k : ℕ} → k ≡ colon → Colon s at i k
+    colon-kept f q = rw q (record { behind = inv .behind; same = colon-later f })
+
+    -- one byte more
+    pub looked-byte : (k : ℕ) (e : Bool) → Colon s at i k → definesBy s start (i + 1) e ≡ isData (lineFrom s at) → Looked s at start (i + 1) k e
+    looked-byte k f c g =
         record {
           begun = inv .begun;
-          ordered = let k = inv .ordered in omega arith;
+          ordered = let l = inv .ordered in omega arith;
           within = omega arith;
           inside = stepped-more (eqb 10) s at i h (no-ten (getD s i 0) e) (inv .inside);
-          behind = later;
-          same-colon = colon-next;
-          same-defines = defines-next;
+          behind = c .behind;
+          same-colon = c .same;
+          same-defines = g;
         }
-      where
-        later : at ≤ nextColon (length s) colon i (getD s i 0)
-        later = go (eqb (getD s i 0) 58 && eqb colon (length s)) refl
-          where
-            go : (y : Bool) → (eqb (getD s i 0) 58 && eqb colon (length s)) ≡ y → at ≤ nextColon (length s) colon i (getD s i 0)
-            go true f = rw f (let k = inv .ordered in let l = inv .begun in omega arith)
-            go false f = rw f (inv .behind)
 
     -- a letter is neither colon nor dot
     pub looked-letter : 58 < getD s i 0 → Looked s at start (i + 1) colon d
-    looked-letter g =
-        rw (ne-eqb (getD s i 0) 58 (λ z. absurd (omega arith)), ne-eqb (getD s i 0) 46 (λ z. absurd (omega arith)), or-false d) at looked-byte
+    looked-letter g = looked-byte colon d (colon-kept (λ z. absurd (omega arith)) refl) (defines-later (λ z. absurd (omega arith)))
 
   pub places : (at ≤ start) × (at ≤ colon) × (at ≤ i)
   places = let k = inv .ordered in let l = inv .begun in (omega arith, inv .behind, omega arith)

@@ -32,9 +32,9 @@ unfoldable pub definesFrom : ℕ → ℕ → Text → Bool
 definesFrom p q [] = false
 definesFrom p q (b ∷ s) = eqb b 46 && isDefine p q || definesFrom q b s
 
--- the first colon, `none` where there is none, with one more byte b at i
-abbrev pub nextColon : ℕ → ℕ → ℕ → ℕ → ℕ
-nextColon none colon i b = cond (eqb b 58 && eqb colon none) i colon
+-- the first colon, `none` where there is none, with one more at i
+abbrev pub nextColon : ℕ → ℕ → ℕ → ℕ
+nextColon none colon i = cond (eqb colon none) i colon
 
 -- an outline by places in the source; the colon `none` where there is none
 abbrev pub outlineBy : ℕ → ℕ → ℕ → ℕ → Bool → ℕ → Outline

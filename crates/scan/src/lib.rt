@@ -3,9 +3,8 @@ use line::Body;
 use line::Line;
 use numeral::unsigned::Number;
 ghost use mathlib.Core.Path.{_≡_};
-ghost use mathlib.Core.Bool.{_&&_, _||_};
+ghost use mathlib.Core.Bool.{_||_};
 ghost use Prim.Native.Nat.{_+_, _≤_};
-ghost use lib.Dec.{eqb};
 ghost use lib.ListN.{length};
 ghost use Rattle.rules.specs.Text.{cutAt, leading};
 ghost use Rattle.rules.specs.Assemble.{firstHigh};
@@ -77,7 +76,7 @@ pub fn count_lines(s: &[u8]) -> usize
 // ---- A line's outline.
 
 // Where the text of the line that starts at `at` begins, behind its leading blanks.
-fn text_start(source: &[u8], at: usize) -> usize
+fn behind_blanks(source: &[u8], at: usize) -> usize
     requires { ⌜ at ≤ length (now source) ⌝ }
     ensures { λ r. ⌜ r ≡ at + leading (lineFrom (now (source .entry)) at) ⌝ }
 {
@@ -88,6 +87,21 @@ fn text_start(source: &[u8], at: usize) -> usize
         }
         if !text::is_blank(source[i]) {
             return i;
+        }
+        i += 1;
+    }
+    i
+}
+
+// The same, the usual blank first.
+fn text_start(source: &[u8], at: usize) -> usize
+    requires { ⌜ at ≤ length (now source) ⌝ }
+    ensures { λ r. ⌜ r ≡ at + leading (lineFrom (now (source .entry)) at) ⌝ }
+{
+    let mut i = at;
+    while i < source.len() {
+        if source[i] != b' ' {
+            return behind_blanks(source, i);
         }
         i += 1;
     }
@@ -119,27 +133,21 @@ fn has_define(source: &[u8], start: usize, i: usize) -> bool
     is_define(source[i - 2], source[i - 1])
 }
 
-// DC. or DS. is there, with one more byte at i.
-fn next_define(source: &[u8], start: usize, i: usize, defines: bool, b: u8) -> bool
+// DC. or DS. is there, with a dot at i.
+fn next_define(source: &[u8], start: usize, i: usize, defines: bool) -> bool
     requires { ⌜ (start ≤ i) × (i ≤ length (now source)) ⌝ }
-    ensures { λ r. ⌜ r ≡ (defines || (eqb b 46 && isDefine (back (now (source .entry)) start i 2) (back (now (source .entry)) start i 1))) ⌝ }
+    ensures { λ r. ⌜ r ≡ (defines || isDefine (back (now (source .entry)) start i 2) (back (now (source .entry)) start i 1)) ⌝ }
 {
     if defines {
         return true;
     }
-    if b != b'.' {
-        return false;
-    }
     has_define(source, start, i)
 }
 
-// The first colon, `none` where there is none yet, with one more byte at i.
-fn next_colon(none: usize, colon: usize, i: usize, b: u8) -> usize
-    ensures { λ r. ⌜ r ≡ nextColon none colon i b ⌝ }
+// The first colon, `none` where there is none yet, with one more at i.
+fn next_colon(none: usize, colon: usize, i: usize) -> usize
+    ensures { λ r. ⌜ r ≡ nextColon none colon i ⌝ }
 {
-    if b != b':' {
-        return colon;
-    }
     if colon != none {
         return colon;
     }
@@ -203,8 +211,12 @@ fn outline_line(source: &[u8], at: usize) -> Outline
             if b == 10 {
                 return outline_by(at, start, none, colon, defines, i);
             }
-            colon = next_colon(none, colon, i, b);
-            defines = next_define(source, start, i, defines, b);
+            if b == b':' {
+                colon = next_colon(none, colon, i);
+            }
+            if b == b'.' {
+                defines = next_define(source, start, i, defines);
+            }
         }
         i += 1;
     }

@@ -1,5 +1,4 @@
 -- `next_colon` keeps the first colon. Assumes nothing.
-use mathlib.Core.Path.{refl}
 use borrow.Author.Tests.{eq-eqb, ne-eqb}
 use Rattle.scan.proofs.next_colon.Statement.{statement}
 use Rattle.scan.proofs.next_colon.Tie as tie
@@ -8,10 +7,7 @@ returns : tie.Need-returns
 returns c = rw (ne-eqb _ _ (c .if1 .taken))
 
 returns-2 : tie.Need-returns-2
-returns-2 c = rw (eq-eqb _ _ (c .before .if1 .left), ne-eqb _ _ (c .if2 .taken))
-
-returns-3 : tie.Need-returns-3
-returns-3 c = rw (eq-eqb _ _ (c .before .if1 .left), eq-eqb _ _ (c .if2 .left))
+returns-2 c = rw (eq-eqb _ _ (c .if1 .left))
 
 pub next-colon-spec : {M : Type 1} → statement M
-next-colon-spec = tie.close (tie.spec returns returns-2 returns-3)
+next-colon-spec = tie.close (tie.spec returns returns-2)

@@ -4,7 +4,7 @@ use mathlib.Core.Logic.{⊎-elim}
 use Prim.Native.Nat.{_-_}
 use native.Mathlib.Omega.{arith}
 use lib.ListN.{length}
-use Rattle.scan.proofs.Looking.{Looked, looked-first, looked-byte, looked-letter, looked-all, places, ended, over}
+use Rattle.scan.proofs.Looking.{Looked, looked-first, colon-found, colon-kept, defines-here, defines-later, looked-byte, looked-letter, looked-all, places, ended, over}
 use borrow.Author.Needs.{needs}
 use Rattle.scan.proofs.outline_line.Statement.{statement}
 use Rattle.scan.proofs.outline_line.Tie as tie
@@ -34,7 +34,7 @@ next-colon-requires : tie.Need-next-colon-requires Inv-loop μ-loop
 next-colon-requires c κs = search needs
 
 next-define-requires : tie.Need-next-define-requires Inv-loop μ-loop
-next-define-requires c κs = let inv = c .before .before .before .before .before .loop .inv .1 in (inv .ordered, inv .within)
+next-define-requires c κs = let inv = c .before .before .before .before .before .before .loop .inv .1 in (inv .ordered, inv .within)
 
 add-i : tie.Need-add-i Inv-loop μ-loop
 add-i c = search needs
@@ -47,8 +47,10 @@ loop-again c =
     let inv = c .before .before .before .loop .inv .1 in (
       refl,
       ⊎-elim
-          (λ w. rw (w .4 ∙ w .2 .ensures, w .5 ∙ w .3 .ensures) (looked-byte _ _ _ _ _ _ inv (search needs) (w .1 .left)))
-          (λ w. rw (w .1, w .2) (let g = w .0 .left in looked-letter _ _ _ _ _ _ inv (search needs) (λ z. absurd (omega arith)) g))
+          (λ w. rw (w .5, w .6 ∙ w .4 .ensures) (looked-byte _ _ _ _ _ _ inv (search needs) (w .1 .left) _ _ (⊎-elim (λ u. colon-found _ _ _ _ _ _ inv (search needs) (w .1 .left) (u .0 .taken) (u .2 ∙ u .1 .ensures)) (λ u. colon-kept _ _ _ _ _ _ inv (search needs) (w .1 .left) (u .0 .left) (u .1)) (w .2 .came)) (defines-here _ _ _ _ _ _ inv (search needs) (w .1 .left) (w .3 .taken))))
+          (⊎-elim
+          (λ w. rw (w .4, w .5) (looked-byte _ _ _ _ _ _ inv (search needs) (w .1 .left) _ _ (⊎-elim (λ u. colon-found _ _ _ _ _ _ inv (search needs) (w .1 .left) (u .0 .taken) (u .2 ∙ u .1 .ensures)) (λ u. colon-kept _ _ _ _ _ _ inv (search needs) (w .1 .left) (u .0 .left) (u .1)) (w .2 .came)) (defines-later _ _ _ _ _ _ inv (search needs) (w .1 .left) (w .3 .left))))
+          (λ w. rw (w .1, w .2) (let g = w .0 .left in looked-letter _ _ _ _ _ _ inv (search needs) (λ z. absurd (omega arith)) g)))
           (c .if1 .came),
     )
 

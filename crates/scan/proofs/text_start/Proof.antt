@@ -1,9 +1,8 @@
--- `text_start` steps over the line's leading blanks. Assumes nothing.
-use mathlib.Core.Path.{refl, sym, ap, _∙_}
-use mathlib.Core.Bool.{not}
+-- `text_start` steps over spaces, and leaves other blanks to `behind_blanks`. Assumes nothing.
+use mathlib.Core.Path.{refl}
 use Prim.Native.Nat.{_-_}
 use lib.ListN.{length}
-use Rattle.scan.proofs.Looking.{Begun, begun-ended, begun-over, begun-text, begun-more}
+use Rattle.scan.proofs.Looking.{Begun, begun-ended, begun-there, begun-space}
 use borrow.Author.Needs.{needs}
 use Rattle.scan.proofs.text_start.Statement.{statement}
 use Rattle.scan.proofs.text_start.Tie as tie
@@ -20,17 +19,11 @@ loop-holds c = record { within = search needs; same = refl }
 shared-slice-read-if1 : tie.Need-shared-slice-read-if1 Inv-loop μ-loop
 shared-slice-read-if1 c = search needs
 
+behind-blanks-requires : tie.Need-behind-blanks-requires Inv-loop μ-loop
+behind-blanks-requires c κs = search needs
+
 returns : tie.Need-returns Inv-loop μ-loop
-returns c = search (begun-over, needs)
-
-shared-slice-read-is-blank : tie.Need-shared-slice-read-is-blank Inv-loop μ-loop
-shared-slice-read-is-blank c = search needs
-
-is-blank-requires : tie.Need-is-blank-requires Inv-loop μ-loop
-is-blank-requires c κs = search needs
-
-returns-2 : tie.Need-returns-2 Inv-loop μ-loop
-returns-2 c = begun-text _ _ _ (c .before .before .before .before .before .before .loop .inv) (search needs) (c .before .before .before .if1 .left) (sym (ap not (c .before .is-blank .ensures)) ∙ c .if2 .taken)
+returns c = begun-there _ _ _ (c .before .before .before .before .loop .inv) (c .behind-blanks .ensures)
 
 add-i : tie.Need-add-i Inv-loop μ-loop
 add-i c = search needs
@@ -39,10 +32,10 @@ loop-less : tie.Need-loop-less Inv-loop μ-loop
 loop-less c = search needs
 
 loop-again : tie.Need-loop-again Inv-loop μ-loop
-loop-again c = begun-more _ _ _ (c .before .before .before .before .before .before .loop .inv) (search needs) (c .before .before .before .if1 .left) (sym (ap not (c .before .is-blank .ensures)) ∙ c .if2 .left)
+loop-again c = begun-space _ _ _ (c .before .before .before .loop .inv) (search needs) (c .if1 .left)
 
-returns-3 : tie.Need-returns-3 Inv-loop μ-loop
-returns-3 c = search (begun-ended, needs)
+returns-2 : tie.Need-returns-2 Inv-loop μ-loop
+returns-2 c = search (begun-ended, needs)
 
 pub text-start-spec : {M : Type 1} → statement M
 text-start-spec =
@@ -52,11 +45,9 @@ text-start-spec =
     μ-loop
     loop-holds
     shared-slice-read-if1
+    behind-blanks-requires
     returns
-    shared-slice-read-is-blank
-    is-blank-requires
-    returns-2
     add-i
     loop-less
     loop-again
-    returns-3)
+    returns-2)
