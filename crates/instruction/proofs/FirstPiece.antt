@@ -1,28 +1,24 @@
 -- Laws of the first piece of an instruction's text, and what they come to: the instruction by its parts. Assumes nothing.
 use mathlib.Core.Path.{_≡_, refl, sym, ap, _∙_}
-use mathlib.Core.Bool.{Bool, true, false}
+use mathlib.Core.Bool.{Bool, true, false, and-false, or-false}
 use mathlib.Core.Option.{some}
 use mathlib.Core.List.{[], _∷_}
 use Prim.Native.Nat.{ℕ, suc, _+_, _-_, _≤_, _<_}
 use native.Mathlib.Numerals.{add-one}
 use native.Mathlib.Omega.{arith}
-use borrow.Author.Tests.{ltb-true, ltb-false, ne-eqb}
+use borrow.Author.Tests.{ltb-true, ltb-false, lt-leb, ne-eqb}
 use lib.Dec.{ltb, eqb}
-use lib.ListN.{length, length-take, take, drop, getD, length-drop, drop-of-length-le}
-use lib.Seq.{length-take-le, take-nil, take-take}
-use Rattle.rules.specs.Text.{Text, bytes, uppers, leading, cutWhere, cutAt, onFirst, dropEmpty, pieces, joined, same, nth, firstText, otherTexts}
+use lib.ListN.{length, take, drop, getD, length-drop, drop-of-length-le}
+use lib.Seq.{length-take-le, take-nil, take-take, drop-cons, drop-drop}
+use Rattle.rules.specs.Text.{Text, bytes, blank, uppers, leading, cutWhere, cutAt, onFirst, dropEmpty, pieces, joined, same, nth, firstText, otherTexts}
 use Rattle.rules.specs.Line.{instruction, operandsOf, instructionOf, isL}
 use Rattle.text.specs.Pieces.{until, run, nextPiece}
-use Rattle.text.specs.Find.{indexOf, foundOf}
 use Rattle.text.specs.declared.Span.{Span}
-use Rattle.text.specs.declared.Found.the-variants.{At, Nothing}
 use Rattle.text.proofs.Compare.{eqb-sym}
-use Rattle.text.proofs.Until.{until-le, until-later, cut-here, cut-first}
+use Rattle.text.proofs.Until.{until-here, until-later, until-le, until-rest, cut-here, cut-later, cut-first}
 use Rattle.text.proofs.Trim.{leading-le}
-use Rattle.text.proofs.Kept.{rest-is}
 use Rattle.text.proofs.Pieces.{Next, next-some, next-none}
-use Rattle.text.proofs.Find.{Indexed, found-at, found-nowhere}
-use Rattle.instruction.specs.FirstPiece.{part, suffixOf, firstIsL, headOf, HeadOf}
+use Rattle.instruction.specs.FirstPiece.{part, suffixOf, firstIsL, endsName, headOf, HeadOf}
 use Rattle.instruction.specs.Split.{operandsIn}
 use Rattle.instruction.specs.declared.Head.{Head}
 
@@ -75,9 +71,6 @@ module _ (t : Text) (r : Span) (e : r ≡ nextPiece t 0) where
       go true q = there (next-some t 0 r e (ltb-true (r .start) (length t) q))
       go false q = nowhere (ltb-false (r .start) (length t) q)
 
-  pub piece-within : (r .start ≤ r .end) × (r .end ≤ length t)
-  piece-within = (omega (arith, first-piece .start, first-piece .end), first-piece .within)
-
 -- ---- the suffix
 -- a cut has a first text
 nth-zero : (t : Text) → nth 0 (cutAt 46 t) ≡ some (firstText (cutAt 46 t))
@@ -123,33 +116,116 @@ suffix-dotted (b ∷ c ∷ s) e h = rw (e, first-later 76 (c ∷ s) refl) (go (e
     go true q = rw (first-here c s q) (eqb-sym c 46 ∙ q)
     go false q = rw (first-later c s q) (eqb-sym c 46 ∙ q)
 
+-- ---- the mnemonic's end
+module _ (b : ℕ) where
+  ends-blank : blank b ≡ true → endsName b ≡ true
+  unfolding endsName
+  ends-blank e = rw e
+
+  ends-by : blank b ≡ false → endsName b ≡ eqb 46 b
+  unfolding endsName
+  ends-by e = rw e
+
+  -- the returns of `ends_name`
+  pub ends-high : 46 < b → false ≡ endsName b
+  unfolding endsName blank
+  ends-high h = rw (lt-leb b 13 (omega arith), and-false, ne-eqb b 32 (λ e. omega arith), ne-eqb 46 b (λ e. omega arith))
+
+  pub ends-dot : b ≡ 46 → true ≡ endsName b
+  unfolding endsName blank
+  ends-dot e = rw e
+
+  pub ends-rest : (b ≡ 46 → ⊥) → {y : Bool} → y ≡ blank b → y ≡ endsName b
+  unfolding endsName
+  ends-rest d q = rw (ne-eqb 46 b (λ e. d (sym e)), or-false) q
+
+-- the first piece of a text, cut there: it goes on behind the mnemonic as the text does
+record Word (s : Text) : Type 0 where
+  more : run s ≡ until endsName s + run (drop (until endsName s) s)
+  parts : cutAt 46 (take (run s) s) ≡ take (until endsName s) s ∷ otherTexts (cutAt 46 (take (run (drop (until endsName s) s)) (drop (until endsName s) s)))
+
+word : (s : Text) → Word s
+unfolding until cutAt cutWhere otherTexts onFirst
+word [] = record { more = refl; parts = refl }
+word (b ∷ s) = go (blank b) (eqb 46 b) refl refl (word s)
+  where
+    go : (x y : Bool) → blank b ≡ x → eqb 46 b ≡ y → Word s → Word (b ∷ s)
+    go true y e d w = let z = until-here endsName b s (ends-blank b e) in record { more = rw z (omega arith); parts = rw (z, until-here blank b s e) }
+    go false true e d w =
+        let z = until-here endsName b s (ends-by b e ∙ d) in
+        record { more = rw z (omega arith); parts = rw (z, until-later blank b s e, cut-here (eqb 46) b (take (run s) s) d) }
+    go false false e d w =
+        let z = until-later endsName b s (ends-by b e ∙ d) in
+        record {
+          more = rw (z, until-later blank b s e) (omega (arith, w .more));
+          parts = rw (z, until-later blank b s e, cut-later (eqb 46) b (take (run s) s) d) (ap (onFirst b) (w .parts));
+        }
+
 -- ---- what `read_head` answers
-module _ (t : Text) (r : Span) (e : r ≡ nextPiece t 0) where
-  -- without a dot
-  pub head-plain : foundOf (indexOf 46 (part (r .start) (r .end) t)) ≡ Nothing → record { start = r .start; end = r .end; long = false; tail = r .end } ≡ headOf t
-  unfolding headOf nth firstText isL
-  head-plain f =
-      let p : Piece t r = first-piece t r e in
-      let u : cutAt 46 (firstText (pieces t)) ≡ firstText (pieces t) ∷ [] = found-nowhere 46 (firstText (pieces t)) (rw (p .text) at f) .parts in
-      rw (u, p .end, p .start)
+pub piece-end : (t : Text) (n : ℕ) {e : ℕ} → n ≤ length t → e ≡ n + run (drop n t) → e ≤ length t
+piece-end t n h q = omega (arith, until-le blank (drop n t), length-drop n t)
 
-  -- with the first dot at i of the piece
-  module _ (i : ℕ) (f : foundOf (indexOf 46 (part (r .start) (r .end) t)) ≡ At i) where
-    pub dot-within : (i < length (part (r .start) (r .end) t)) × (r .start + i < length t)
-    dot-within =
-        let w : i < length (part (r .start) (r .end) t) = found-at 46 (part (r .start) (r .end) t) i f .within in
-        (w, omega (arith, length-take (r .end - r .start) (drop (r .start) t), piece-within t r e .1))
+module _ (t : Text) (a n : ℕ) (p : a ≡ leading t) (q : n ≡ a + until endsName (drop a t)) where
+  behind-name : drop (until endsName (drop a t)) (drop a t) ≡ drop n t
+  behind-name = drop-drop (until endsName (drop a t)) a t ∙ rw (← q)
 
-    pub head-dotted : (l : Bool) → l ≡ firstIsL (take (length (part (r .start) (r .end) t) - (i + 1)) (drop (i + 1) (part (r .start) (r .end) t)))
-        → record { start = r .start; end = r .start + i; long = l; tail = r .end } ≡ headOf t
-    unfolding headOf nth firstText isL
-    head-dotted l h =
-        let p : Piece t r = first-piece t r e in
-        let w : Text = firstText (pieces t) in
-        let x : Indexed 46 w i = found-at 46 w i (rw (p .text) at f) in
-        let n : length (take i w) ≡ i = length-take-le i w (omega (arith, x .within)) in
-        let long : l ≡ firstIsL (drop (suc i) w) = rw (p .text, rest-is w (i + 1), add-one i) at h in
-        rw (x .parts, nth-zero (drop (suc i) w), n, p .end, p .start, ← long)
+  pub name-within : n ≤ length t
+  name-within = omega (arith, leading-le t, until-le endsName (drop a t), length-drop a t)
+
+  abbrev here : Span
+  here = record { start = a; end = a + run (drop a t) }
+
+  here-first : Piece t here
+  here-first = let z : 0 + leading t ≡ leading t = omega arith in first-piece t here (rw (z, p))
+
+  first : take (run (drop a t)) (drop a t) ≡ firstText (pieces t)
+  first = let z : a + run (drop a t) - a ≡ run (drop a t) = omega arith in rw z at (here-first .text)
+
+  -- the piece goes on where the mnemonic ends
+  to-tail : a + length (firstText (pieces t)) ≡ n + run (drop n t)
+  to-tail = rw (← behind-name) (omega (arith, here-first .end, word (drop a t) .more))
+
+  cut-name : cutAt 46 (firstText (pieces t)) ≡ take (n - a) (drop a t) ∷ otherTexts (cutAt 46 (take (run (drop n t)) (drop n t)))
+  cut-name =
+      let z : until endsName (drop a t) ≡ n - a = omega arith in
+      rw (← first, ← behind-name, ← z) (word (drop a t) .parts)
+
+  -- the head, by the suffix and the piece's end
+  head-by : (l : Bool) (e : ℕ) → l ≡ isL (suffixOf t) → e ≡ n + run (drop n t) → record { start = a; end = n; long = l; tail = e } ≡ headOf t
+  unfolding headOf firstText
+  head-by l e u v =
+      let k : a + length (take (n - a) (drop a t)) ≡ n = omega (arith, length-take-le (n - a) (drop a t) (omega (arith, name-within, length-drop a t))) in
+      rw (← p, ← u, to-tail, ← v, cut-name, k)
+
+  -- the piece ends with the mnemonic
+  plain : run (drop n t) ≡ 0 → record { start = a; end = n; long = false; tail = n } ≡ headOf t
+  unfolding nth otherTexts cutAt cutWhere isL
+  plain z = head-by false n (rw (cut-name, z)) (omega arith)
+
+  pub head-end : length t ≤ n → record { start = a; end = n; long = false; tail = n } ≡ headOf t
+  unfolding until
+  head-end h = plain (rw (drop-of-length-le t h))
+
+  module _ (h : n < length t) where
+    stopped : endsName (getD t n 0) ≡ true
+    stopped = go (endsName (getD t n 0)) refl
+      where
+        go : (y : Bool) → endsName (getD t n 0) ≡ y → y ≡ true
+        go true e = refl
+        go false e = absurd (omega (arith, until-later endsName (getD t n 0) (drop (suc n) t) e, rw (behind-name, drop-cons t n 0 h) at (until-rest endsName (drop a t))))
+
+    pub head-plain : (getD t n 0 ≡ 46 → ⊥) → record { start = a; end = n; long = false; tail = n } ≡ headOf t
+    head-plain d = plain (rw (drop-cons t n 0 h) (until-here blank (getD t n 0) (drop (suc n) t) (ends-rest (getD t n 0) d refl ∙ stopped)))
+
+    pub head-dotted : getD t n 0 ≡ 46 → {e : ℕ} → e ≡ n + 1 + run (drop (n + 1) t) → {l : Bool} → l ≡ firstIsL (part (n + 1) e t)
+        → record { start = a; end = n; long = l; tail = e } ≡ headOf t
+    unfolding nth otherTexts cutAt isL blank
+    head-dotted d {e} u {l} v =
+        let s : Text = drop (n + 1) t in
+        let k : e - (n + 1) ≡ run s = omega arith in
+        let c : drop n t ≡ 46 ∷ s = drop-cons t n 0 h ∙ rw (d, add-one n) in
+        let r : run (drop n t) ≡ suc (run s) = rw c (until-later blank 46 s refl) in
+        head-by l e (rw (cut-name, r, c, cut-here (eqb 46) 46 (take (run s) s) refl, nth-zero (take (run s) s)) (rw k at v)) (omega arith)
 
 -- ---- for callers
 head-piece : (t : Text) (r : Span) → Piece t r → HeadOf t (headOf t)

@@ -1,11 +1,12 @@
 -- The first piece of an instruction's text: the mnemonic's place, the suffix, and where the tail starts. Assumes nothing.
 use Prim.Native.Nat.{ℕ, _+_, _-_, _≤_}
 use mathlib.Core.Path.{_≡_}
-use mathlib.Core.Bool.{Bool}
+use mathlib.Core.Bool.{Bool, _||_}
 use mathlib.Core.Option.{Option}
 use mathlib.Core.List.{List}
+use lib.Dec.{eqb}
 use lib.ListN.{length, take, drop}
-use Rattle.rules.specs.Text.{Text, bytes, leading, cutAt, pieces, same, nth, firstText, otherTexts}
+use Rattle.rules.specs.Text.{Text, bytes, blank, leading, cutAt, pieces, same, nth, firstText, otherTexts}
 use Rattle.rules.specs.Line.{isL}
 use Rattle.instruction.specs.declared.Head.{Head}
 
@@ -20,6 +21,10 @@ headParts t = cutAt 46 (firstText (pieces t))
 -- the suffix as written, if any
 abbrev pub suffixOf : Text → Option Text
 suffixOf t = nth 1 (headParts t)
+
+-- a byte that ends the mnemonic: a blank or a dot
+unfoldable pub endsName : ℕ → Bool
+endsName b = blank b || eqb 46 b
 
 -- the text up to the first dot is exactly `L`
 abbrev pub firstIsL : Text → Bool

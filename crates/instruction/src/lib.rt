@@ -9,7 +9,8 @@ ghost use Rattle.rules.specs.Text.{uppers, cutAt, pieces, joined, firstText};
 ghost use Rattle.rules.specs.Line.{instructionOf, isPlain, size};
 ghost use Rattle.rules.specs.Assemble.{over};
 ghost use Rattle.rules.specs.Limits.{maxSource};
-ghost use Rattle.instruction.specs.FirstPiece.{part, firstIsL, headOf};
+ghost use Rattle.text.specs.Pieces.{until};
+ghost use Rattle.instruction.specs.FirstPiece.{part, firstIsL, endsName, headOf};
 ghost use Rattle.instruction.specs.Tail.{written, space, spaced};
 ghost use Rattle.instruction.specs.Joined.{isSingle, isJoined};
 ghost use Rattle.instruction.specs.Split.{operandsIn, trimmedSpan, operandsAt, withSpan};
@@ -25,29 +26,58 @@ pub struct Head {
     pub tail: usize,
 }
 
-// The first piece, cut at dots.
+// A dot or a blank.
+fn ends_name(b: u8) -> bool
+    ensures { λ r. ⌜ r ≡ endsName b ⌝ }
+{
+    if 46 < b {
+        return false;
+    }
+    if b == b'.' {
+        return true;
+    }
+    text::is_blank(b)
+}
+
+// The first position from `at` on that has a dot or a blank, or the text's end.
+fn mnemonic_end(t: &[u8], at: usize) -> usize
+    requires { ⌜ at ≤ length (now t) ⌝ }
+    ensures { λ r. ⌜ r ≡ at + until endsName (drop at (now (t .entry))) ⌝ }
+{
+    let mut i = at;
+    while i < t.len() {
+        if ends_name(t[i]) {
+            return i;
+        }
+        i += 1;
+    }
+    i
+}
+
+// The first piece, cut at dots; what stands behind the first is read only where there is one.
 pub fn read_head(t: &[u8]) -> Head
     ensures { λ r. ⌜ r ≡ headOf (now (t .entry)) ⌝ }
 {
-    let piece = text::next_piece(t, 0);
-    let start = piece.start;
-    let tail = piece.end;
-    let p = &t[start..tail];
-    let text::Found::At(dot) = text::find_byte(p, b'.') else {
-        return Head {
-            start,
-            end: tail,
-            long: false,
-            tail,
-        };
-    };
-    let behind = dot + 1;
-    let long = is_long(&p[behind..]);
+    let start = text::leading_blanks(t);
+    let end = mnemonic_end(t, start);
+    if end < t.len() {
+        if t[end] == b'.' {
+            let behind = end + 1;
+            let tail = text::skip_piece(t, behind);
+            let long = is_long(&t[behind..tail]);
+            return Head {
+                start,
+                end,
+                long,
+                tail,
+            };
+        }
+    }
     Head {
         start,
-        end: start + dot,
-        long,
-        tail,
+        end,
+        long: false,
+        tail: end,
     }
 }
 
