@@ -71,17 +71,22 @@ module _ (t : Text) (r : Span) (e : r ≡ nextPiece t 0) where
       go true q = there (next-some t 0 r e (ltb-true (r .start) (length t) q))
       go false q = nowhere (ltb-false (r .start) (length t) q)
 
+-- with no blank in front it starts with the text's first byte
+pub piece-filled : (b : ℕ) (s : Text) → blank b ≡ false → firstText (pieces (b ∷ s)) ≡ b ∷ take (run s) s
+unfolding pieces dropEmpty firstText
+piece-filled b s e = rw (cut-first blank (b ∷ s), until-later blank b s e)
+
 -- ---- the suffix
 -- a cut has a first text
 nth-zero : (t : Text) → nth 0 (cutAt 46 t) ≡ some (firstText (cutAt 46 t))
 unfolding cutAt nth firstText
 nth-zero t = rw (cut-first (eqb 46) t)
 
-first-later : (b : ℕ) (s : Text) → eqb 46 b ≡ false → firstText (cutAt 46 (b ∷ s)) ≡ b ∷ firstText (cutAt 46 s)
+pub first-later : (b : ℕ) (s : Text) → eqb 46 b ≡ false → firstText (cutAt 46 (b ∷ s)) ≡ b ∷ firstText (cutAt 46 s)
 unfolding cutAt firstText
 first-later b s e = rw (cut-first (eqb 46) (b ∷ s), until-later (eqb 46) b s e, cut-first (eqb 46) s)
 
-first-here : (b : ℕ) (s : Text) → eqb 46 b ≡ true → firstText (cutAt 46 (b ∷ s)) ≡ []
+pub first-here : (b : ℕ) (s : Text) → eqb 46 b ≡ true → firstText (cutAt 46 (b ∷ s)) ≡ []
 unfolding cutAt firstText
 first-here b s e = rw (cut-here (eqb 46) b s e)
 
@@ -169,7 +174,7 @@ module _ (t : Text) (a n : ℕ) (p : a ≡ leading t) (q : n ≡ a + until endsN
   behind-name : drop (until endsName (drop a t)) (drop a t) ≡ drop n t
   behind-name = drop-drop (until endsName (drop a t)) a t ∙ rw (← q)
 
-  pub name-within : n ≤ length t
+  name-within : n ≤ length t
   name-within = omega (arith, leading-le t, until-le endsName (drop a t), length-drop a t)
 
   abbrev here : Span

@@ -1,6 +1,6 @@
 -- Laws of an instruction's size: the order of the tests in code is as good as paper 01's. Assumes nothing.
 use mathlib.Core.Path.{_≡_, refl, sym, _∙_}
-use mathlib.Core.Bool.{Bool, true, false, not, _&&_, _||_, cond, or-false}
+use mathlib.Core.Bool.{Bool, true, false, not, _&&_, _||_, cond, or-false, false≢true}
 use mathlib.Core.Option.{Option}
 use mathlib.Core.List.{List, [], _∷_}
 use Prim.Native.Nat.{ℕ, _-_, _≤_, _<_}
@@ -8,18 +8,19 @@ use native.Mathlib.Omega.{arith}
 use borrow.Author.Tests.{ne-eqb, not-true}
 use lib.Dec.{eqb}
 use lib.ListN.{length, take, getD, drop}
-use Rattle.rules.specs.Text.{Text, bytes, uppers, pieces, joined, same, starts, firstText, otherTexts, lastText}
+use Rattle.rules.specs.Text.{Text, bytes, blank, upper, uppers, cutAt, cutWhere, dropEmpty, pieces, joined, same, starts, firstText, otherTexts, lastText}
 use Rattle.rules.specs.Line.{instructionOf, operandsOf, isL, isPlain, isLong, instructionSize, size}
+use Rattle.text.specs.Pieces.{run}
 use Rattle.text.proofs.Kept.{rest-is}
 use Rattle.text.proofs.Compare.{eqb-sym, same-is}
 use Rattle.instruction.specs.FirstPiece.{part, headOf}
 use Rattle.instruction.specs.Split.{operandsIn, textAt, operandsAt}
-use Rattle.instruction.specs.Size.{sizedBy, hasOperands, isLongBy, sizeBy, sizedOf}
+use Rattle.instruction.specs.Size.{sizedBy, hasOperands, isLongBy, sizeBy, sizedOf, mayBeLong}
 use Rattle.instruction.specs.declared.Operands.{Operands}
 use Rattle.instruction.specs.declared.SizeRule.{SizeRule}
 use Rattle.instruction.specs.declared.SizeRule.the-variants.{Fixed, Immediate, Move}
 use Rattle.instruction.specs.declared.Head.{Head}
-use Rattle.instruction.proofs.FirstPiece.{head-of}
+use Rattle.instruction.proofs.FirstPiece.{piece-filled, first-here, first-later, head-of}
 use Rattle.instruction.proofs.Places.{operands-of}
 use Rattle.instruction.proofs.Initials.{size-standing}
 
@@ -177,7 +178,69 @@ module _ (k : SizeRule) (t : Text) (o : Operands) (e : o ≡ operandsAt t) where
       pub size-two : y ≡ false → 2 ≡ sizeBy k (operandsIn t)
       size-two p = rw (← q, p) at size-many
 
+-- ---- the first byte of an instruction
+-- no operand decides for a mnemonic that is empty, or starts with neither M nor C
+rule-empty : (l : Bool) → sizedBy [] l ≡ Fixed
+unfolding sizedBy same bytes
+rule-empty true = refl
+rule-empty false = refl
+
+rule-byte : (l : Bool) (c : ℕ) (m : Text) → eqb c 77 ≡ false → eqb c 67 ≡ false → sizedBy (c ∷ m) l ≡ Fixed
+unfolding sizedBy same bytes
+rule-byte true c m d e = rw (d, e, same)
+rule-byte false c m d e = rw (d, same)
+
+rule-none : sizedOf [] ≡ Fixed
+unfolding sizedOf pieces cutWhere cutAt dropEmpty firstText uppers
+rule-none = rule-empty _
+
+rule-other : (b : ℕ) (s : Text) → eqb (upper b) 77 ≡ false → eqb (upper b) 67 ≡ false → blank b ≡ false → sizedOf (b ∷ s) ≡ Fixed
+unfolding sizedOf uppers
+rule-other b s d e k = go (eqb 46 b) refl
+  where
+    go : (y : Bool) → eqb 46 b ≡ y → sizedOf (b ∷ s) ≡ Fixed
+    go true q = rw (piece-filled b s k, first-here b (take (run s) s) q) (rule-empty _)
+    go false q = rw (piece-filled b s k, first-later b (take (run s) s) q) (rule-byte _ (upper b) _ d e)
+
+neither : (x y z : Bool) → (x || y || z) ≡ false → (x ≡ false) × (y ≡ false) × (z ≡ false)
+neither true y z h = absurd (false≢true (sym h))
+neither false true z h = absurd (false≢true (sym h))
+neither false false z h = (refl, refl, h)
+
+rule-short : (t : Text) → mayBeLong t ≡ false → sizedOf t ≡ Fixed
+unfolding mayBeLong
+rule-short [] h = rule-none
+rule-short (b ∷ s) h = let n = neither _ _ _ h in rule-other b s (n .0) (n .1) (n .2)
+
+-- ---- the returns of `may_be_long`
+pub may-none : (t : Text) → length t ≡ 0 → false ≡ mayBeLong t
+unfolding mayBeLong
+may-none [] h = refl
+may-none (b ∷ s) h = absurd (omega arith)
+
+module _ (t : Text) (h : length t ≡ 0 → ⊥) {u : ℕ} (q : u ≡ upper (getD t 0 0)) where
+  may-some : (eqb u 77 || eqb u 67 || blank (getD t 0 0)) ≡ mayBeLong t
+  unfolding mayBeLong
+  may-some = rw q (go t h)
+    where
+      go : (s : Text) → (length s ≡ 0 → ⊥) → (eqb (upper (getD s 0 0)) 77 || eqb (upper (getD s 0 0)) 67 || blank (getD s 0 0)) ≡ mayBeLong s
+      go [] d = absurd (d refl)
+      go (b ∷ s) d = refl
+
+  pub may-m : u ≡ 77 → true ≡ mayBeLong t
+  may-m e = rw e at may-some
+
+  pub may-c : u ≡ 67 → true ≡ mayBeLong t
+  may-c e = rw e at may-some
+
+  pub may-blank : (u ≡ 77 → ⊥) → (u ≡ 67 → ⊥) → {y : Bool} → y ≡ blank (getD t 0 0) → y ≡ mayBeLong t
+  may-blank d e r = r ∙ rw (ne-eqb u 77 d, ne-eqb u 67 e) at may-some
+
 -- ---- the returns of `instruction_size`
+pub answer-short : (t : Text) {y : Bool} → y ≡ mayBeLong t → not y ≡ true → 2 ≡ size (instructionOf t)
+unfolding hasOperands
+answer-short t {y} q p = size-fixed (sizedOf t) _ (rw (rule-short t (sym q ∙ not-true y p))) ∙ sym (size-is t)
+
 module _ (t : Text) (h : Head) (e : h ≡ headOf t) {k : SizeRule} (q : k ≡ sizedBy (uppers (part (h .start) (h .end) t)) (h .long)) where
   rule-is : k ≡ sizedOf t
   unfolding sizedOf

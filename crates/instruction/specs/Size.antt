@@ -2,7 +2,8 @@
 use Prim.Native.Nat.{ℕ}
 use mathlib.Core.Bool.{Bool, true, false, not, _||_, cond}
 use mathlib.Core.List.{List, [], _∷_}
-use Rattle.rules.specs.Text.{Text, bytes, uppers, same, starts, firstText, lastText}
+use lib.Dec.{eqb}
+use Rattle.rules.specs.Text.{Text, bytes, blank, upper, uppers, same, starts, firstText, lastText}
 use Rattle.rules.specs.Line.{isL, isPlain}
 use Rattle.instruction.specs.FirstPiece.{headParts, suffixOf}
 use Rattle.instruction.specs.declared.SizeRule.{SizeRule}
@@ -37,3 +38,8 @@ sizeBy k (s ∷ t ∷ ps) = cond (isLongBy k s (lastText t ps)) 4 2
 -- what decides the size of the instruction t
 unfoldable pub sizedOf : Text → SizeRule
 sizedOf t = sizedBy (uppers (firstText (headParts t))) (isL (suffixOf t))
+
+-- an operand may decide the size of the instruction t, by its first byte: M or C, whatever the case, or a blank
+unfoldable pub mayBeLong : Text → Bool
+mayBeLong [] = false
+mayBeLong (b ∷ s) = eqb (upper b) 77 || eqb (upper b) 67 || blank b

@@ -14,7 +14,7 @@ ghost use Rattle.instruction.specs.FirstPiece.{part, firstIsL, endsName,
 ghost use Rattle.instruction.specs.Tail.{written, space, spaced};
 ghost use Rattle.instruction.specs.Joined.{isSingle, isJoined};
 ghost use Rattle.instruction.specs.Split.{operandsIn, trimmedSpan, operandsAt, withSpan};
-ghost use Rattle.instruction.specs.Size.{sizedBy, hasOperands, isLongBy, sizeBy};
+ghost use Rattle.instruction.specs.Size.{sizedBy, hasOperands, isLongBy, sizeBy, mayBeLong};
 
 // ---- The first piece: mnemonic and suffix.
 
@@ -377,11 +377,32 @@ pub fn size_of(rule: SizeRule, o: Operands, tail: &[u8]) -> u32
     2
 }
 
+// The first byte leaves open that an operand decides: MULS, CMP, MOVE or MOVEA may stand there, or behind blanks.
+fn may_be_long(t: &[u8]) -> bool
+    ensures { λ r. ⌜ r ≡ mayBeLong (now (t .entry)) ⌝ }
+{
+    if t.len() == 0 {
+        return false;
+    }
+    let b = t[0];
+    let u = text::upper_case(b);
+    if u == b'M' {
+        return true;
+    }
+    if u == b'C' {
+        return true;
+    }
+    text::is_blank(b)
+}
+
 // How many bytes an instruction takes; no copy is needed, for blanks do not change an operand's first byte.
 pub fn instruction_size(t: &[u8]) -> u32
     requires { ⌜ length (now t) ≤ maxSource ⌝ }
     ensures { λ r. ⌜ r ≡ size (instructionOf (now (t .entry))) ⌝ }
 {
+    if !may_be_long(t) {
+        return 2;
+    }
     let head = read_head(t);
     let a = head.start;
     let b = head.end;
