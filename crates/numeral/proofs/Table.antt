@@ -5,6 +5,8 @@ use Prim.Native.Nat.{ℕ, zero, suc, _+_, _<_}
 use native.Mathlib.Nat.{not-suc-le-zero, le-of-suc-le-suc}
 use native.Mathlib.Omega.{arith}
 use lib.ListN.{getD}
+use Rattle.rules.specs.Number.{digitValue}
+use Rattle.numeral.specs.Digits.{DigitTable}
 
 -- f at n places, counted from i
 abbrev pub table : (ℕ → ℕ) → ℕ → ℕ → List ℕ
@@ -18,3 +20,7 @@ from f i (suc n) (suc k) h = from f (suc i) n k (le-of-suc-le-suc h) ∙ ap f (o
 
 pub entry : (f : ℕ → ℕ) (n k : ℕ) → k < n → getD (table f 0 n) k 0 ≡ f k
 entry f n k h = from f 0 n k h ∙ ap f (omega arith)
+
+-- the rule of the table of digit values
+pub digit-table : DigitTable (table digitValue 0 128)
+digit-table = record { at = entry digitValue 128 }

@@ -1,9 +1,10 @@
 // The digit that a byte stands for.
 ghost use mathlib.Core.Path.{_≡_};
 ghost use Rattle.rules.specs.Number.{digitValue};
+ghost use Rattle.numeral.specs.Digits.{DigitTable};
 
 // The digit value of each byte below 128, 255 for none.
-const DIGITS: [u8; 128] = [
+pub const DIGITS: [u8; 128] = [
     // 0 to 47: none
     255,
     255,
@@ -141,9 +142,10 @@ const DIGITS: [u8; 128] = [
     255,
 ];
 
-// The digit value of a byte, 255 for none.
-pub fn digit(b: u8) -> u8
+// The digit value of a byte, 255 for none. The table is lent: a constant is built anew wherever it is used.
+pub fn digit_in(digits: &[u8; 128], b: u8) -> u8
+    requires { ⌜ DigitTable (now digits) ⌝ }
     ensures { λ r. ⌜ r ≡ digitValue b ⌝ }
 {
-    if b < 128 { DIGITS[b as usize] } else { 255 }
+    if b < 128 { digits[b as usize] } else { 255 }
 }

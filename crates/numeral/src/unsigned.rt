@@ -5,7 +5,8 @@ ghost use Prim.Native.Nat.{_≤_, _^_};
 ghost use Rattle.rules.specs.Number.{someDigits, below, number, byPrefix, hexTail, number32, number16, imm16};
 ghost use Rattle.rules.specs.Encode.{allDigits, isSome};
 ghost use Rattle.numeral.specs.Number.{numberOf, prefixLength};
-use crate::digit::digit;
+use crate::digit::DIGITS;
+use crate::digit::digit_in;
 
 // A number read, which its reader's bound bounds.
 pub enum Number {
@@ -21,11 +22,12 @@ pub fn read_digits(t: &[u8], radix: u32, bound: u64) -> Number
     if t.len() == 0 {
         return Number::Unreadable;
     }
+    let digits = DIGITS;
     let r = radix as u64;
     let mut v: u64 = 0;
     let mut i = 0;
     while i < t.len() {
-        let d = digit(t[i]) as u64;
+        let d = digit_in(&digits, t[i]) as u64;
         if d >= r {
             return Number::Unreadable;
         }
@@ -117,9 +119,10 @@ pub fn parse_immediate_u16(t: &[u8]) -> Number
 fn all_digits(t: &[u8]) -> bool
     ensures { λ r. ⌜ r ≡ allDigits (now (t .entry)) ⌝ }
 {
+    let digits = DIGITS;
     let mut i = 0;
     while i < t.len() {
-        if digit(t[i]) >= 10 {
+        if digit_in(&digits, t[i]) >= 10 {
             return false;
         }
         i += 1;

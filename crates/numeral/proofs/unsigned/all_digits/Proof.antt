@@ -3,29 +3,32 @@ use Prim.Native.Nat.{_-_}
 use mathlib.Core.Path.{refl}
 use lib.ListN.{length}
 use borrow.Author.Needs.{needs}
+use Rattle.rules.specs.Number.{digitValue}
+use Rattle.numeral.proofs.Table.{digit-table}
 use Rattle.numeral.proofs.Reading.{Testing, all-digits, other-byte, one-more}
 use Rattle.numeral.proofs.unsigned.all_digits.Statement.{statement}
 use Rattle.numeral.proofs.unsigned.all_digits.Tie as tie
 
 abbrev Inv-loop : tie.InvT-loop
-Inv-loop t i₀ i = Testing t i
+Inv-loop t digits i₀ i = Testing t i
 
 abbrev μ-loop : tie.MeasureT-loop
-μ-loop t i₀ i = length t - i
+μ-loop t digits i₀ i = length t - i
 
 loop-holds : tie.Need-loop-holds Inv-loop μ-loop
 loop-holds c = record { reached = search needs; same = refl }
 
-shared-slice-read-digit : tie.Need-shared-slice-read-digit Inv-loop μ-loop
-shared-slice-read-digit c = search needs
+shared-slice-read-digit-in : tie.Need-shared-slice-read-digit-in Inv-loop μ-loop
+shared-slice-read-digit-in c = search needs
 
-digit-requires : tie.Need-digit-requires Inv-loop μ-loop
-digit-requires c κs = search needs
+digit-in-requires : tie.Need-digit-in-requires Inv-loop μ-loop
+unfolding digitValue
+digit-in-requires c κs = digit-table
 
 returns : tie.Need-returns Inv-loop μ-loop
 returns c =
-    let call = c .before .digit in
-    let test = c .before .before .before in
+    let call = c .before .digit-in in
+    let test = c .before .before .before .before in
     other-byte (test .before .loop .inv) (call .result) (test .loop-test .taken) (call .ensures) (c .if1 .taken)
 
 add-i : tie.Need-add-i Inv-loop μ-loop
@@ -36,8 +39,8 @@ loop-less c = search needs
 
 loop-again : tie.Need-loop-again Inv-loop μ-loop
 loop-again c =
-    let call = c .before .digit in
-    let test = c .before .before .before in
+    let call = c .before .digit-in in
+    let test = c .before .before .before .before in
     one-more (test .before .loop .inv) (call .result) (test .loop-test .taken) (call .ensures) (c .if1 .left)
 
 returns-2 : tie.Need-returns-2 Inv-loop μ-loop
@@ -50,8 +53,8 @@ all-digits-spec =
     Inv-loop
     μ-loop
     loop-holds
-    shared-slice-read-digit
-    digit-requires
+    shared-slice-read-digit-in
+    digit-in-requires
     returns
     add-i
     loop-less
