@@ -62,11 +62,14 @@ fn find_hashed(source: &[u8], table: &[u32], count: usize, name: &[u8], hash: us
     text::Found::Nothing
 }
 
-// The row of the label `name`.
+// The row of the label `name`; where there is no label, its hash is not made.
 pub fn find_row(source: &[u8], table: &[u32], count: usize, name: &[u8]) -> text::Found
     requires { ⌜ Held (now source) (now table) count ⌝ }
     ensures { λ r. ⌜ r ≡ foundOf (rowOf (now (name .entry)) (tableOf (now (source .entry)) (now (table .entry)) count)) ⌝ }
 {
+    if count == 0 {
+        return text::Found::Nothing;
+    }
     let hash = hash_name(name);
     find_hashed(source, table, count, name, hash)
 }
