@@ -8,7 +8,7 @@ use native.Mathlib.Nat.{zero-add}
 use native.Mathlib.Omega.{arith}
 use lib.Dec.{ltb}
 use borrow.Author.Tests.{ltb-true}
-use lib.ListN.{length}
+use lib.ListN.{length, replicate, length-replicate}
 use Rattle.rules.specs.Limits.{maxSource, maxLabels, addressLimit}
 use Rattle.rules.specs.Text.{Text, cutAt}
 use Rattle.rules.specs.Line.{Name, Body, Line, lineOf}
@@ -17,19 +17,20 @@ use Rattle.rules.specs.Answer.{Answer as Ruled, accepted, refused, andThen}
 use Rattle.rules.specs.Assemble.{SourceLine, Step, halt, full, next, step, Pass, Place, Slices, firstPass, secondPass, linesOf, dataPlaces, codePlaces}
 use Rattle.answer.specs.declared.Answer.{Answer}
 use Rattle.answer.specs.declared.Answer.the-variants.{Accepted, Refused}
-use Rattle.label.specs.Table.{tableOf, AllBelow, no-label}
+use Rattle.label.specs.Table.{cellOf, tableOf, Held, AllBelow, no-label}
 use Rattle.label.proofs.Rows.{below-recorded}
 use Rattle.scan.specs.Walk.{walk, low}
 use Rattle.scan.proofs.WalkLaws.{pass-walked}
 use Rattle.collect.specs.Collect.{collectedFrom, collectedOf, labelOf, namesOf, recordSome, stopLabels}
-use Rattle.collect.specs.Names.{Stored}
-use Rattle.collect.specs.Progress.{Passed}
+use Rattle.collect.specs.Names.{Stored, RoomFor}
+use Rattle.collect.specs.Progress.{Setting, Passed}
 use Rattle.collect.specs.declared.Collected.{Collected}
 use Rattle.collect.specs.declared.Collected.the-variants.{Done}
 use Rattle.collect.specs.declared.Collected.the-variants.{Refused as Refuses}
 use Rattle.collect.proofs.Steps.{stop-accepted}
+use Rattle.collect.proofs.Naming.{room-less, room-rows, room-full}
 use Rattle.emit.specs.Emit.{Values, Instructions, Walking, listOf, listBy}
-use Rattle.assemble.specs.Assembled.{Second, Gives, passesOf}
+use Rattle.assemble.specs.Assembled.{Starting, shortLines, Second, Gives, passesOf}
 use Rattle.assemble.proofs.Lists.{gives-refusal}
 use Rattle.assemble.proofs.Below.{stop-below}
 
@@ -49,6 +50,17 @@ did : (x : Ruled Pass) (labels values : ℕ) → Done labels values ≡ collecte
 unfolding collectedFrom
 did (accepted p) labels values e = record { pass = p; is = refl; count = cc; words = let f : values ≡ 0 + length (flatMap dataPlaces (p .puts)) = cc in omega arith }
 did (refused m j) labels values e = absurd (false≢true cc)
+
+-- what the first pass needs, and room in the two tables
+pub first : {base lines : ℕ} {s : Text} {cells : List ℕ} → Starting s base lines → Held s cells 0 → RoomFor (2 * lines) cells
+    → Setting s base × Held s cells 0 × RoomFor (2 * length (cutAt 10 s)) cells
+first p h r = (record { short = p .short; low = p .low }, h, room-less _ (omega (arith, p .lines-are)) r)
+
+pub small-room : (lines : ℕ) → lines ≤ shortLines → RoomFor (2 * lines) (replicate (cellOf 64) 0)
+small-room lines h = room-less (2 * lines) (omega arith) (room-rows 64 (replicate (cellOf 64) 0) (rw length-replicate (omega arith)))
+
+pub full-room : (lines : ℕ) → RoomFor (2 * lines) (replicate (cellOf maxLabels) 0)
+full-room lines = room-full (2 * lines) (replicate (cellOf maxLabels) 0) (rw length-replicate (omega arith))
 
 -- refusals 5 and 6
 pub passes-refused : (base : ℕ) (s : Text) (cells after : List ℕ) (x : Slices) (r : Collected) (n k : ℕ) → Passed s base cells r after → r ≡ Refuses n k

@@ -1,9 +1,10 @@
 -- What an assembling call gives: its answer, and the three lent slices afterwards. Assumes nothing.
 use mathlib.Core.Path.{_≡_}
-use Prim.Native.Nat.{ℕ}
+use Prim.Native.Nat.{ℕ, _≤_, _<_}
 use mathlib.Core.Bool.{Bool, true, false}
 use mathlib.Core.List.{List, []}
 use lib.ListN.{length}
+use Rattle.rules.specs.Limits.{maxSource, addressLimit}
 use Rattle.rules.specs.Text.{Text, cutAt}
 use Rattle.rules.specs.Answer.{Answer as Ruled, accepted, refuseIf, andThen}
 use Rattle.rules.specs.Assemble.{Place, Slices, short, writeList, firstPass, secondPass, linesOf, assembleAnswer, assembleSlices}
@@ -22,6 +23,16 @@ called list x = andThen list (λ l. refuseIf (short x (length l)) 7 (length l) (
 pub record Gives (list : Ruled (List Place)) (x : Slices) (r : Answer) (y : Slices) : Type 0 where
   pub answer : r ≡ answerOf (called list x)
   pub slices : y ≡ writeList list x
+
+-- what both passes need: a source and a base within the limits, and how many lines there are
+pub record Starting (source : Text) (base lines : ℕ) : Type 0 where
+  pub short : length source ≤ maxSource
+  pub low : base < addressLimit
+  pub lines-are : lines ≡ length (cutAt 10 source)
+
+-- so many lines have room for their labels in the small table
+abbrev pub shortLines : ℕ
+shortLines = 32
 
 -- what the second pass needs: the labels and data words of the first, and how many lines there are
 pub record Second (source : Text) (base : ℕ) (cells : List ℕ) (labels values lines : ℕ) : Type 0 where

@@ -2,15 +2,13 @@
 use answer::Answer;
 use collect::Collected;
 ghost use mathlib.Core.Path.{_≡_};
-ghost use Prim.Native.Nat.{_≤_, _<_};
-ghost use lib.ListN.{length};
-ghost use Rattle.rules.specs.Limits.{maxSource, addressLimit};
-ghost use Rattle.rules.specs.Text.{cutAt};
+ghost use Prim.Native.Nat.{_*_, _≤_};
 ghost use Rattle.rules.specs.Answer.{accepted};
 ghost use Rattle.rules.specs.Assemble.{slices};
-ghost use Rattle.label.specs.Table.{tableOf};
+ghost use Rattle.label.specs.Table.{tableOf, Held};
+ghost use Rattle.collect.specs.Names.{RoomFor};
 ghost use Rattle.emit.specs.Emit.{listBy};
-ghost use Rattle.assemble.specs.Assembled.{Second, fitOf, Gives, passesOf, Assembled};
+ghost use Rattle.assemble.specs.Assembled.{Second, fitOf, Gives, Starting, shortLines, passesOf, Assembled};
 
 // Whether the slices have room for the list: if not, how many places it has.
 enum Fit {
@@ -97,26 +95,26 @@ fn second_pass(
     Answer::Accepted(count)
 }
 
-// Both passes over a source within the limits, of so many lines.
-fn passes(
+// Both passes over a source within the limits, of so many lines, with a table that has no labels yet.
+fn passes_in(
     source: &[u8],
     base: u32,
     lines: usize,
+    table: &mut [u32],
     addresses: &mut [u32],
     words: &mut [u16],
     marks: &mut [u8],
 ) -> Answer
-    requires { ⌜ (length (now source) ≤ maxSource) × (base < addressLimit) × (lines ≡ length (cutAt 10 (now source))) ⌝ }
+    requires { ⌜ Starting (now source) base lines × Held (now source) (now table) 0 × RoomFor (2 * lines) (now table) ⌝ }
     ensures { λ r. ⌜ Gives (passesOf base (now (source .entry))) (slices (now (addresses .entry)) (now (words .entry)) (now (marks .entry))) r (slices (now (addresses .exit)) (now (words .exit)) (now (marks .exit))) ⌝ }
 {
-    let mut table = [0u32; label::TABLE];
-    match collect::first_pass(source, base, &mut table) {
+    match collect::first_pass(source, base, table) {
         Collected::Refused(n, p) => Answer::Refused(n, p),
         Collected::Done(labels, values) => {
             second_pass(
                 source,
                 base,
-                &table,
+                table,
                 labels,
                 values,
                 lines,
@@ -126,6 +124,59 @@ fn passes(
             )
         }
     }
+}
+
+// The most lines whose labels, two a line, have room in a small table.
+const SHORT: usize = label::SMALL_LABELS / 2;
+
+// Both passes over a short source.
+fn short_passes(
+    source: &[u8],
+    base: u32,
+    lines: usize,
+    addresses: &mut [u32],
+    words: &mut [u16],
+    marks: &mut [u8],
+) -> Answer
+    requires { ⌜ Starting (now source) base lines × (lines ≤ shortLines) ⌝ }
+    ensures { λ r. ⌜ Gives (passesOf base (now (source .entry))) (slices (now (addresses .entry)) (now (words .entry)) (now (marks .entry))) r (slices (now (addresses .exit)) (now (words .exit)) (now (marks .exit))) ⌝ }
+{
+    let mut table = [0u32; label::SMALL];
+    passes_in(source, base, lines, &mut table, addresses, words, marks)
+}
+
+// Both passes over any source.
+fn long_passes(
+    source: &[u8],
+    base: u32,
+    lines: usize,
+    addresses: &mut [u32],
+    words: &mut [u16],
+    marks: &mut [u8],
+) -> Answer
+    requires { ⌜ Starting (now source) base lines ⌝ }
+    ensures { λ r. ⌜ Gives (passesOf base (now (source .entry))) (slices (now (addresses .entry)) (now (words .entry)) (now (marks .entry))) r (slices (now (addresses .exit)) (now (words .exit)) (now (marks .exit))) ⌝ }
+{
+    let mut table = [0u32; label::TABLE];
+    passes_in(source, base, lines, &mut table, addresses, words, marks)
+}
+
+// Both passes. A short source has a small table, since a table is cleared for each call.
+fn passes(
+    source: &[u8],
+    base: u32,
+    lines: usize,
+    addresses: &mut [u32],
+    words: &mut [u16],
+    marks: &mut [u8],
+) -> Answer
+    requires { ⌜ Starting (now source) base lines ⌝ }
+    ensures { λ r. ⌜ Gives (passesOf base (now (source .entry))) (slices (now (addresses .entry)) (now (words .entry)) (now (marks .entry))) r (slices (now (addresses .exit)) (now (words .exit)) (now (marks .exit))) ⌝ }
+{
+    if lines <= SHORT {
+        return short_passes(source, base, lines, addresses, words, marks);
+    }
+    long_passes(source, base, lines, addresses, words, marks)
 }
 
 // Assembles a source at a base. Answers the list's count, with the list in the first places of the three slices, or

@@ -13,7 +13,7 @@ use Rattle.rules.specs.Line.{Name}
 use Rattle.rules.specs.Label.{Label, Table, find, recorded, hasRoom, recordAll}
 use Rattle.text.specs.declared.Span.{Span}
 use Rattle.label.specs.Table.{cellOf, tableOf, Held}
-use Rattle.label.specs.Record.{Ready, Recording}
+use Rattle.label.specs.Record.{Ready, Recording, spanLabel}
 use Rattle.label.specs.declared.Recorded.{Recorded}
 use Rattle.label.specs.declared.Recorded.the-variants.{Count, Full}
 use Rattle.label.proofs.Table.{table-length}
@@ -26,7 +26,7 @@ use Rattle.line.specs.declared.Body.the-variants.{Data}
 use Rattle.line.specs.declared.Line.{Line}
 use Rattle.line.specs.declared.Line.the-variants.{Skipped, End, Org, Item}
 use Rattle.collect.specs.Collect.{labelOf, recordSome}
-use Rattle.collect.specs.Names.{Stored, nameFrom, namesFor, namesFrom, namesRead, InSource, Naming, Reading, recordedOf, Named, dataWords}
+use Rattle.collect.specs.Names.{Stored, RoomFor, nameFrom, namesFor, namesFrom, namesRead, InSource, Naming, Reading, recordedOf, Named, dataWords}
 
 -- no label: the table as it is
 module _ (source : Text) (cells : List ℕ) (count i a : ℕ) (h : Held source cells count) where
@@ -62,7 +62,41 @@ past-more m n xs ys h e =
     let k : m + (n - m) ≡ n = omega arith in
     rw (← k, ← drop-drop (n - m) m xs, ← drop-drop (n - m) m ys, e)
 
--- recording loses no label
+-- ---- room for labels
+pub room-less : {n : ℕ} {cells : List ℕ} (m : ℕ) → m ≤ n → RoomFor n cells → RoomFor m cells
+room-less m h r = record { row = λ k l b. r .row k (omega arith) b }
+
+pub room-same : {n : ℕ} {cells : List ℕ} (after : List ℕ) → length after ≡ length cells → RoomFor n cells → RoomFor n after
+room-same after e r = record { row = λ k l b. omega (arith, r .row k l b) }
+
+-- a table of so many rows, and one of all that there may be
+pub room-rows : (n : ℕ) (cells : List ℕ) → cellOf n ≤ length cells → RoomFor n cells
+room-rows n cells h = record { row = λ k l b. omega arith }
+
+pub room-full : (n : ℕ) (cells : List ℕ) → cellOf maxLabels ≤ length cells → RoomFor n cells
+room-full n cells h = record { row = λ k l b. omega arith }
+
+-- ---- recording loses no label, and adds at most one
+recorded-most : (x : Label) (t : Table) → length (recorded x t) ≤ suc (length t)
+unfolding recorded
+recorded-most x [] = omega arith
+recorded-most x (l ∷ t) = go (same (x .name) (l .name)) refl (recorded-most x t)
+  where
+    go : (y : Bool) → same (x .name) (l .name) ≡ y → length (recorded x t) ≤ suc (length t) → length (recorded x (l ∷ t)) ≤ suc (length (l ∷ t))
+    go true e ih = rw (e, recorded) (omega arith)
+    go false e ih = rw (e, recorded) (omega arith)
+
+pub some-most : (i a : ℕ) (ns : List Name) (t : Table) → length (recordSome i a ns t) ≤ length t + length ns
+unfolding recordSome
+some-most i a [] t = omega arith
+some-most i a (n ∷ ns) t = go (hasRoom (find (n .text) t) t) refl (some-most i a ns (recorded (labelOf i a n) t))
+  where
+    go : (y : Bool) → hasRoom (find (n .text) t) t ≡ y
+        → length (recordSome i a ns (recorded (labelOf i a n) t)) ≤ length (recorded (labelOf i a n) t) + length ns
+        → length (recordSome i a (n ∷ ns) t) ≤ length t + length (n ∷ ns)
+    go true e ih = rw (e, recordSome) (omega (arith, recorded-most (labelOf i a n) t))
+    go false e ih = rw (e, recordSome) (omega arith)
+
 recorded-longer : (x : Label) (t : Table) → length t ≤ length (recorded x t)
 unfolding recorded
 recorded-longer x [] = omega arith
@@ -89,10 +123,10 @@ stored-from source cells middle after m t h l e d =
     record { table = d .table; held = d .held; long = d .long ∙ l; past = d .past ∙ past-more (cellOf m) (cellOf (length t)) middle cells (omega arith) e }
 
 -- ready to record a label of the line
-pub ready : (source : Text) (cells : List ℕ) (count i : ℕ) (s : Span) → Held source cells count → length source ≤ maxSource → cellOf maxLabels ≤ length cells
+ready : (source : Text) (cells : List ℕ) (count i : ℕ) (s : Span) → Held source cells count → length source ≤ maxSource → RoomFor (count + 1) cells
     → InSource source i s → Ready source cells count (i + s .start) (i + s .end)
 ready source cells count i s h k r x =
-    record { held = h; ordered = omega (arith, x .ordered); within = x .within; short = k; room = λ c. omega arith }
+    record { held = h; ordered = omega (arith, x .ordered); within = x .within; short = k; room = λ c. r .row count (omega arith) c }
 
 -- one label recorded, and others behind it
 module _ (source : Text) (cells : List ℕ) (count i a : ℕ) (s : Span) (ns : List Name) (y : Ready source cells count (i + s .start) (i + s .end)) where
@@ -151,8 +185,8 @@ module _ (source : Text) (i : ℕ) (ns : Names) where
 
 -- what the code answers, by how many labels there are
 module _ (source : Text) (cells : List ℕ) (count i a : ℕ) (ns : Names) (y : Naming source cells count i ns) where
-  ready-first : Ready source cells count (i + ns .first .start) (i + ns .first .end)
-  ready-first = ready source cells count i (ns .first) (y .held) (y .short) (y .room) (y .first)
+  pub ready-first : Ready source cells count (i + ns .first .start) (i + ns .first .end)
+  ready-first = ready source cells count i (ns .first) (y .held) (y .short) (room-less (count + 1) (omega arith) (y .room)) (y .first)
 
   pub named-0 : ns .count ≡ 0 → Named source cells count i a (namesFrom source i ns) (Count count) cells
   named-0 e = rw (names-0 source i ns e) (named-none source cells count i a (y .held))
@@ -171,7 +205,9 @@ module _ (source : Text) (cells : List ℕ) (count i a : ℕ) (ns : Names) (y : 
       middle-kept = kept ready-first d e
 
       pub ready-second : Ready source middle next (i + ns .second .start) (i + ns .second .end)
-      ready-second = ready source middle next i (ns .second) (middle-kept .held) (y .short) (omega (arith, middle-kept .long, y .room)) (y .second)
+      ready-second =
+          let k : next + 1 ≤ count + 2 = omega (arith, middle-kept .total, recorded-most (spanLabel source (i + ns .first .start) (i + ns .first .end) a) (tableOf source cells count), table-length source cells count) in
+          ready source middle next i (ns .second) (middle-kept .held) (y .short) (room-less (next + 1) k (room-same middle (middle-kept .long) (y .room))) (y .second)
 
       pub named-2 : (answer : Recorded) (after : List ℕ) → Recording source middle next (i + ns .second .start) (i + ns .second .end) a answer after
           → Named source cells count i a (namesFrom source i ns) answer after

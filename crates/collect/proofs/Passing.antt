@@ -31,10 +31,10 @@ use Rattle.collect.specs.declared.Collected.the-variants.{Done, Refused}
 use Rattle.collect.specs.declared.Progress.{Progress}
 use Rattle.collect.specs.Collect.{collectedFrom, namesOf, recordSome, stopLabels}
 use Rattle.collect.specs.Names.{Stored, namesRead, Naming, Reading, recordedOf, Named, dataWords, endRead}
-use Rattle.collect.specs.Progress.{Setting, Valid, leftFrom, stopFrom, Going, Stopping}
+use Rattle.collect.specs.Progress.{Setting, linesLeft, Valid, leftFrom, stopFrom, Going, Stopping}
 use Rattle.collect.proofs.Steps.{step-end, step-full, step-next, collected-last, collected-halts, collected-full, collected-out, collected-more, stop-halts, stop-full, stop-out, stop-more, record-some}
-use Rattle.collect.proofs.Naming.{named-none, some-longer}
-use Rattle.collect.proofs.Reading.{end-is, data-is, words-most, names-is, in-source}
+use Rattle.collect.proofs.Naming.{named-none, room-less, room-same, some-longer, some-most}
+use Rattle.collect.proofs.Reading.{end-is, data-is, words-most, names-most, names-is, in-source}
 
 -- what the answer of recording says of the rules' one
 recorded-full : (o : Option Table) → Full ≡ recordedOf o → o ≡ none
@@ -45,7 +45,7 @@ recorded-count : (o : Option Table) (n : ℕ) → Count n ≡ recordedOf o → (
 recorded-count none n e = absurd (false≢true cc)
 recorded-count (some t) n e = (t, refl, cc)
 
-module _ (source : Text) (base : ℕ) (cells : List ℕ) (p : Progress) (g : Setting source base cells) (v : Valid source cells p)
+module _ (source : Text) (base : ℕ) (cells : List ℕ) (p : Progress) (g : Setting source base) (v : Valid source cells p)
     (s : Scanned) (c : Scan source (p .at) s) where
   -- the line, its labels so far, and the rest
   line : Text
@@ -77,7 +77,7 @@ module _ (source : Text) (base : ℕ) (cells : List ℕ) (p : Progress) (g : Set
           record {
             held = v .held;
             short = g .short;
-            room = g .room;
+            room = room-less (p .labels + 2) (omega (arith, ap length (next-line source (p .number) (p .at)))) (v .room);
             first = in-source source (p .at) (v .inside) (ns .first) (h .0 .first);
             second = in-source source (p .at) (v .inside) (ns .second) (h .0 .second);
           }
@@ -179,6 +179,14 @@ module _ (source : Text) (base : ℕ) (cells : List ℕ) (p : Progress) (g : Set
             let m : suc (p .number) ≡ p .number + 1 = omega arith in
             let k = rw (f, m) at (more-lines source (p .number) (p .at) (omega (arith, c .ends, b))) in
             let e = records .1 in
+            let few : n + 2 * length (linesFrom source (p .number + 1) (s .end + 1)) ≤ p .labels + 2 * linesLeft source p = omega (
+              arith,
+              ap length k,
+              e,
+              some-most (p .at) (p .address) (namesRead source (p .at) (s .read)) table,
+              names-most source (p .at) (s .read),
+              table-length source cells (p .labels),
+            ) in
             record {
               valid = record {
                 inside = omega arith;
@@ -186,6 +194,7 @@ module _ (source : Text) (base : ℕ) (cells : List ℕ) (p : Progress) (g : Set
                 low = h;
                 held = rw e (d .stored .held);
                 few = omega (arith, v .few, c .ends, words-most (s .read));
+                room = room-less _ few (room-same after (d .stored .long) (v .room));
               };
               answer = left-more (linesFrom source (p .number + 1) (s .end + 1)) k ∙ rw held-now;
               labels = labels-more (linesFrom source (p .number + 1) (s .end + 1)) k ∙ rw held-now;

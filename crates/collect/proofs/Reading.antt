@@ -81,7 +81,19 @@ module _ (source : Text) (i : ℕ) where
   pub in-source : i ≤ length source → (s : Span) → SpanIn (lineFrom source i) s → InSource source i s
   in-source h s j = record { ordered = j .ordered; within = omega (arith, line-length source i, line-end-le source i h, j .inside) }
 
--- a line has at most two data words
+-- a line has at most two labels
+pub names-most : (source : Text) (i : ℕ) (r : Line) → length (namesRead source i r) ≤ 2
+names-most source i Skipped = omega arith
+names-most source i End = omega arith
+names-most source i (Org v) = omega arith
+names-most source i (Item ns b) = go (ns .count)
+  where
+    go : (k : ℕ) → length (namesFor source i k (ns .first) (ns .second)) ≤ 2
+    go zero = omega arith
+    go (suc zero) = omega arith
+    go (suc (suc k)) = omega arith
+
+-- and at most two data words
 pub words-most : (r : Line) → dataWords r ≤ 2
 words-most Skipped = omega arith
 words-most End = omega arith

@@ -3,15 +3,15 @@ use mathlib.Core.Path.{_≡_, refl, sym, ap, _∙_}
 use mathlib.Core.Bool.{Bool, true, false, false≢true}
 use mathlib.Core.Option.{Option, none, some}
 use mathlib.Core.List.{List, [], _∷_}
-use Prim.Native.Nat.{ℕ, _+_, _≤_, _<_}
+use Prim.Native.Nat.{ℕ, suc, _+_, _*_, _≤_, _<_}
 use native.Mathlib.Omega.{arith}
 use lib.Dec.{ltb}
 use lib.ListN.{length, drop}
 use Rattle.rules.specs.Limits.{addressLimit}
-use Rattle.rules.specs.Text.{Text}
+use Rattle.rules.specs.Text.{Text, cutAt}
 use Rattle.rules.specs.Line.{Name, Body, Line, skipped, end, org, item, lineOf}
 use Rattle.rules.specs.Label.{Table, recordAll}
-use Rattle.rules.specs.Assemble.{SourceLine, Step, halt, full, next, advance, step, firstPass, linesOf}
+use Rattle.rules.specs.Assemble.{SourceLine, Step, halt, full, next, advance, step, firstPass, numbered, linesOf}
 use Rattle.label.specs.Table.{cellOf, tableOf, Held}
 use Rattle.label.proofs.Table.{table-empty, table-length}
 use Rattle.scan.specs.Lines.{linesFrom}
@@ -20,9 +20,10 @@ use Rattle.collect.specs.declared.Progress.{Progress}
 use Rattle.collect.specs.declared.Pace.{Pace}
 use Rattle.collect.specs.declared.Pace.the-variants.{On, Stop}
 use Rattle.collect.specs.Collect.{collectedFrom, collectedOf, namesOf, stopLabels}
+use Rattle.collect.specs.Names.{RoomFor}
 use Rattle.collect.specs.Progress.{Setting, Valid, leftFrom, stopFrom, Going, Stopping, Paced, Passed}
 use Rattle.collect.proofs.Steps.{record-some, stop-halts, stop-full, stop-out, stop-more}
-use Rattle.collect.proofs.Naming.{some-longer, stored-from, past-more}
+use Rattle.collect.proofs.Naming.{room-less, some-longer, stored-from, past-more}
 
 -- a step loses no label
 advance-grows : (i a a′ : ℕ) (ns : List Name) (t t′ : Table) (b c : Body) (o : Option Table) → recordAll i a ns t ≡ o → advance a c o ≡ next a′ t′ b → length t ≤ length t′
@@ -57,6 +58,12 @@ stop-longer base a t (l ∷ ls) = go (step base (l .start) a t (lineOf (l .text)
     go full e ih = rw (stop-full base a t l ls e) (some-longer (l .start) a (namesOf (lineOf (l .text))) t)
     go (next a′ t′ b) e ih = goes a′ t′ b e (ih a′ t′) (ltb a′ addressLimit) refl
 
+-- as many lines as texts
+length-numbered : (n i : ℕ) (ts : List Text) → length (numbered n i ts) ≡ length ts
+unfolding numbered
+length-numbered n i [] = refl
+length-numbered n i (t ∷ ts) = ap suc (length-numbered (suc n) (suc (i + length t)) ts)
+
 -- what is left comes to what the whole pass comes to
 pub record Underway (source : Text) (base : ℕ) (old cells : List ℕ) (p : Progress) : Type 0 where
   pub valid : Valid source cells p
@@ -65,12 +72,12 @@ pub record Underway (source : Text) (base : ℕ) (old cells : List ℕ) (p : Pro
   pub long : length cells ≡ length old
   pub past : drop (cellOf (p .labels)) cells ≡ drop (cellOf (p .labels)) old
 
-module _ (source : Text) (base : ℕ) (old : List ℕ) (g : Setting source base old) where
-  pub begins : Held source old 0 → Underway source base old old (record { at = 0; number = 1; address = base; labels = 0; words = 0 })
+module _ (source : Text) (base : ℕ) (old : List ℕ) (g : Setting source base) where
+  pub begins : Held source old 0 → RoomFor (2 * length (cutAt 10 source)) old → Underway source base old old (record { at = 0; number = 1; address = base; labels = 0; words = 0 })
   unfolding linesOf
-  begins empty =
+  begins empty room =
       record {
-        valid = record { inside = omega arith; numbered = omega arith; low = g .low; held = empty; few = omega arith };
+        valid = record { inside = omega arith; numbered = omega arith; low = g .low; held = empty; few = omega arith; room = room-less _ (omega (arith, length-numbered 1 0 (cutAt 10 source))) room };
         answer = rw (table-empty source old);
         labels = rw (table-empty source old);
         long = refl;
@@ -78,9 +85,6 @@ module _ (source : Text) (base : ℕ) (old : List ℕ) (g : Setting source base 
       }
 
   module _ (cells : List ℕ) (p : Progress) (u : Underway source base old cells p) where
-    pub setting : Setting source base cells
-    setting = record { short = g .short; low = g .low; room = omega (arith, u .long, g .room) }
-
     module _ (r : Pace) (after : List ℕ) (d : Paced source base cells p r after) where
       going : (q : Progress) → r ≡ On q → Going source base cells p q after
       going q e = rw e at d

@@ -1,6 +1,6 @@
 -- The labels of a line in the source, recorded in the table; and how many data words a line has. Assumes nothing.
 use mathlib.Core.Path.{_≡_}
-use Prim.Native.Nat.{ℕ, zero, suc, _+_, _-_, _≤_}
+use Prim.Native.Nat.{ℕ, zero, suc, _+_, _-_, _≤_, _<_}
 use mathlib.Core.Bool.{Bool, true, false}
 use mathlib.Core.Option.{Option, none, some}
 use mathlib.Core.List.{List, [], _∷_}
@@ -29,6 +29,10 @@ pub record Stored (source : Text) (cells : List ℕ) (t : Table) (after : List �
   pub long : length after ≡ length cells
   pub past : drop (cellOf (length t)) after ≡ drop (cellOf (length t)) cells
 
+-- the cells have room for n labels, or for as many as there may be
+pub record RoomFor (n : ℕ) (cells : List ℕ) : Type 0 where
+  pub row : (k : ℕ) → k < n → k < maxLabels → cellOf (k + 1) ≤ length cells
+
 -- a label of the line that starts at i, as it stands in the source
 abbrev pub nameFrom : Text → ℕ → Span → Name
 nameFrom source i s = name (s .start) (take (i + s .end - (i + s .start)) (drop (i + s .start) source))
@@ -52,11 +56,11 @@ pub record InSource (source : Text) (i : ℕ) (s : Span) : Type 0 where
   pub ordered : s .start ≤ s .end
   pub within : i + s .end ≤ length source
 
--- what recording asks for: a table that holds its rows and has room, and at most two labels that lie in the source
+-- what recording asks for: a table that holds its rows and has room for two more, and at most two labels that lie in the source
 pub record Naming (source : Text) (cells : List ℕ) (count i : ℕ) (ns : Names) : Type 0 where
   pub held : Held source cells count
   pub short : length source ≤ maxSource
-  pub room : cellOf maxLabels ≤ length cells
+  pub room : RoomFor (count + 2) cells
   pub first : InSource source i (ns .first)
   pub second : InSource source i (ns .second)
 

@@ -3,7 +3,7 @@ use mathlib.Core.Path.{_≡_}
 use Prim.Native.Nat.{ℕ, _+_, _*_, _≤_, _<_}
 use mathlib.Core.List.{List, []}
 use lib.ListN.{length, drop}
-use Rattle.rules.specs.Limits.{maxSource, maxLabels, addressLimit}
+use Rattle.rules.specs.Limits.{maxSource, addressLimit}
 use Rattle.rules.specs.Text.{Text}
 use Rattle.rules.specs.Label.{Table}
 use Rattle.rules.specs.Answer.{Answer}
@@ -11,25 +11,29 @@ use Rattle.rules.specs.Assemble.{Pass, firstPass, linesOf}
 use Rattle.label.specs.Table.{cellOf, tableOf, Held}
 use Rattle.scan.specs.Lines.{linesFrom}
 use Rattle.collect.specs.Collect.{collectedFrom, collectedOf, stopLabels}
-use Rattle.collect.specs.Names.{Stored}
+use Rattle.collect.specs.Names.{Stored, RoomFor}
 use Rattle.collect.specs.declared.Collected.{Collected}
 use Rattle.collect.specs.declared.Progress.{Progress}
 use Rattle.collect.specs.declared.Pace.{Pace}
 use Rattle.collect.specs.declared.Pace.the-variants.{On, Stop}
 
--- what holds throughout: the source and the base are within the limits, and the table has room for every label
-pub record Setting (source : Text) (base : ℕ) (cells : List ℕ) : Type 0 where
+-- what holds throughout: the source and the base are within the limits
+pub record Setting (source : Text) (base : ℕ) : Type 0 where
   pub short : length source ≤ maxSource
   pub low : base < addressLimit
-  pub room : cellOf maxLabels ≤ length cells
 
--- a place to stand at
+-- the lines that are left
+abbrev pub linesLeft : Text → Progress → ℕ
+linesLeft source p = length (linesFrom source (p .number) (p .at))
+
+-- a place to stand at, with room for two labels more a line
 pub record Valid (source : Text) (cells : List ℕ) (p : Progress) : Type 0 where
   pub inside : p .at ≤ length source
   pub numbered : p .number ≤ p .at + 1
   pub low : p .address < addressLimit
   pub held : Held source cells (p .labels)
   pub few : p .words ≤ 2 * p .at
+  pub room : RoomFor (p .labels + 2 * linesLeft source p) cells
 
 -- the pass over the lines that are left, and its labels when it stops
 abbrev pub leftFrom : Text → ℕ → List ℕ → Progress → Answer Pass

@@ -5,10 +5,11 @@ use line::Line;
 use line::Names;
 use numeral::unsigned::Number;
 ghost use mathlib.Core.Path.{_≡_};
-ghost use Prim.Native.Nat.{_≤_};
+ghost use Prim.Native.Nat.{_*_};
 ghost use lib.ListN.{length};
+ghost use Rattle.rules.specs.Text.{cutAt};
 ghost use Rattle.label.specs.Table.{Held};
-ghost use Rattle.collect.specs.Names.{Naming, Named, Reading, namesFrom, namesRead, dataWords, endRead};
+ghost use Rattle.collect.specs.Names.{Naming, Named, Reading, RoomFor, namesFrom, namesRead, dataWords, endRead};
 ghost use Rattle.collect.specs.Progress.{Setting, Valid, Paced, Passed};
 
 // ---- The labels and the data words of a line.
@@ -120,7 +121,7 @@ enum Pace {
 
 // One line: its labels are recorded, and its data words counted.
 fn collect_line(source: &[u8], base: u32, table: &mut [u32], p: Progress) -> Pace
-    requires { ⌜ Setting (now source) base (now table) × Valid (now source) (now table) p ⌝ }
+    requires { ⌜ Setting (now source) base × Valid (now source) (now table) p ⌝ }
     ensures { λ r. ⌜ Paced (now (source .entry)) base (now (table .entry)) p r (now (table .exit)) ⌝ }
 {
     let at = p.at;
@@ -152,9 +153,9 @@ fn collect_line(source: &[u8], base: u32, table: &mut [u32], p: Progress) -> Pac
     })
 }
 
-// The first pass over a source, into a table that has no labels yet.
+// The first pass over a source, into a table that has no labels yet, and room for two a line.
 pub fn first_pass(source: &[u8], base: u32, table: &mut [u32]) -> Collected
-    requires { ⌜ Setting (now source) base (now table) × Held (now source) (now table) 0 ⌝ }
+    requires { ⌜ Setting (now source) base × Held (now source) (now table) 0 × RoomFor (2 * length (cutAt 10 (now source))) (now table) ⌝ }
     ensures { λ r. ⌜ Passed (now (source .entry)) base (now (table .entry)) r (now (table .exit)) ⌝ }
 {
     let mut p = Progress {

@@ -17,6 +17,12 @@ const HEADS: usize = 256;
 // The cells of a table: one for each hash, and four for each label.
 pub const TABLE: usize = HEADS + 4 * rules::MAX_LABELS;
 
+// The labels of a small table.
+pub const SMALL_LABELS: usize = 64;
+
+// The cells of a small table.
+pub const SMALL: usize = HEADS + 4 * SMALL_LABELS;
+
 pub enum Address {
     At(u32),
     Nothing,

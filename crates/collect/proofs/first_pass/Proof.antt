@@ -2,7 +2,7 @@
 use Prim.Native.Nat.{_-_}
 use native.Mathlib.Omega.{arith}
 use lib.ListN.{length}
-use Rattle.collect.proofs.Underway.{Underway, begins, setting, nearer, goes-on, ends}
+use Rattle.collect.proofs.Underway.{Underway, begins, nearer, goes-on, ends}
 use borrow.Author.Needs.{needs}
 use Rattle.collect.proofs.first_pass.Statement.{statement}
 use Rattle.collect.proofs.first_pass.Tie as tie
@@ -14,10 +14,10 @@ abbrev μ-loop : tie.MeasureT-loop
 μ-loop source base table₀ p₀ table p = length source - p .at
 
 loop-holds : tie.Need-loop-holds Inv-loop μ-loop
-loop-holds c = begins _ _ _ (c .before .before .pre .0) (c .before .before .pre .1)
+loop-holds c = begins _ _ _ (c .before .before .pre .0) (c .before .before .pre .1) (c .before .before .pre .2)
 
 collect-line-requires : tie.Need-collect-line-requires Inv-loop μ-loop
-collect-line-requires c κs = (setting _ _ _ (c .before .before .before .before .pre .0) _ _ (c .before .loop .inv), c .before .loop .inv .valid)
+collect-line-requires c κs = (c .before .before .before .before .pre .0, c .before .loop .inv .valid)
 
 enum-known-q : tie.Need-enum-known-q Inv-loop μ-loop
 enum-known-q c = search needs

@@ -1,6 +1,6 @@
 -- `record_names` records none, one or two labels. Assumes nothing.
 use native.Mathlib.Omega.{arith}
-use Rattle.collect.proofs.Naming.{ready, named-0, named-1, named-2-full, ready-second, named-2}
+use Rattle.collect.proofs.Naming.{ready-first, named-0, named-1, named-2-full, ready-second, named-2}
 use borrow.Author.Needs.{needs}
 use Rattle.collect.proofs.record_names.Statement.{statement}
 use Rattle.collect.proofs.record_names.Tie as tie
@@ -15,7 +15,7 @@ add-b : tie.Need-add-b
 add-b c = search needs
 
 record-label-requires : tie.Need-record-label-requires
-record-label-requires c κs = ready _ _ _ _ _ (c .before .before .before .before .before .before .before .pre .held) (c .before .before .before .before .before .before .before .pre .short) (c .before .before .before .before .before .before .before .pre .room) (c .before .before .before .before .before .before .before .pre .first)
+record-label-requires c κs = ready-first _ _ _ _ 0 _ (c .before .before .before .before .before .before .before .pre)
 
 same-length : tie.Need-same-length
 same-length c = search needs
@@ -24,7 +24,7 @@ returns-2 : tie.Need-returns-2
 returns-2 c = named-1 _ _ _ _ _ _ (c .before .before .before .before .before .before .before .before .before .before .pre) _ _ (c .before .before .before .before .if2 .taken) (c .before .before .record-label .ensures)
 
 record-label-requires-2 : tie.Need-record-label-requires-2
-record-label-requires-2 c κs = ready _ _ _ _ _ (c .before .before .before .before .before .before .before .pre .held) (c .before .before .before .before .before .before .before .pre .short) (c .before .before .before .before .before .before .before .pre .room) (c .before .before .before .before .before .before .before .pre .first)
+record-label-requires-2 c κs = ready-first _ _ _ _ 0 _ (c .before .before .before .before .before .before .before .pre)
 
 enum-known-next : tie.Need-enum-known-next
 enum-known-next c = search needs
