@@ -24,7 +24,7 @@ use Rattle.line.specs.declared.Names.{Names}
 use Rattle.line.specs.declared.Body.{Body}
 use Rattle.line.specs.declared.Body.the-variants.{Data}
 use Rattle.line.specs.declared.Line.{Line}
-use Rattle.line.specs.declared.Line.the-variants.{Skipped, End, Org, Item}
+use Rattle.line.specs.declared.Line.the-variants.{Skipped, End, Org, NoOrg, Item}
 use Rattle.collect.specs.Collect.{labelOf, recordSome}
 use Rattle.collect.specs.Names.{Stored, RoomFor, nameFrom, namesFor, namesFrom, namesRead, InSource, Naming, Reading, recordedOf, Named, dataWords}
 
@@ -224,8 +224,11 @@ module _ (source : Text) (cells : List ℕ) (count i a : ℕ) (l : Line) (y : Re
   pub read-end : l ≡ End → Named source cells count i a (namesRead source i l) (Count count) cells
   read-end e = rw e (named-none source cells count i a (rw e at y))
 
-  pub read-org : (v : Number) → l ≡ Org v → Named source cells count i a (namesRead source i l) (Count count) cells
+  pub read-org : (v : ℕ) → l ≡ Org v → Named source cells count i a (namesRead source i l) (Count count) cells
   read-org v e = rw e (named-none source cells count i a (rw e at y))
+
+  pub read-no-org : l ≡ NoOrg → Named source cells count i a (namesRead source i l) (Count count) cells
+  read-no-org e = rw e (named-none source cells count i a (rw e at y))
 
   module _ (ns : Names) (b : Body) (e : l ≡ Item ns b) where
     pub read-naming : Naming source cells count i ns

@@ -18,7 +18,7 @@ use Rattle.label.specs.declared.Recorded.{Recorded}
 use Rattle.label.specs.declared.Recorded.the-variants.{Count, Full}
 use Rattle.label.proofs.Table.{table-length}
 use Rattle.line.specs.declared.Line.{Line}
-use Rattle.line.specs.declared.Line.the-variants.{Skipped, End, Org, Item}
+use Rattle.line.specs.declared.Line.the-variants.{Skipped, End, Org, NoOrg, Item}
 use Rattle.line.specs.Line.{lineAt, Within}
 use Rattle.scan.specs.Lines.{lineEnd, lineFrom, linesFrom}
 use Rattle.scan.specs.Walk.{addressAfter, bodyOf, isEnd, putAt}
@@ -73,6 +73,7 @@ module _ (source : Text) (base : ℕ) (cells : List ℕ) (p : Progress) (g : Set
       go Skipped h = v .held
       go End h = v .held
       go (Org x) h = v .held
+      go NoOrg h = v .held
       go (Item ns b) h =
           record {
             held = v .held;

@@ -19,7 +19,7 @@ use Rattle.line.specs.declared.Names.{Names}
 use Rattle.line.specs.declared.Body.{Body}
 use Rattle.line.specs.declared.Body.the-variants.{Bare, Data, Instruction}
 use Rattle.line.specs.declared.Line.{Line}
-use Rattle.line.specs.declared.Line.the-variants.{Skipped, End, Org, Item}
+use Rattle.line.specs.declared.Line.the-variants.{Skipped, End, Org, NoOrg, Item}
 use Rattle.line.specs.Line.{spanText, nameAt, namesAt, bodyAt, lineAt, SpanIn, NamesIn, Within, Says}
 use Rattle.line.specs.Line.{namesFor as namesBy}
 use Rattle.line.proofs.Parts.{drop-take}
@@ -35,6 +35,7 @@ unfolding isEnd
 end-is line Skipped = refl
 end-is line End = refl
 end-is line (Org v) = refl
+end-is line NoOrg = refl
 end-is line (Item ns b) = refl
 
 -- data words
@@ -54,6 +55,7 @@ unfolding dataPlaces dataCells placesAt bodyOf
 data-is a line Skipped = refl
 data-is a line End = refl
 data-is a line (Org v) = refl
+data-is a line NoOrg = refl
 data-is a line (Item ns b) = body-is a line b
 
 -- labels: a part of the line is a part of the source
@@ -75,6 +77,7 @@ module _ (source : Text) (i : ℕ) where
   names-is Skipped h = refl
   names-is End h = refl
   names-is (Org v) h = refl
+  names-is NoOrg h = refl
   names-is (Item ns b) h = names-by (ns .count) (ns .first) (ns .second) (h .0 .first) (h .0 .second)
 
   -- and lies in the source
@@ -86,6 +89,7 @@ pub names-most : (source : Text) (i : ℕ) (r : Line) → length (namesRead sour
 names-most source i Skipped = omega arith
 names-most source i End = omega arith
 names-most source i (Org v) = omega arith
+names-most source i NoOrg = omega arith
 names-most source i (Item ns b) = go (ns .count)
   where
     go : (k : ℕ) → length (namesFor source i k (ns .first) (ns .second)) ≤ 2
@@ -98,6 +102,7 @@ pub words-most : (r : Line) → dataWords r ≤ 2
 words-most Skipped = omega arith
 words-most End = omega arith
 words-most (Org v) = omega arith
+words-most NoOrg = omega arith
 words-most (Item ns Bare) = omega arith
 words-most (Item ns (Data n (Value x))) = omega arith
 words-most (Item ns (Data n Unreadable)) = omega arith

@@ -19,7 +19,7 @@ use Rattle.line.specs.declared.Names.{Names}
 use Rattle.line.specs.declared.Body.{Body}
 use Rattle.line.specs.declared.Body.the-variants.{Bare, Data, Instruction}
 use Rattle.line.specs.declared.Line.{Line}
-use Rattle.line.specs.declared.Line.the-variants.{Skipped, End, Org, Item}
+use Rattle.line.specs.declared.Line.the-variants.{Skipped, End, Org, NoOrg, Item}
 use Rattle.collect.specs.Collect.{recordSome}
 
 -- the table holds the labels t, and is unchanged behind them
@@ -49,6 +49,7 @@ abbrev pub namesRead : Text → ℕ → Line → List Name
 namesRead source i Skipped = []
 namesRead source i End = []
 namesRead source i (Org v) = []
+namesRead source i NoOrg = []
 namesRead source i (Item ns b) = namesFrom source i ns
 
 -- a label lies in the source
@@ -68,6 +69,7 @@ abbrev pub Reading : Text → List ℕ → ℕ → ℕ → Line → Type 0
 Reading source cells count i Skipped = Held source cells count
 Reading source cells count i End = Held source cells count
 Reading source cells count i (Org v) = Held source cells count
+Reading source cells count i NoOrg = Held source cells count
 Reading source cells count i (Item ns b) = Naming source cells count i ns
 
 abbrev pub recordedOf : Option Table → Recorded
@@ -93,6 +95,7 @@ abbrev pub dataWords : Line → ℕ
 dataWords Skipped = 0
 dataWords End = 0
 dataWords (Org v) = 0
+dataWords NoOrg = 0
 dataWords (Item ns b) = bodyWords b
 
 -- a line that ends the passes
@@ -100,4 +103,5 @@ abbrev pub endRead : Line → Bool
 endRead Skipped = false
 endRead End = true
 endRead (Org v) = false
+endRead NoOrg = false
 endRead (Item ns b) = false

@@ -59,6 +59,7 @@ fn record_line(
         Line::Skipped => Recorded::Count(count),
         Line::End => Recorded::Count(count),
         Line::Org(_) => Recorded::Count(count),
+        Line::NoOrg => Recorded::Count(count),
         Line::Item(names, _) => record_names(source, table, count, at, names, address),
     }
 }
@@ -71,6 +72,7 @@ fn data_words(read: Line) -> usize
         Line::Skipped => 0,
         Line::End => 0,
         Line::Org(_) => 0,
+        Line::NoOrg => 0,
         Line::Item(_, body) => match body {
             Body::Bare => 0,
             Body::Instruction(_) => 0,
@@ -90,6 +92,7 @@ fn is_end(read: Line) -> bool
         Line::Skipped => false,
         Line::End => true,
         Line::Org(_) => false,
+        Line::NoOrg => false,
         Line::Item(_, _) => false,
     }
 }

@@ -17,7 +17,7 @@ use Rattle.line.specs.declared.Names.{Names}
 use Rattle.line.specs.declared.Body.{Body as ReadBody}
 use Rattle.line.specs.declared.Body.the-variants.{Bare, Data, Instruction}
 use Rattle.line.specs.declared.Line.{Line as ReadLine}
-use Rattle.line.specs.declared.Line.the-variants.{Skipped, End, Org, Item}
+use Rattle.line.specs.declared.Line.the-variants.{Skipped, End, Org, NoOrg, Item}
 use Rattle.line.specs.Line.{spanText, valueOf, lineAt, SpanIn, Within}
 use Rattle.scan.specs.Walk.{addressAfter, bodyOf, isEnd}
 use Rattle.scan.proofs.Bodies.{size-bare, size-data, size-instruction, after-skipped, after-end, after-org, after-no-org, after-item-of}
@@ -40,9 +40,13 @@ module _ (line : Text) (l : ReadLine) where
   unfolding bodyOf
   body-end e = rw e
 
-  pub body-org : (v : Number) → l ≡ Org v → bodyOf (lineAt line l) ≡ bare
+  pub body-org : (v : ℕ) → l ≡ Org v → bodyOf (lineAt line l) ≡ bare
   unfolding bodyOf
   body-org v e = rw e
+
+  pub body-no-org : l ≡ NoOrg → bodyOf (lineAt line l) ≡ bare
+  unfolding bodyOf
+  body-no-org e = rw e
 
   module _ (ns : Names) (b : ReadBody) (e : l ≡ Item ns b) where
     pub body-bare : b ≡ Bare → bodyOf (lineAt line l) ≡ bare
@@ -136,9 +140,13 @@ module _ (line : Text) (l : ReadLine) (y : Bool) where
   unfolding isEnd
   last-end e = rw e
 
-  pub last-org : (v : Number) → l ≡ Org v → y ≡ (isEnd (lineAt line l) || y)
+  pub last-org : (v : ℕ) → l ≡ Org v → y ≡ (isEnd (lineAt line l) || y)
   unfolding isEnd
   last-org v e = rw e
+
+  pub last-no-org : l ≡ NoOrg → y ≡ (isEnd (lineAt line l) || y)
+  unfolding isEnd
+  last-no-org e = rw e
 
   pub last-item : (ns : Names) (b : ReadBody) → l ≡ Item ns b → y ≡ (isEnd (lineAt line l) || y)
   unfolding isEnd
@@ -155,14 +163,14 @@ module _ (t : Table) (base a : ℕ) (line : Text) (l : ReadLine) where
   pub places-end : l ≡ End → Places t base a (lineAt line l) (noWords a)
   places-end e = places-bare a (body-end line l e) (after-end line base a l e)
 
-  pub places-org : (v : Number) (n : ℕ) → l ≡ Org v → v ≡ Number·Value n → Places t base a (lineAt line l) (noWords (base + n))
-  places-org v n e f = places-bare (base + n) (body-org line l v e) (after-org line base a l n (e ∙ ap Org f))
+  pub places-org : (n : ℕ) → l ≡ Org n → Places t base a (lineAt line l) (noWords (base + n))
+  places-org n e = places-bare (base + n) (body-org line l n e) (after-org line base a l n e)
 
-  pub org-fits : (v : Number) (n : ℕ) → l ≡ Org v → v ≡ Number·Value n → addressAfter base a (lineAt line l) < addressLimit → base + n < addressLimit
-  org-fits v n e f h = let k = after-org line base a l n (e ∙ ap Org f) in omega arith
+  pub org-fits : (n : ℕ) → l ≡ Org n → addressAfter base a (lineAt line l) < addressLimit → base + n < addressLimit
+  org-fits n e h = let k = after-org line base a l n e in omega arith
 
-  pub places-no-org : (v : Number) → l ≡ Org v → v ≡ Unreadable → Places t base a (lineAt line l) (noWords a)
-  places-no-org v e f = places-bare a (body-org line l v e) (after-no-org line base a l (e ∙ ap Org f))
+  pub places-no-org : l ≡ NoOrg → Places t base a (lineAt line l) (noWords a)
+  places-no-org e = places-bare a (body-no-org line l e) (after-no-org line base a l e)
 
   module _ (ns : Names) (b : ReadBody) (e : l ≡ Item ns b) where
     pub places-bare-item : b ≡ Bare → Places t base a (lineAt line l) (noWords a)

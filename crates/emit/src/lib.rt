@@ -31,6 +31,7 @@ fn value_code(read: Line) -> Code
         Line::Skipped => Code::Nothing,
         Line::End => Code::Nothing,
         Line::Org(_) => Code::Nothing,
+        Line::NoOrg => Code::Nothing,
         Line::Item(_, body) => match body {
             Body::Bare => Code::Nothing,
             Body::Instruction(_) => Code::Nothing,
@@ -76,10 +77,8 @@ fn instruction_code(
     match read {
         Line::Skipped => no_words(address),
         Line::End => no_words(address),
-        Line::Org(v) => match v {
-            Number::Value(n) => no_words(base + n),
-            Number::Unreadable => no_words(address),
-        },
+        Line::Org(n) => no_words(base + n),
+        Line::NoOrg => no_words(address),
         Line::Item(_, body) => match body {
             Body::Bare => no_words(address),
             Body::Data(n, _) => no_words(address + n),
@@ -105,6 +104,7 @@ fn is_last(read: Line, end: usize, length: usize) -> bool
         Line::End => true,
         Line::Skipped => end == length,
         Line::Org(_) => end == length,
+        Line::NoOrg => end == length,
         Line::Item(_, _) => end == length,
     }
 }

@@ -9,12 +9,12 @@ use borrow.Author.Tests.{not-true, not-false}
 use lib.ListN.{length, take, drop}
 use lib.Seq.{length-take-le}
 use Rattle.rules.specs.Text.{Text, bytes, uppers, pieces, contains, nth}
-use Rattle.rules.specs.Line.{numberIn, dataSize, dataValue, dataBody, nonempty, dataLine}
+use Rattle.rules.specs.Line.{org, numberIn, dataSize, dataValue, dataBody, nonempty, dataLine}
 use Rattle.numeral.specs.Number.{numberOf}
 use Rattle.numeral.specs.declared.unsigned.Number.{Number}
 use Rattle.numeral.specs.declared.unsigned.Number.the-variants.{Unreadable}
 use Rattle.line.specs.Line.{part, namesAt, valueOf, bodyAt, Part, NamesIn, Says}
-use Rattle.line.specs.Steps.{Trimmed, withName, dataOf, Headed}
+use Rattle.line.specs.Steps.{Trimmed, withName, orgOf, dataOf, Headed}
 use Rattle.line.specs.declared.Names.{Names}
 use Rattle.line.specs.declared.Body.{Body}
 use Rattle.line.specs.declared.Body.the-variants.{Data}
@@ -76,3 +76,8 @@ module _ (line : Text) (ns : Names) (a e : ℕ) (tr : Trimmed line a e) (h : Nam
         says = rw (x .says (namesAt line ns) a, nonempty-some a (take (hd .label) t) g, part-front line a e (hd .label) k, names-more line ns h a (a + hd .label) p, body-is line t (drop (hd .directive) t));
         within = (names-in line ns h a (a + hd .label) p, size-most (uppers t));
       })
+
+-- step 3 by its number
+pub org-says : (line : Text) (x : Option ℕ) → Says line (org x) (orgOf (numberOf x))
+org-says line none = record { says = refl; within = Prim.tt }
+org-says line (some v) = record { says = refl; within = Prim.tt }

@@ -16,7 +16,7 @@ use Rattle.numeral.specs.Number.{numberOf}
 use Rattle.numeral.specs.declared.unsigned.Number.{Number}
 use Rattle.line.specs.Line.{part, namesAt, Part, NamesIn, Says}
 use Rattle.line.specs.Outline.{Outlined}
-use Rattle.line.specs.Steps.{Trimmed, Whole, trimmedPart, spanFrom, noNames, withName, Goes}
+use Rattle.line.specs.Steps.{Trimmed, Whole, trimmedPart, spanFrom, noNames, withName, orgOf, Goes}
 use Rattle.line.specs.declared.Names.{Names}
 use Rattle.line.specs.declared.Split.{Split}
 use Rattle.line.specs.declared.Body.the-variants.{Bare, Instruction}
@@ -25,7 +25,7 @@ use Rattle.line.specs.declared.Line.the-variants.{Skipped, End, Org, Ite
 use Rattle.line.proofs.Parts.{part-rest, part-front, length-part, kept-is, trim-kept, leading-take, Trims, trims}
 use Rattle.line.proofs.Labels.{more-names, no-names-in}
 use Rattle.line.proofs.Outlines.{part-undefined, whole-text, whole-trimmed, behind-start, colon-here, colon-nowhere}
-use Rattle.line.proofs.Data.{valueOf-number}
+use Rattle.line.proofs.Data.{org-says}
 
 -- what is said by another name
 pub says-same : {line : Text} {x y : Said} {r : Line} → x ≡ y → Says line y r → Says line x r
@@ -208,8 +208,8 @@ module _ {line : Text} {a k n : ℕ} {m : Bool} (o : Outlined line a k m) (q : n
       says-end e = says-same (line-is ∙ first-end a _ some d (sym p ∙ e)) (record { says = refl; within = Prim.tt })
 
       module _ (e : x ≡ false) {y : Bool} (g : y ≡ starts (bytes "ORG") (uppers inner)) where
-        pub says-org : y ≡ true → {v : Number} → v ≡ numberOf (numberIn (nth 1 (pieces inner))) → Says line (lineOf line) (Org v)
-        says-org c w = says-same (line-is ∙ first-org a _ some d (sym p ∙ e) (sym g ∙ c)) (record { says = rw (w, valueOf-number (numberIn (nth 1 (pieces inner)))); within = Prim.tt })
+        pub says-org : y ≡ true → {v : Number} → v ≡ numberOf (numberIn (nth 1 (pieces inner))) → {l : Line} → l ≡ orgOf v → Says line (lineOf line) l
+        says-org c w q = says-same (line-is ∙ first-org a _ some d (sym p ∙ e) (sym g ∙ c)) (rw (q, w) (org-says line (numberIn (nth 1 (pieces inner)))))
 
         pub says-rest : y ≡ false → {l : Line} → Says line (labelLine a inner) l → Says line (lineOf line) l
         says-rest c s = says-same (line-is ∙ first-label a _ some d (sym p ∙ e) (sym g ∙ c)) s

@@ -13,7 +13,7 @@ use Rattle.line.specs.declared.Names.{Names}
 use Rattle.line.specs.declared.Body.{Body}
 use Rattle.line.specs.declared.Body.the-variants.{Bare, Data, Instruction}
 use Rattle.line.specs.declared.Line.{Line}
-use Rattle.line.specs.declared.Line.the-variants.{Skipped, End, Org, Item}
+use Rattle.line.specs.declared.Line.the-variants.{Skipped, End, Org, NoOrg, Item}
 
 -- the bytes of a line from a to before e
 abbrev pub part : Text → ℕ → ℕ → Text
@@ -46,7 +46,8 @@ bodyAt line (Instruction s) = instructionOf (spanText line s)
 abbrev pub lineAt : Text → Line → Said
 lineAt line Skipped = skipped
 lineAt line End = end
-lineAt line (Org v) = org (valueOf v)
+lineAt line (Org v) = org (some v)
+lineAt line NoOrg = org none
 lineAt line (Item ns b) = item (namesAt line ns) (bodyAt line b)
 
 -- from a to before e is a place in the line
@@ -73,6 +74,7 @@ abbrev pub Within : Text → Line → Type 0
 Within line Skipped = Unit
 Within line End = Unit
 Within line (Org v) = Unit
+Within line NoOrg = Unit
 Within line (Item ns b) = NamesIn line 2 ns × BodyIn line b
 
 -- the answer says, of this line, what the rules say

@@ -9,10 +9,14 @@ use Rattle.rules.specs.Line.{Name, item, bare, dataSize, dataValue, dataBody, n
 use Rattle.text.specs.declared.Span.{Span}
 use Rattle.text.specs.Pieces.{until}
 use Rattle.numeral.specs.Number.{numberOf}
+use Rattle.numeral.specs.declared.unsigned.Number.{Number}
+use Rattle.numeral.specs.declared.unsigned.Number.the-variants.{Value, Unreadable}
 use Rattle.line.specs.Line.{part, namesAt, Part, NamesIn}
 use Rattle.line.specs.declared.Names.{Names}
 use Rattle.line.specs.declared.Body.{Body}
 use Rattle.line.specs.declared.Body.the-variants.{Data}
+use Rattle.line.specs.declared.Line.{Line}
+use Rattle.line.specs.declared.Line.the-variants.{Org, NoOrg}
 use Rattle.line.specs.declared.Head.{Head}
 use Rattle.line.specs.declared.Split.{Split}
 
@@ -45,6 +49,11 @@ moreThan (suc n) a s = record { count = 2; first = a; second = s }
 
 abbrev pub withName : Names → ℕ → ℕ → Names
 withName ns a e = moreThan (ns .count) (ns .first) (spanFrom a e)
+
+-- ORG by its number
+abbrev pub orgOf : Number → Line
+orgOf (Value v) = Org v
+orgOf Unreadable = NoOrg
 
 -- the data of a text t whose directive is d
 abbrev pub dataOf : Text → Text → Body

@@ -10,7 +10,7 @@ ghost use Rattle.rules.specs.Line.{numberIn, dataSize, isDirective, dataLine, i
 ghost use Rattle.numeral.specs.Number.{numberOf};
 ghost use Rattle.line.specs.Line.{part, namesAt, Part, NamesIn, Says};
 ghost use Rattle.line.specs.Outline.{Outlined};
-ghost use Rattle.line.specs.Steps.{Trimmed, Whole, trimmedPart, noNames, withName, dataOf, Headed, Goes};
+ghost use Rattle.line.specs.Steps.{Trimmed, Whole, trimmedPart, noNames, withName, orgOf, dataOf, Headed, Goes};
 
 // The labels of a line: as many of the two as the count says.
 pub struct Names {
@@ -32,7 +32,9 @@ pub enum Body {
 pub enum Line {
     Skipped,
     End,
-    Org(Number),
+    Org(u32),
+    // ORG without a number.
+    NoOrg,
     Item(Names, Body),
 }
 
@@ -274,6 +276,16 @@ fn label_line(line: &[u8], start: usize, end: usize, colon: usize, defines: bool
     rest_line(line, names, from, to, defines)
 }
 
+// Step 3. The number stands in the variant itself: an enum in it would lie across the labels' count.
+fn org_line(number: Number) -> Line
+    ensures { λ r. ⌜ r ≡ orgOf number ⌝ }
+{
+    match number {
+        Number::Value(v) => Line::Org(v),
+        Number::Unreadable => Line::NoOrg,
+    }
+}
+
 // Steps 1 to 3, then the others, on a line of which the caller tells where it starts, its first colon, and whether DC. or DS. is in it.
 pub fn read_line(line: &[u8], start: usize, colon: usize, defines: bool) -> Line
     requires { ⌜ Outlined (now line) start colon defines ⌝ }
@@ -291,7 +303,7 @@ pub fn read_line(line: &[u8], start: usize, colon: usize, defines: bool) -> Line
         return Line::End;
     }
     if text::starts_upper(t, b"ORG") {
-        return Line::Org(second_number(t, 0));
+        return org_line(second_number(t, 0));
     }
     label_line(line, start, end, colon, defines)
 }

@@ -10,7 +10,7 @@ use Rattle.line.specs.declared.Names.{Names}
 use Rattle.line.specs.declared.Body.{Body}
 use Rattle.line.specs.declared.Body.the-variants.{Bare, Data, Instruction}
 use Rattle.line.specs.declared.Line.{Line}
-use Rattle.line.specs.declared.Line.the-variants.{Skipped, End, Org, Item}
+use Rattle.line.specs.declared.Line.the-variants.{Skipped, End, Org, NoOrg, Item}
 use Rattle.line.specs.Line.{spanText, bodyAt, lineAt, SpanIn, NamesIn, BodyIn, Within}
 use Rattle.scan.specs.Walk.{addressAfter}
 
@@ -39,11 +39,11 @@ module _ (line : Text) (base a : ℕ) (l : Line) where
   unfolding addressAfter
   after-end e = rw e
 
-  pub after-org : (v : ℕ) → l ≡ Org (Value v) → base + v ≡ addressAfter base a (lineAt line l)
+  pub after-org : (v : ℕ) → l ≡ Org v → base + v ≡ addressAfter base a (lineAt line l)
   unfolding addressAfter
   after-org v e = rw e
 
-  pub after-no-org : l ≡ Org Unreadable → a ≡ addressAfter base a (lineAt line l)
+  pub after-no-org : l ≡ NoOrg → a ≡ addressAfter base a (lineAt line l)
   unfolding addressAfter
   after-no-org e = rw e
 

@@ -1,7 +1,6 @@
 // The source's lines, one after another: where a line ends, what it says, and the address after it.
 use line::Body;
 use line::Line;
-use numeral::unsigned::Number;
 ghost use mathlib.Core.Path.{_≡_};
 ghost use mathlib.Core.Bool.{_||_};
 ghost use Prim.Native.Nat.{_+_, _≤_};
@@ -249,10 +248,8 @@ pub fn address_after(line: &[u8], read: Line, base: u32, address: u32) -> u64
     match read {
         Line::Skipped => address as u64,
         Line::End => address as u64,
-        Line::Org(v) => match v {
-            Number::Value(n) => base as u64 + n as u64,
-            Number::Unreadable => address as u64,
-        },
+        Line::Org(n) => base as u64 + n as u64,
+        Line::NoOrg => address as u64,
         Line::Item(_, body) => address as u64 + body_size(line, body) as u64,
     }
 }

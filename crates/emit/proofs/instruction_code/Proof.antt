@@ -23,11 +23,8 @@ no-words-requires-2 c κs = search needs
 enum-known-read : tie.Need-enum-known-read
 enum-known-read c = search needs
 
-enum-known-v : tie.Need-enum-known-v
-enum-known-v c = search needs
-
 add-no-words : tie.Need-add-no-words
-add-no-words c = let h = org-fits (tableOf (c .before .before .before .before .before .before .before .before .before .args .source .now) (c .before .before .before .before .before .before .before .before .before .args .table .now) (c .before .before .before .before .before .before .before .before .before .args .labels)) (c .before .before .before .before .before .before .before .before .before .args .base) (c .before .before .before .before .before .before .before .before .before .args .address) (c .before .before .before .before .before .before .before .before .before .args .line .now) (c .before .before .before .before .before .before .before .before .before .args .read) _ _ (c .before .before .before .before .read .given .1) (c .before .v .given .1) (c .before .before .before .before .before .before .before .before .before .pre .below) in omega arith
+add-no-words c = let h = org-fits (tableOf (c .before .before .before .before .before .before .args .source .now) (c .before .before .before .before .before .before .args .table .now) (c .before .before .before .before .before .before .args .labels)) (c .before .before .before .before .before .before .args .base) (c .before .before .before .before .before .before .args .address) (c .before .before .before .before .before .before .args .line .now) (c .before .before .before .before .before .before .args .read) _ (c .before .read .given .1) (c .before .before .before .before .before .before .pre .below) in omega arith
 
 no-words-requires-3 : tie.Need-no-words-requires-3
 no-words-requires-3 c κs = search needs
@@ -71,8 +68,8 @@ part-encode-instruction-end c = let h = span-in _ _ _ _ (c .before .before .befo
 encode-instruction-requires : tie.Need-encode-instruction-requires
 encode-instruction-requires c κs = (c .before .before .before .before .before .before .before .before .before .before .pre .near, let h = span-in _ _ _ _ (c .before .before .before .before .before .read2 .given .1) _ (c .before .before .body2 .given .1) (c .before .before .before .before .before .before .before .before .before .before .pre .within) in let s = c .before .before .before .before .before .before .before .before .before .before .pre .short in simp (length-take, length-drop) (omega arith))
 
-add-t26 : tie.Need-add-t26
-add-t26 c = let h = instruction-fits (tableOf (c .before .before .before .before .before .before .before .before .before .before .before .before .args .source .now) (c .before .before .before .before .before .before .before .before .before .before .before .before .args .table .now) (c .before .before .before .before .before .before .before .before .before .before .before .before .args .labels)) (c .before .before .before .before .before .before .before .before .before .before .before .before .args .base) (c .before .before .before .before .before .before .before .before .before .before .before .before .args .address) (c .before .before .before .before .before .before .before .before .before .before .before .before .args .line .now) (c .before .before .before .before .before .before .before .before .before .before .before .before .args .read) _ _ (c .before .before .before .before .before .before .before .read2 .given .1) _ (c .before .before .before .before .body2 .given .1) _ (c .before .encode-instruction .ensures .1) (c .before .before .before .before .before .before .before .before .before .before .before .before .pre .below) in omega arith
+add-t24 : tie.Need-add-t24
+add-t24 c = let h = instruction-fits (tableOf (c .before .before .before .before .before .before .before .before .before .before .before .before .args .source .now) (c .before .before .before .before .before .before .before .before .before .before .before .before .args .table .now) (c .before .before .before .before .before .before .before .before .before .before .before .before .args .labels)) (c .before .before .before .before .before .before .before .before .before .before .before .before .args .base) (c .before .before .before .before .before .before .before .before .before .before .before .before .args .address) (c .before .before .before .before .before .before .before .before .before .before .before .before .args .line .now) (c .before .before .before .before .before .before .before .before .before .before .before .before .args .read) _ _ (c .before .before .before .before .before .before .before .read2 .given .1) _ (c .before .before .before .before .body2 .given .1) _ (c .before .encode-instruction .ensures .1) (c .before .before .before .before .before .before .before .before .before .before .before .before .pre .below) in omega arith
 
 returns : tie.Need-returns
 returns c = rw (c .no-words .ensures) (places-skipped (tableOf (c .before .before .before .before .before .before .args .source .now) (c .before .before .before .before .before .before .args .table .now) (c .before .before .before .before .before .before .args .labels)) (c .before .before .before .before .before .before .args .base) (c .before .before .before .before .before .before .args .address) (c .before .before .before .before .before .before .args .line .now) (c .before .before .before .before .before .before .args .read) (c .before .enum-told .given .1))
@@ -81,10 +78,10 @@ returns-2 : tie.Need-returns-2
 returns-2 c = rw (c .no-words2 .ensures) (places-end (tableOf (c .before .before .before .before .before .before .args .source .now) (c .before .before .before .before .before .before .args .table .now) (c .before .before .before .before .before .before .args .labels)) (c .before .before .before .before .before .before .args .base) (c .before .before .before .before .before .before .args .address) (c .before .before .before .before .before .before .args .line .now) (c .before .before .before .before .before .before .args .read) (c .before .enum-told2 .given .1))
 
 returns-3 : tie.Need-returns-3
-returns-3 c = rw (c .no-words3 .ensures) (places-org (tableOf (c .before .before .before .before .before .before .before .before .before .before .args .source .now) (c .before .before .before .before .before .before .before .before .before .before .args .table .now) (c .before .before .before .before .before .before .before .before .before .before .args .labels)) (c .before .before .before .before .before .before .before .before .before .before .args .base) (c .before .before .before .before .before .before .before .before .before .before .args .address) (c .before .before .before .before .before .before .before .before .before .before .args .line .now) (c .before .before .before .before .before .before .before .before .before .before .args .read) _ _ (c .before .before .before .before .before .read .given .1) (c .before .before .v .given .1))
+returns-3 c = rw (c .no-words3 .ensures) (places-org (tableOf (c .before .before .before .before .before .before .before .args .source .now) (c .before .before .before .before .before .before .before .args .table .now) (c .before .before .before .before .before .before .before .args .labels)) (c .before .before .before .before .before .before .before .args .base) (c .before .before .before .before .before .before .before .args .address) (c .before .before .before .before .before .before .before .args .line .now) (c .before .before .before .before .before .before .before .args .read) _ (c .before .before .read .given .1))
 
 returns-4 : tie.Need-returns-4
-returns-4 c = rw (c .no-words4 .ensures) (places-no-org (tableOf (c .before .before .before .before .before .before .before .before .before .args .source .now) (c .before .before .before .before .before .before .before .before .before .args .table .now) (c .before .before .before .before .before .before .before .before .before .args .labels)) (c .before .before .before .before .before .before .before .before .before .args .base) (c .before .before .before .before .before .before .before .before .before .args .address) (c .before .before .before .before .before .before .before .before .before .args .line .now) (c .before .before .before .before .before .before .before .before .before .args .read) _ (c .before .before .before .before .read .given .1) (c .before .enum-told3 .given .1))
+returns-4 c = rw (c .no-words4 .ensures) (places-no-org (tableOf (c .before .before .before .before .before .before .args .source .now) (c .before .before .before .before .before .before .args .table .now) (c .before .before .before .before .before .before .args .labels)) (c .before .before .before .before .before .before .args .base) (c .before .before .before .before .before .before .args .address) (c .before .before .before .before .before .before .args .line .now) (c .before .before .before .before .before .before .args .read) (c .before .enum-told3 .given .1))
 
 returns-5 : tie.Need-returns-5
 returns-5 c = rw (c .no-words5 .ensures) (places-bare-item (tableOf (c .before .before .before .before .before .before .before .before .before .args .source .now) (c .before .before .before .before .before .before .before .before .before .args .table .now) (c .before .before .before .before .before .before .before .before .before .args .labels)) (c .before .before .before .before .before .before .before .before .before .args .base) (c .before .before .before .before .before .before .before .before .before .args .address) (c .before .before .before .before .before .before .before .before .before .args .line .now) (c .before .before .before .before .before .before .before .before .before .args .read) _ _ (c .before .before .before .before .read2 .given .1) (c .before .enum-told4 .given .1))
@@ -104,7 +101,6 @@ instruction-code-spec =
     enum-told-2
     no-words-requires-2
     enum-known-read
-    enum-known-v
     add-no-words
     no-words-requires-3
     enum-told-3
@@ -120,7 +116,7 @@ instruction-code-spec =
     part-encode-instruction-start
     part-encode-instruction-end
     encode-instruction-requires
-    add-t26
+    add-t24
     returns
     returns-2
     returns-3

@@ -1,6 +1,6 @@
 -- `is_last` answers by the kind of line. Assumes nothing.
+use Rattle.emit.proofs.LineCode.{last-skipped, last-end, last-org, last-no-org, last-item}
 use borrow.Author.Needs.{needs}
-use Rattle.emit.proofs.LineCode.{last-skipped, last-end, last-org, last-item}
 use Rattle.emit.proofs.is_last.Statement.{statement}
 use Rattle.emit.proofs.is_last.Tie as tie
 
@@ -16,6 +16,9 @@ enum-told-3 c = search needs
 enum-told-4 : tie.Need-enum-told-4
 enum-told-4 c = search needs
 
+enum-told-5 : tie.Need-enum-told-5
+enum-told-5 c = search needs
+
 returns : tie.Need-returns
 returns c = λ line. last-end line _ _ (c .enum-told .given .1)
 
@@ -26,9 +29,22 @@ returns-3 : tie.Need-returns-3
 returns-3 c = λ line. last-org line _ _ _ (c .enum-told3 .given .1)
 
 returns-4 : tie.Need-returns-4
-returns-4 c = λ line. last-item line _ _ _ _ (c .enum-told4 .given .1)
+returns-4 c = λ line. last-no-org line _ _ (c .enum-told4 .given .1)
+
+returns-5 : tie.Need-returns-5
+returns-5 c = λ line. last-item line _ _ _ _ (c .enum-told5 .given .1)
 
 pub is-last-spec : {M : Type 1} → statement M
 is-last-spec =
     tie.close
-    (tie.spec enum-told enum-told-2 enum-told-3 enum-told-4 returns returns-2 returns-3 returns-4)
+    (tie.spec
+    enum-told
+    enum-told-2
+    enum-told-3
+    enum-told-4
+    enum-told-5
+    returns
+    returns-2
+    returns-3
+    returns-4
+    returns-5)

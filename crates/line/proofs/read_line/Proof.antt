@@ -29,9 +29,12 @@ returns-3 : tie.Need-returns-3
 unfolding bytes
 returns-3 c = says-end (c .before .before .before .before .before .before .before .before .before .before .pre) (c .before .before .before .before .before .before .before .kept-length .ensures) (c .before .before .before .before .before .if1 .left) (c .before .before .before .if2 .left) (c .before .starts-upper .ensures) (c .if3 .taken)
 
+org-line-requires : tie.Need-org-line-requires
+org-line-requires c κs = search needs
+
 returns-4 : tie.Need-returns-4
 unfolding bytes
-returns-4 c = says-org (c .before .before .before .before .before .before .before .before .before .before .before .before .before .before .pre) (c .before .before .before .before .before .before .before .before .before .before .before .kept-length .ensures) (c .before .before .before .before .before .before .before .before .before .if1 .left) (c .before .before .before .before .before .before .before .if2 .left) (c .before .before .before .before .before .starts-upper .ensures) (c .before .before .before .before .if3 .left) (c .before .before .starts-upper2 .ensures) (c .before .if4 .taken) (c .second-number .ensures)
+returns-4 c = says-org (c .before .before .before .before .before .before .before .before .before .before .before .before .before .before .before .pre) (c .before .before .before .before .before .before .before .before .before .before .before .before .kept-length .ensures) (c .before .before .before .before .before .before .before .before .before .before .if1 .left) (c .before .before .before .before .before .before .before .before .if2 .left) (c .before .before .before .before .before .before .starts-upper .ensures) (c .before .before .before .before .before .if3 .left) (c .before .before .before .starts-upper2 .ensures) (c .before .before .if4 .taken) (c .before .second-number .ensures) (c .org-line .ensures)
 
 label-line-requires : tie.Need-label-line-requires
 label-line-requires c κs = (line-whole (c .before .before .before .before .before .before .before .before .before .before .before .before .before .pre) (c .before .before .before .before .before .before .before .before .before .before .kept-length .ensures) (c .before .before .before .before .before .before .before .before .if1 .left), c .before .before .before .before .before .before .before .before .before .before .before .before .before .pre .directive)
@@ -61,6 +64,7 @@ read-line-spec =
     (λ c. search needs)
     (λ c κs. search needs)
     (λ c κs. search needs)
+    org-line-requires
     returns-4
     label-line-requires
     returns-5)

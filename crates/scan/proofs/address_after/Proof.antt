@@ -1,6 +1,4 @@
 -- `address_after` answers by the kind of line. Assumes nothing.
-use mathlib.Core.Path.{ap, _∙_}
-use Rattle.line.specs.declared.Line.the-variants.{Org}
 use Rattle.scan.proofs.Bodies.{after-skipped, after-end, after-org, after-no-org, after-item-of, item-in}
 use borrow.Author.Needs.{needs}
 use Rattle.scan.proofs.address_after.Statement.{statement}
@@ -14,9 +12,6 @@ enum-told-2 c = search needs
 
 enum-known-read : tie.Need-enum-known-read
 enum-known-read c = search needs
-
-enum-known-v : tie.Need-enum-known-v
-enum-known-v c = search needs
 
 cast-result : tie.Need-cast-result
 cast-result c = search needs
@@ -46,10 +41,10 @@ returns-2 : tie.Need-returns-2
 returns-2 c = after-end _ _ _ _ (c .enum-told2 .given .1)
 
 returns-3 : tie.Need-returns-3
-returns-3 c = after-org _ _ _ _ _ (c .before .before .before .before .read .given .1 ∙ ap Org (c .before .v .given .1))
+returns-3 c = after-org _ _ _ _ _ (c .before .read .given .1)
 
 returns-4 : tie.Need-returns-4
-returns-4 c = after-no-org _ _ _ _ (c .before .before .before .read .given .1 ∙ ap Org (c .enum-told3 .given .1))
+returns-4 c = after-no-org _ _ _ _ (c .enum-told3 .given .1)
 
 returns-5 : tie.Need-returns-5
 returns-5 c = after-item-of _ _ _ _ _ _ (c .before .before .read2 .given .1) _ (c .body-size .ensures)
@@ -61,7 +56,6 @@ address-after-spec =
     enum-told
     enum-told-2
     enum-known-read
-    enum-known-v
     cast-result
     add-result
     enum-told-3
