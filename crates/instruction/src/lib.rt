@@ -8,7 +8,6 @@ ghost use lib.ListN.{length, drop};
 ghost use Rattle.rules.specs.Text.{uppers, cutAt, pieces, joined, firstText};
 ghost use Rattle.rules.specs.Line.{instructionOf, isPlain, size};
 ghost use Rattle.rules.specs.Assemble.{over};
-ghost use Rattle.rules.specs.Limits.{maxSource};
 ghost use Rattle.text.specs.Pieces.{until};
 ghost use Rattle.instruction.specs.FirstPiece.{part, firstIsL, endsName, headOf};
 ghost use Rattle.instruction.specs.Tail.{written, space, spaced};
@@ -397,7 +396,6 @@ fn may_be_long(t: &[u8]) -> bool
 
 // How many bytes an instruction takes; no copy is needed, for blanks do not change an operand's first byte.
 pub fn instruction_size(t: &[u8]) -> u32
-    requires { ⌜ length (now t) ≤ maxSource ⌝ }
     ensures { λ r. ⌜ r ≡ size (instructionOf (now (t .entry))) ⌝ }
 {
     if !may_be_long(t) {

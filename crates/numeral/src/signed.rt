@@ -98,10 +98,3 @@ pub fn low_byte(v: i8) -> u8
     }
     v as u8
 }
-
-// The low three bits of v.
-pub fn low_three(v: i8) -> u8
-    ensures { λ r. ⌜ r ≡ modulo 8 v ⌝ }
-{
-    low_byte(v) & 7
-}

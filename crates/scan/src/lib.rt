@@ -226,7 +226,7 @@ fn outline_line(source: &[u8], at: usize) -> Outline
 
 // By how much a body of the line advances the address.
 fn body_size(line: &[u8], body: Body) -> u32
-    requires { ⌜ (length (now line) ≤ maxSource) × BodyIn (now line) body ⌝ }
+    requires { ⌜ BodyIn (now line) body ⌝ }
     ensures { λ r. ⌜ r ≡ size (bodyAt (now (line .entry)) body) ⌝ }
 {
     match body {
@@ -242,7 +242,7 @@ fn body_size(line: &[u8], body: Body) -> u32
 
 // The address after a line that is read at `address`.
 pub fn address_after(line: &[u8], read: Line, base: u32, address: u32) -> u64
-    requires { ⌜ (length (now line) ≤ maxSource) × Within (now line) read ⌝ }
+    requires { ⌜ Within (now line) read ⌝ }
     ensures { λ r. ⌜ r ≡ addressAfter base address (lineAt (now (line .entry)) read) ⌝ }
 {
     match read {

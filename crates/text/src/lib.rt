@@ -117,16 +117,6 @@ pub fn starts_upper(t: &[u8], p: &[u8]) -> bool
     true
 }
 
-// Equal in length and in each byte.
-pub fn same_bytes(a: &[u8], b: &[u8]) -> bool
-    ensures { λ r. ⌜ r ≡ same (now (a .entry)) (now (b .entry)) ⌝ }
-{
-    if a.len() != b.len() {
-        return false;
-    }
-    starts_with(a, b)
-}
-
 // The piece in upper case is `name`.
 pub fn same_upper(piece: &[u8], name: &[u8]) -> bool
     ensures { λ r. ⌜ r ≡ same (uppers (now (piece .entry))) (now (name .entry)) ⌝ }

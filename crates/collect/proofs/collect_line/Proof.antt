@@ -1,7 +1,7 @@
 -- `collect_line` reads a line and records its labels. Assumes nothing.
 use mathlib.Core.Path.{sym, _∙_}
 use native.Mathlib.Omega.{arith}
-use Rattle.scan.proofs.LineLaws.{line-end-le, line-part-le}
+use Rattle.scan.proofs.LineLaws.{line-end-le}
 use Rattle.scan.proofs.Scanning.{scanned-within}
 use Rattle.collect.proofs.Reading.{words-most}
 use Rattle.collect.proofs.Passing.{reading, stops-at-end, stops-full, stops-out, stops-last-with, goes-on-with}
@@ -43,7 +43,7 @@ part-address-after-end : tie.Need-part-address-after-end
 part-address-after-end c = let h = line-end-le (c .before .before .before .before .before .before .before .before .before .before .before .before .args .source .now) (c .before .before .before .before .before .before .before .before .before .before .before .before .args .p .at) (c .before .before .before .before .before .before .before .before .before .before .before .before .pre .1 .inside) in let e = c .before .before .before .before .before .before .before .before .before .scan-line .ensures .ends in search needs
 
 address-after-requires : tie.Need-address-after-requires
-address-after-requires c κs = (let h = line-part-le (c .before .before .before .before .before .before .before .before .before .before .before .before .before .args .source .now) (c .before .before .before .before .before .before .before .before .before .before .before .before .before .args .p .at) (c .before .before .before .before .before .before .before .before .before .before .scan-line .result .end) in let k = c .before .before .before .before .before .before .before .before .before .before .before .before .before .pre .0 .short in omega arith, scanned-within (c .before .before .before .before .before .before .before .before .before .before .scan-line .ensures))
+address-after-requires c κs = scanned-within (c .before .before .before .before .before .before .before .before .before .before .scan-line .ensures)
 
 cast-if2 : tie.Need-cast-if2
 cast-if2 c = search needs

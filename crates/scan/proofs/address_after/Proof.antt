@@ -26,7 +26,7 @@ enum-known-read-2 : tie.Need-enum-known-read-2
 enum-known-read-2 c = search needs
 
 body-size-requires : tie.Need-body-size-requires
-body-size-requires c κs = (c .before .before .before .before .pre .0, item-in _ 0 0 _ _ _ (c .before .read2 .given .1) (c .before .before .before .before .pre .1) .1)
+body-size-requires c κs = item-in _ 0 0 _ _ _ (c .before .read2 .given .1) (c .before .before .before .before .pre) .1
 
 cast-result-2 : tie.Need-cast-result-2
 cast-result-2 c = search needs

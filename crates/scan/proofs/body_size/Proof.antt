@@ -1,7 +1,5 @@
 -- `body_size` answers by the kind of body. Assumes nothing.
 use mathlib.Core.Path.{_∙_}
-use native.Mathlib.Omega.{arith}
-use lib.ListN.{length-take, length-drop}
 use Rattle.scan.proofs.Bodies.{instruction-in, size-bare, size-data, size-instruction}
 use borrow.Author.Needs.{needs}
 use Rattle.scan.proofs.body_size.Statement.{statement}
@@ -17,16 +15,16 @@ enum-known-body-2 : tie.Need-enum-known-body-2
 enum-known-body-2 c = search needs
 
 sub-instruction-size : tie.Need-sub-instruction-size
-sub-instruction-size c = instruction-in _ _ _ (c .before .body2 .given .1) (c .before .before .before .before .pre .1) .ordered
+sub-instruction-size c = instruction-in _ _ _ (c .before .body2 .given .1) (c .before .before .before .before .pre) .ordered
 
 part-instruction-size-start : tie.Need-part-instruction-size-start
-part-instruction-size-start c = let h = instruction-in _ _ _ (c .before .body2 .given .1) (c .before .before .before .before .pre .1) in search needs
+part-instruction-size-start c = let h = instruction-in _ _ _ (c .before .body2 .given .1) (c .before .before .before .before .pre) in search needs
 
 part-instruction-size-end : tie.Need-part-instruction-size-end
-part-instruction-size-end c = let h = instruction-in _ _ _ (c .before .body2 .given .1) (c .before .before .before .before .pre .1) in search needs
+part-instruction-size-end c = let h = instruction-in _ _ _ (c .before .body2 .given .1) (c .before .before .before .before .pre) in search needs
 
 instruction-size-requires : tie.Need-instruction-size-requires
-instruction-size-requires c κs = let h = instruction-in _ _ _ (c .before .before .body2 .given .1) (c .before .before .before .before .before .pre .1) in simp (length-take, length-drop) (omega arith)
+instruction-size-requires c κs = search needs
 
 returns : tie.Need-returns
 returns c = size-bare _ _ (c .enum-told .given .1)
