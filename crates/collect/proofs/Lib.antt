@@ -3,3 +3,4 @@ pub mod Naming
 pub mod Reading
 pub mod Passing
 pub mod Underway
+pub mod Cells

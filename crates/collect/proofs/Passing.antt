@@ -1,16 +1,16 @@
 -- One line of the first pass: from what the code has read and recorded to what is left of the pass. Assumes nothing.
 use mathlib.Core.Path.{_≡_, refl, sym, ap, _∙_}
-use mathlib.Core.Bool.{Bool, true, false, false≢true}
+use mathlib.Core.Bool.{Bool, true, false, _||_, or-true, false≢true}
 use mathlib.Core.Option.{Option, none, some}
 use mathlib.Core.List.{List, [], _∷_}
 use Prim.Native.Nat.{ℕ, suc, _+_, _-_, _*_, _≤_, _<_}
 use native.Mathlib.Omega.{arith}
-use borrow.Author.Tests.{lt-ltb, le-ltb}
-use lib.Dec.{ltb}
+use borrow.Author.Tests.{lt-ltb, le-ltb, eq-eqb}
+use lib.Dec.{eqb, ltb}
 use lib.ListN.{length, take, drop}
 use Rattle.rules.specs.Limits.{addressLimit}
 use Rattle.rules.specs.Text.{Text}
-use Rattle.rules.specs.Line.{Name, lineOf}
+use Rattle.rules.specs.Line.{Name, size, lineOf}
 use Rattle.rules.specs.Label.{Table, recordAll}
 use Rattle.rules.specs.Assemble.{SourceLine, step, halt, full, next, firstPass, dataPlaces}
 use Rattle.label.specs.Table.{tableOf, Held}
@@ -22,10 +22,11 @@ use Rattle.line.specs.declared.Line.the-variants.{Skipped, End, Org, NoOrg, Ite
 use Rattle.line.specs.Line.{lineAt, Within}
 use Rattle.scan.specs.Lines.{lineEnd, lineFrom, linesFrom}
 use Rattle.scan.specs.Walk.{addressAfter, bodyOf, isEnd, putAt}
-use Rattle.scan.specs.Scan.{Scan}
+use Rattle.scan.specs.Scan.{Scan, afterBy}
 use Rattle.scan.specs.declared.Scanned.{Scanned}
 use Rattle.scan.proofs.LineLaws.{next-line, last-line, more-lines, line-end-le}
 use Rattle.scan.proofs.Scanning.{scanned-says}
+use Rattle.scan.proofs.Bodies.{after-by}
 use Rattle.collect.specs.declared.Collected.{Collected}
 use Rattle.collect.specs.declared.Collected.the-variants.{Done, Refused}
 use Rattle.collect.specs.declared.Progress.{Progress}
@@ -91,6 +92,7 @@ module _ (source : Text) (base : ℕ) (cells : List ℕ) (p : Progress) (g : Set
       record {
         answer = sym (ap (collectedFrom (p .words)) (ap (firstPass base (p .address) table) (next-line source (p .number) (p .at))) ∙ collected-halts (p .words) base (p .address) table this _ h ∙ rw (table-length source cells (p .labels)));
         stored = rw (next-line source (p .number) (p .at), stop-halts base (p .address) table this _ h) (named-none source cells (p .labels) (p .at) (p .address) (v .held) .stored);
+        stops = ap (λ (y : Bool). y || eqb (lineEnd source (p .at)) (length source)) (sym end-said ∙ e);
       }
 
   module _ (ne : endRead (s .read) ≡ false) (answer : Recorded) (after : List ℕ)
@@ -107,10 +109,12 @@ module _ (source : Text) (base : ℕ) (cells : List ℕ) (p : Progress) (g : Set
         record {
           answer = sym (ap (λ ls. collectedFrom (p .words) (firstPass base (p .address) table ls)) (next-line source (p .number) (p .at)) ∙ collected-full (p .words) base (p .address) table this _ h);
           stored = rw (next-line source (p .number) (p .at), stop-full base (p .address) table this _ h, ← names-said) (d .stored);
+          stops = refl;
         }
 
     module _ (n : ℕ) (e : answer ≡ Count n)
-        (later : ℕ) (says-later : later ≡ addressAfter base (p .address) (lineAt (take (s .end - p .at) (drop (p .at) source)) (s .read))) where
+        (m : ℕ) (sized : m ≡ size (bodyOf (lineAt (take (s .end - p .at) (drop (p .at) source)) (s .read))))
+        (later : ℕ) (says-later : later ≡ afterBy base (p .address) (s .read) m) where
       -- the labels with this line's
       now : Table
       now = recordSome (p .at) (p .address) (namesRead source (p .at) (s .read)) table
@@ -124,7 +128,7 @@ module _ (source : Text) (base : ℕ) (cells : List ℕ) (p : Progress) (g : Set
 
       goes : step base (p .at) (p .address) table (lineOf line) ≡ next (later) now (bodyOf (lineOf line))
       unfolding line
-      goes = step-next base (p .at) (p .address) table (lineOf line) reads-on now (records .0) ∙ ap (λ x. next x now (bodyOf (lineOf line))) (sym (says-later ∙ ap (addressAfter base (p .address)) (scanned-says c)))
+      goes = step-next base (p .at) (p .address) table (lineOf line) reads-on now (records .0) ∙ ap (λ x. next x now (bodyOf (lineOf line))) (sym (says-later ∙ after-by _ base (p .address) (s .read) m sized ∙ ap (addressAfter base (p .address)) (scanned-says c)))
 
       -- the address is too high
       pub stops-out : addressLimit ≤ later → Stopping source base cells p (Refused 5 (p .number)) after
@@ -134,6 +138,7 @@ module _ (source : Text) (base : ℕ) (cells : List ℕ) (p : Progress) (g : Set
           record {
             answer = sym (ap (λ ls. collectedFrom (p .words) (firstPass base (p .address) table ls)) (next-line source (p .number) (p .at)) ∙ collected-out (p .words) base (p .address) table this _ (later) now (bodyOf (lineOf line)) goes f);
             stored = rw (next-line source (p .number) (p .at), stop-out base (p .address) table this _ (later) now (bodyOf (lineOf line)) goes f) (d .stored);
+            stops = refl;
           }
 
       module _ (h : later < addressLimit) where
@@ -166,6 +171,7 @@ module _ (source : Text) (base : ℕ) (cells : List ℕ) (p : Progress) (g : Set
             record {
               answer = sym (left-more [] k ∙ collected-last (p .words + dataWords (s .read)) base (later) now ∙ ap (λ x. Done x (p .words + dataWords (s .read))) (sym (records .1)));
               stored = rw (labels-more [] k) (d .stored);
+              stops = ap (λ (y : Bool). isEnd (lineOf line) || y) (eq-eqb _ _ (sym (c .ends) ∙ z)) ∙ or-true (isEnd (lineOf line));
             }
 
         held-now : tableOf source after n ≡ now
@@ -191,6 +197,7 @@ module _ (source : Text) (base : ℕ) (cells : List ℕ) (p : Progress) (g : Set
             record {
               valid = record {
                 inside = omega arith;
+                counted = omega arith;
                 numbered = omega (arith, v .numbered, c .ends);
                 low = h;
                 held = rw e (d .stored .held);
@@ -203,6 +210,9 @@ module _ (source : Text) (base : ℕ) (cells : List ℕ) (p : Progress) (g : Set
               long = d .stored .long;
               past = rw e (d .stored .past);
               further = omega (arith, c .ends);
+              starts = sym f;
+              next = refl;
+              fewer = ap length k;
             }
 
         -- with the data words as the code counted them

@@ -25,7 +25,7 @@ use Rattle.line.specs.Line.{namesFor as namesBy}
 use Rattle.line.proofs.Parts.{drop-take}
 use Rattle.scan.specs.Lines.{lineEnd, lineFrom}
 use Rattle.scan.specs.Walk.{bodyOf, isEnd, putAt}
-use Rattle.scan.proofs.LineLaws.{line-length, line-end-le}
+use Rattle.kept.proofs.Telling.{span-source, span-within}
 use Rattle.collect.specs.Collect.{namesOf}
 use Rattle.collect.specs.Names.{nameFrom, namesFor, namesFrom, namesRead, InSource, valueWords, bodyWords, dataWords, endRead}
 
@@ -61,11 +61,7 @@ data-is a line (Item ns b) = body-is a line b
 -- labels: a part of the line is a part of the source
 module _ (source : Text) (i : ℕ) where
   name-is : (s : Span) → SpanIn (lineFrom source i) s → nameFrom source i s ≡ nameAt (lineFrom source i) s
-  name-is s h =
-      let m = until (eqb 10) (drop i source) in
-      let e : i + s .end - (i + s .start) ≡ s .end - s .start = omega arith in
-      let k : s .end ≤ m = omega (arith, line-length source i, h .inside) in
-      rw (drop-take (s .start) m (drop i source), drop-drop (s .start) i source, take-take (s .end - s .start) (m - s .start) (drop (i + s .start) source) (omega (arith, h .ordered)), e)
+  name-is s h = ap (name (s .start)) (span-source source i s h)
 
   names-by : (k : ℕ) (a b : Span) → SpanIn (lineFrom source i) a → SpanIn (lineFrom source i) b → namesFor source i k a b ≡ namesBy (lineFrom source i) k a b
   names-by zero a b h j = refl
@@ -82,7 +78,7 @@ module _ (source : Text) (i : ℕ) where
 
   -- and lies in the source
   pub in-source : i ≤ length source → (s : Span) → SpanIn (lineFrom source i) s → InSource source i s
-  in-source h s j = record { ordered = j .ordered; within = omega (arith, line-length source i, line-end-le source i h, j .inside) }
+  in-source h s j = record { ordered = j .ordered; within = span-within source i s j h }
 
 -- a line has at most two labels
 pub names-most : (source : Text) (i : ℕ) (r : Line) → length (namesRead source i r) ≤ 2

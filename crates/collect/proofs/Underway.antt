@@ -59,7 +59,7 @@ stop-longer base a t (l ∷ ls) = go (step base (l .start) a t (lineOf (l .text)
     go (next a′ t′ b) e ih = goes a′ t′ b e (ih a′ t′) (ltb a′ addressLimit) refl
 
 -- as many lines as texts
-length-numbered : (n i : ℕ) (ts : List Text) → length (numbered n i ts) ≡ length ts
+pub length-numbered : (n i : ℕ) (ts : List Text) → length (numbered n i ts) ≡ length ts
 unfolding numbered
 length-numbered n i [] = refl
 length-numbered n i (t ∷ ts) = ap suc (length-numbered (suc n) (suc (i + length t)) ts)
@@ -77,7 +77,7 @@ module _ (source : Text) (base : ℕ) (old : List ℕ) (g : Setting source base)
   unfolding linesOf
   begins empty room =
       record {
-        valid = record { inside = omega arith; numbered = omega arith; low = g .low; held = empty; few = omega arith; room = room-less _ (omega (arith, length-numbered 1 0 (cutAt 10 source))) room };
+        valid = record { inside = omega arith; counted = omega arith; numbered = omega arith; low = g .low; held = empty; few = omega arith; room = room-less _ (omega (arith, length-numbered 1 0 (cutAt 10 source))) room };
         answer = rw (table-empty source old);
         labels = rw (table-empty source old);
         long = refl;

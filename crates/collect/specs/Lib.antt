@@ -1,3 +1,4 @@
 pub mod Collect
 pub mod Names
 pub mod Progress
+pub mod Keeping

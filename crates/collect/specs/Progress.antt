@@ -1,6 +1,7 @@
 -- The first pass from line to line: what is left of it, and what one line leaves. Assumes nothing.
 use mathlib.Core.Path.{_≡_}
-use Prim.Native.Nat.{ℕ, _+_, _*_, _≤_, _<_}
+use Prim.Native.Nat.{ℕ, suc, _+_, _*_, _≤_, _<_}
+use mathlib.Core.Bool.{true}
 use mathlib.Core.List.{List, []}
 use lib.ListN.{length, drop}
 use Rattle.rules.specs.Limits.{maxSource, addressLimit}
@@ -9,10 +10,12 @@ use Rattle.rules.specs.Label.{Table}
 use Rattle.rules.specs.Answer.{Answer}
 use Rattle.rules.specs.Assemble.{Pass, firstPass, linesOf}
 use Rattle.label.specs.Table.{cellOf, tableOf, Held}
-use Rattle.scan.specs.Lines.{linesFrom}
+use Rattle.scan.specs.Lines.{lineEnd, linesFrom}
+use Rattle.kept.specs.Lines.{lastLine}
 use Rattle.collect.specs.Collect.{collectedFrom, collectedOf, stopLabels}
 use Rattle.collect.specs.Names.{Stored, RoomFor}
 use Rattle.collect.specs.declared.Collected.{Collected}
+use Rattle.collect.specs.declared.Collected.the-variants.{Done, Refused}
 use Rattle.collect.specs.declared.Progress.{Progress}
 use Rattle.collect.specs.declared.Pace.{Pace}
 use Rattle.collect.specs.declared.Pace.the-variants.{On, Stop}
@@ -29,6 +32,7 @@ linesLeft source p = length (linesFrom source (p .number) (p .at))
 -- a place to stand at, with room for two labels more a line
 pub record Valid (source : Text) (cells : List ℕ) (p : Progress) : Type 0 where
   pub inside : p .at ≤ length source
+  pub counted : 1 ≤ p .number
   pub numbered : p .number ≤ p .at + 1
   pub low : p .address < addressLimit
   pub held : Held source cells (p .labels)
@@ -51,11 +55,20 @@ pub record Going (source : Text) (base : ℕ) (cells : List ℕ) (p q : Progress
   pub long : length after ≡ length cells
   pub past : drop (cellOf (q .labels)) after ≡ drop (cellOf (q .labels)) cells
   pub further : p .at < q .at
+  pub starts : q .at ≡ suc (lineEnd source (p .at))
+  pub next : q .number ≡ p .number + 1
+  pub fewer : linesLeft source p ≡ suc (linesLeft source q)
+
+-- where the pass stops: done at the last line that is read, or refused at this one
+abbrev pub StopsAt : Text → Progress → Collected → Type 0
+StopsAt source p (Done l w) = lastLine source (p .at) ≡ true
+StopsAt source p (Refused n k) = k ≡ p .number
 
 -- the pass stops here: what is left comes to this
 pub record Stopping (source : Text) (base : ℕ) (cells : List ℕ) (p : Progress) (r : Collected) (after : List ℕ) : Type 0 where
   pub answer : r ≡ collectedFrom (p .words) (leftFrom source base cells p)
   pub stored : Stored source cells (stopFrom source base cells p) after
+  pub stops : StopsAt source p r
 
 abbrev pub Paced : Text → ℕ → List ℕ → Progress → Pace → List ℕ → Type 0
 Paced source base cells p (On q) after = Going source base cells p q after

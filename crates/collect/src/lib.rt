@@ -1,16 +1,18 @@
-// The first pass: the labels recorded, the data words counted, refusals 6 and 5.
+// The first pass: the labels recorded, the data words counted, the lines kept, refusals 6 and 5.
 use label::Recorded;
 use line::Body;
 use line::Line;
 use line::Names;
 use numeral::unsigned::Number;
 ghost use mathlib.Core.Path.{_≡_};
-ghost use Prim.Native.Nat.{_*_};
+ghost use Prim.Native.Nat.{_*_, _-_, _≤_};
 ghost use lib.ListN.{length};
 ghost use Rattle.rules.specs.Text.{cutAt};
 ghost use Rattle.label.specs.Table.{Held};
 ghost use Rattle.collect.specs.Names.{Naming, Named, Reading, RoomFor, namesFrom, namesRead, dataWords, endRead};
+ghost use Rattle.kept.specs.Cells.{Standing};
 ghost use Rattle.collect.specs.Progress.{Setting, Valid, Paced, Passed};
+ghost use Rattle.collect.specs.Keeping.{KeptLine, KeptLines};
 
 // ---- The labels and the data words of a line.
 
@@ -122,10 +124,11 @@ enum Pace {
     Stop(Collected),
 }
 
-// One line: its labels are recorded, and its data words counted.
-fn collect_line(source: &[u8], base: u32, table: &mut [u32], p: Progress) -> Pace
-    requires { ⌜ Setting (now source) base × Valid (now source) (now table) p ⌝ }
+// One line: it is kept for the second pass, its labels are recorded, and its data words counted.
+fn collect_line(source: &[u8], base: u32, table: &mut [u32], cells: &mut [u32], p: Progress) -> Pace
+    requires { ⌜ Setting (now source) base × Valid (now source) (now table) p × Standing (now cells) (p .number - 1) ⌝ }
     ensures { λ r. ⌜ Paced (now (source .entry)) base (now (table .entry)) p r (now (table .exit)) ⌝ }
+    ensures { λ _. ⌜ KeptLine (now (source .entry)) p (now (cells .entry)) (now (cells .exit)) ⌝ }
 {
     let at = p.at;
     let address = p.address;
@@ -133,13 +136,15 @@ fn collect_line(source: &[u8], base: u32, table: &mut [u32], p: Progress) -> Pac
     let s = scan::scan_line(source, at);
     let end = s.end;
     let read = s.read;
+    let size = scan::line_size(&source[at..end], read);
+    kept::keep_line(cells, number - 1, at, end, read, size);
     if is_end(read) {
         return Pace::Stop(Collected::Done(p.labels, p.words));
     }
     let Recorded::Count(labels) = record_line(source, table, p.labels, at, read, address) else {
         return Pace::Stop(Collected::Refused(6, number));
     };
-    let after = scan::address_after(&source[at..end], read, base, address);
+    let after = scan::address_after(read, size, base, address);
     if rules::ADDRESS_LIMIT as u64 <= after {
         return Pace::Stop(Collected::Refused(5, number));
     }
@@ -156,10 +161,12 @@ fn collect_line(source: &[u8], base: u32, table: &mut [u32], p: Progress) -> Pac
     })
 }
 
-// The first pass over a source, into a table that has no labels yet, and room for two a line.
-pub fn first_pass(source: &[u8], base: u32, table: &mut [u32]) -> Collected
+// The first pass over a source, into a table that has no labels yet, and room for two a line; each line is kept in two cells.
+pub fn first_pass(source: &[u8], base: u32, table: &mut [u32], cells: &mut [u32]) -> Collected
     requires { ⌜ Setting (now source) base × Held (now source) (now table) 0 × RoomFor (2 * length (cutAt 10 (now source))) (now table) ⌝ }
+    requires { ⌜ 2 * length (cutAt 10 (now source)) ≤ length (now cells) ⌝ }
     ensures { λ r. ⌜ Passed (now (source .entry)) base (now (table .entry)) r (now (table .exit)) ⌝ }
+    ensures { λ r. ⌜ KeptLines (now (source .entry)) r (now (cells .entry)) (now (cells .exit)) ⌝ }
 {
     let mut p = Progress {
         at: 0,
@@ -169,7 +176,7 @@ pub fn first_pass(source: &[u8], base: u32, table: &mut [u32]) -> Collected
         words: 0,
     };
     loop {
-        match collect_line(source, base, table, p) {
+        match collect_line(source, base, table, cells, p) {
             Pace::On(q) => {
                 p = q;
             }

@@ -13,8 +13,8 @@ ghost use Rattle.rules.specs.Line.{size};
 ghost use Rattle.line.specs.Line.{bodyAt, lineAt, BodyIn, Within};
 ghost use Rattle.scan.specs.Lines.{lineFrom};
 ghost use Rattle.scan.specs.Outline.{highestFrom, isDefine, back, nextColon, outlineBy, Outlines};
-ghost use Rattle.scan.specs.Walk.{addressAfter};
-ghost use Rattle.scan.specs.Scan.{Scan};
+ghost use Rattle.scan.specs.Walk.{bodyOf};
+ghost use Rattle.scan.specs.Scan.{Scan, afterBy};
 
 // The highest byte, 0 where there is none.
 fn highest(s: &[u8]) -> u8
@@ -240,17 +240,30 @@ fn body_size(line: &[u8], body: Body) -> u32
     }
 }
 
-// The address after a line that is read at `address`.
-pub fn address_after(line: &[u8], read: Line, base: u32, address: u32) -> u64
+// By how much a line advances the address, where it is no ORG.
+pub fn line_size(line: &[u8], read: Line) -> u32
     requires { ⌜ Within (now line) read ⌝ }
-    ensures { λ r. ⌜ r ≡ addressAfter base address (lineAt (now (line .entry)) read) ⌝ }
+    ensures { λ r. ⌜ r ≡ size (bodyOf (lineAt (now (line .entry)) read)) ⌝ }
+{
+    match read {
+        Line::Skipped => 0,
+        Line::End => 0,
+        Line::Org(_) => 0,
+        Line::NoOrg => 0,
+        Line::Item(_, body) => body_size(line, body),
+    }
+}
+
+// The address after a line of that size that is read at `address`.
+pub fn address_after(read: Line, size: u32, base: u32, address: u32) -> u64
+    ensures { λ r. ⌜ r ≡ afterBy base address read size ⌝ }
 {
     match read {
         Line::Skipped => address as u64,
         Line::End => address as u64,
         Line::Org(n) => base as u64 + n as u64,
         Line::NoOrg => address as u64,
-        Line::Item(_, body) => address as u64 + body_size(line, body) as u64,
+        Line::Item(_, _) => address as u64 + size as u64,
     }
 }
 

@@ -1,5 +1,5 @@
+use Rattle.scan.proofs.Bodies.{by-org, by-item}
 -- `address_after` answers by the kind of line. Assumes nothing.
-use Rattle.scan.proofs.Bodies.{after-skipped, after-end, after-org, after-no-org, after-item-of, item-in}
 use borrow.Author.Needs.{needs}
 use Rattle.scan.proofs.address_after.Statement.{statement}
 use Rattle.scan.proofs.address_after.Tie as tie
@@ -22,32 +22,26 @@ add-result c = search needs
 enum-told-3 : tie.Need-enum-told-3
 enum-told-3 c = search needs
 
-enum-known-read-2 : tie.Need-enum-known-read-2
-enum-known-read-2 c = search needs
-
-body-size-requires : tie.Need-body-size-requires
-body-size-requires c κs = item-in _ 0 0 _ _ _ (c .before .read2 .given .1) (c .before .before .before .before .pre) .1
-
-cast-result-2 : tie.Need-cast-result-2
-cast-result-2 c = search needs
+enum-told-4 : tie.Need-enum-told-4
+enum-told-4 c = search needs
 
 add-result-2 : tie.Need-add-result-2
 add-result-2 c = search needs
 
 returns : tie.Need-returns
-returns c = after-skipped _ _ _ _ (c .enum-told .given .1)
+returns c = search needs
 
 returns-2 : tie.Need-returns-2
-returns-2 c = after-end _ _ _ _ (c .enum-told2 .given .1)
+returns-2 c = search needs
 
 returns-3 : tie.Need-returns-3
-returns-3 c = after-org _ _ _ _ _ (c .before .read .given .1)
+returns-3 c = by-org _ _ _ _ _ ((c .before .read) .given .1)
 
 returns-4 : tie.Need-returns-4
-returns-4 c = after-no-org _ _ _ _ (c .enum-told3 .given .1)
+returns-4 c = search needs
 
 returns-5 : tie.Need-returns-5
-returns-5 c = after-item-of _ _ _ _ _ _ (c .before .before .read2 .given .1) _ (c .body-size .ensures)
+returns-5 c = by-item _ _ _ _ _ _ ((c .enum-told4) .given .1)
 
 pub address-after-spec : {M : Type 1} → statement M
 address-after-spec =
@@ -59,9 +53,7 @@ address-after-spec =
     cast-result
     add-result
     enum-told-3
-    enum-known-read-2
-    body-size-requires
-    cast-result-2
+    enum-told-4
     add-result-2
     returns
     returns-2
