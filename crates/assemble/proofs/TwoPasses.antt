@@ -9,7 +9,7 @@ use native.Mathlib.Omega.{arith}
 use lib.Dec.{ltb}
 use borrow.Author.Tests.{ltb-true}
 use lib.ListN.{length, replicate, length-replicate}
-use Rattle.rules.specs.Limits.{maxSource, maxLabels, addressLimit}
+use Rattle.rules.specs.Limits.{maxSource, maxLines, maxLabels, addressLimit}
 use Rattle.rules.specs.Text.{Text, cutAt}
 use Rattle.rules.specs.Line.{Name, Body, Line, lineOf}
 use Rattle.rules.specs.Label.{Label, Table, find, recorded, hasRoom}
@@ -24,11 +24,13 @@ use Rattle.scan.proofs.WalkLaws.{pass-walked}
 use Rattle.collect.specs.Collect.{collectedFrom, collectedOf, labelOf, namesOf, recordSome, stopLabels}
 use Rattle.collect.specs.Names.{Stored, RoomFor}
 use Rattle.collect.specs.Progress.{Setting, Passed}
+use Rattle.collect.specs.Keeping.{KeptLines}
 use Rattle.collect.specs.declared.Collected.{Collected}
 use Rattle.collect.specs.declared.Collected.the-variants.{Done}
 use Rattle.collect.specs.declared.Collected.the-variants.{Refused as Refuses}
 use Rattle.collect.proofs.Steps.{stop-accepted}
 use Rattle.collect.proofs.Naming.{room-less, room-rows, room-full}
+use Rattle.collect.proofs.Cells.{all-kept}
 use Rattle.emit.specs.Emit.{Values, Instructions, Walking, listOf, listBy}
 use Rattle.assemble.specs.Assembled.{Starting, shortLines, Second, Gives, passesOf}
 use Rattle.assemble.proofs.Lists.{gives-refusal}
@@ -52,12 +54,18 @@ did (accepted p) labels values e = record { pass = p; is = refl; count = cc; wor
 did (refused m j) labels values e = absurd (false≢true cc)
 
 -- what the first pass needs, and room in the two tables
-pub first : {base lines : ℕ} {s : Text} {cells : List ℕ} → Starting s base lines → Held s cells 0 → RoomFor (2 * lines) cells
-    → Setting s base × Held s cells 0 × RoomFor (2 * length (cutAt 10 s)) cells
-first p h r = (record { short = p .short; low = p .low }, h, room-less _ (omega (arith, p .lines-are)) r)
+pub first : {base lines : ℕ} {s : Text} {table cells : List ℕ} → Starting s base lines → Held s table 0 → RoomFor (2 * lines) table → 2 * lines ≤ length cells
+    → (Setting s base × Held s table 0 × RoomFor (2 * length (cutAt 10 s)) table) × (2 * length (cutAt 10 s) ≤ length cells)
+first p h r l = ((record { short = p .short; low = p .low }, h, room-less _ (omega (arith, p .lines-are)) r), omega (arith, p .lines-are))
 
 pub small-room : (lines : ℕ) → lines ≤ shortLines → RoomFor (2 * lines) (replicate (cellOf 64) 0)
 small-room lines h = room-less (2 * lines) (omega arith) (room-rows 64 (replicate (cellOf 64) 0) (rw length-replicate (omega arith)))
+
+pub small-cells : (lines : ℕ) → lines ≤ shortLines → 2 * lines ≤ length (replicate 64 0)
+small-cells lines h = rw length-replicate (omega arith)
+
+pub full-cells : (lines : ℕ) → lines ≤ maxLines → 2 * lines ≤ length (replicate 8192 0)
+full-cells lines h = rw length-replicate (omega arith)
 
 pub full-room : (lines : ℕ) → RoomFor (2 * lines) (replicate (cellOf maxLabels) 0)
 full-room lines = room-full (2 * lines) (replicate (cellOf maxLabels) 0) (rw length-replicate (omega arith))
@@ -97,8 +105,8 @@ module _ (base : ℕ) (s : Text) (cells after : List ℕ) (r : Collected) (label
   values-is : values ≡ length (listOf Values (tableOf s after labels) base s)
   values-is = done .words ∙ ap (λ ps. length (flatMap dataPlaces ps)) puts-is
 
-  pub second : (lines : ℕ) → lines ≡ length (cutAt 10 s) → Second s base after labels values lines
-  second lines k = record { walking = walking; values-are = values-is; lines-are = k }
+  pub second : (lines : ℕ) (cells kept : List ℕ) → lines ≡ length (cutAt 10 s) → KeptLines s r cells kept → Second s base after kept labels values lines
+  second lines cells kept k a = record { walking = walking; kept = all-kept s r cells kept labels values e a; values-are = values-is; lines-are = k }
 
   list-is : passesOf base s ≡ accepted (listBy (tableOf s after labels) base s)
   unfolding andThen secondPass

@@ -4,13 +4,14 @@ use Prim.Native.Nat.{ℕ, _≤_, _<_}
 use mathlib.Core.Bool.{Bool, true, false}
 use mathlib.Core.List.{List, []}
 use lib.ListN.{length}
-use Rattle.rules.specs.Limits.{maxSource, addressLimit}
+use Rattle.rules.specs.Limits.{maxSource, maxLines, addressLimit}
 use Rattle.rules.specs.Text.{Text, cutAt}
 use Rattle.rules.specs.Answer.{Answer as Ruled, accepted, refuseIf, andThen}
 use Rattle.rules.specs.Assemble.{Place, Slices, short, writeList, firstPass, secondPass, linesOf, assembleAnswer, assembleSlices}
 use Rattle.answer.specs.Answer.{answerOf}
 use Rattle.answer.specs.declared.Answer.{Answer}
 use Rattle.label.specs.Table.{tableOf}
+use Rattle.kept.specs.Lines.{AllKept}
 use Rattle.emit.specs.Emit.{Values, listOf, Walking}
 use Rattle.assemble.specs.declared.Fit.{Fit}
 use Rattle.assemble.specs.declared.Fit.the-variants.{Fits, Short}
@@ -29,15 +30,17 @@ pub record Starting (source : Text) (base lines : ℕ) : Type 0 where
   pub short : length source ≤ maxSource
   pub low : base < addressLimit
   pub lines-are : lines ≡ length (cutAt 10 source)
+  pub few : lines ≤ maxLines
 
 -- so many lines have room for their labels in the small table
 abbrev pub shortLines : ℕ
 shortLines = 32
 
--- what the second pass needs: the labels and data words of the first, and how many lines there are
-pub record Second (source : Text) (base : ℕ) (cells : List ℕ) (labels values lines : ℕ) : Type 0 where
-  pub walking : Walking source base cells labels
-  pub values-are : values ≡ length (listOf Values (tableOf source cells labels) base source)
+-- what the second pass needs: the labels, the lines kept and the data words of the first, and how many lines there are
+pub record Second (source : Text) (base : ℕ) (table cells : List ℕ) (labels values lines : ℕ) : Type 0 where
+  pub walking : Walking source base table labels
+  pub kept : AllKept source cells
+  pub values-are : values ≡ length (listOf Values (tableOf source table labels) base source)
   pub lines-are : lines ≡ length (cutAt 10 source)
 
 -- whether a list fits into the slices, and else its length

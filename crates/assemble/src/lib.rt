@@ -3,6 +3,7 @@ use answer::Answer;
 use collect::Collected;
 ghost use mathlib.Core.Path.{_≡_};
 ghost use Prim.Native.Nat.{_*_, _≤_};
+ghost use lib.ListN.{length};
 ghost use Rattle.rules.specs.Answer.{accepted};
 ghost use Rattle.rules.specs.Assemble.{slices};
 ghost use Rattle.label.specs.Table.{tableOf, Held};
@@ -22,13 +23,14 @@ fn fit_list(
     base: u32,
     table: &[u32],
     labels: usize,
+    cells: &[u32],
     values: usize,
     lines: usize,
     addresses: &mut [u32],
     words: &mut [u16],
     marks: &mut [u8],
 ) -> Fit
-    requires { ⌜ Second (now source) base (now table) labels values lines ⌝ }
+    requires { ⌜ Second (now source) base (now table) (now cells) labels values lines ⌝ }
     ensures { λ r. ⌜ r ≡ fitOf (listBy (tableOf (now (source .entry)) (now (table .entry)) labels) base (now (source .entry))) (slices (now (addresses .entry)) (now (words .entry)) (now (marks .entry))) ⌝ }
     ensures { λ _. ⌜ slices (now (addresses .exit)) (now (words .exit)) (now (marks .exit)) ≡ slices (now (addresses .entry)) (now (words .entry)) (now (marks .entry)) ⌝ }
 {
@@ -41,6 +43,7 @@ fn fit_list(
         base,
         table,
         labels,
+        cells,
         values,
         addresses,
         words,
@@ -58,13 +61,14 @@ fn second_pass(
     base: u32,
     table: &[u32],
     labels: usize,
+    cells: &[u32],
     values: usize,
     lines: usize,
     addresses: &mut [u32],
     words: &mut [u16],
     marks: &mut [u8],
 ) -> Answer
-    requires { ⌜ Second (now source) base (now table) labels values lines ⌝ }
+    requires { ⌜ Second (now source) base (now table) (now cells) labels values lines ⌝ }
     ensures { λ r. ⌜ Gives (accepted (listBy (tableOf (now (source .entry)) (now (table .entry)) labels) base (now (source .entry)))) (slices (now (addresses .entry)) (now (words .entry)) (now (marks .entry))) r (slices (now (addresses .exit)) (now (words .exit)) (now (marks .exit))) ⌝ }
 {
     let room = fit_list(
@@ -72,6 +76,7 @@ fn second_pass(
         base,
         table,
         labels,
+        cells,
         values,
         lines,
         addresses,
@@ -87,6 +92,7 @@ fn second_pass(
         base,
         table,
         labels,
+        cells,
         values,
         addresses,
         words,
@@ -95,20 +101,21 @@ fn second_pass(
     Answer::Accepted(count)
 }
 
-// Both passes over a source within the limits, of so many lines, with a table that has no labels yet.
+// Both passes over a source within the limits, of so many lines, with a table that has no labels yet and two cells a line.
 fn passes_in(
     source: &[u8],
     base: u32,
     lines: usize,
     table: &mut [u32],
+    cells: &mut [u32],
     addresses: &mut [u32],
     words: &mut [u16],
     marks: &mut [u8],
 ) -> Answer
-    requires { ⌜ Starting (now source) base lines × Held (now source) (now table) 0 × RoomFor (2 * lines) (now table) ⌝ }
+    requires { ⌜ Starting (now source) base lines × Held (now source) (now table) 0 × RoomFor (2 * lines) (now table) × (2 * lines ≤ length (now cells)) ⌝ }
     ensures { λ r. ⌜ Gives (passesOf base (now (source .entry))) (slices (now (addresses .entry)) (now (words .entry)) (now (marks .entry))) r (slices (now (addresses .exit)) (now (words .exit)) (now (marks .exit))) ⌝ }
 {
-    match collect::first_pass(source, base, table) {
+    match collect::first_pass(source, base, table, cells) {
         Collected::Refused(n, p) => Answer::Refused(n, p),
         Collected::Done(labels, values) => {
             second_pass(
@@ -116,6 +123,7 @@ fn passes_in(
                 base,
                 table,
                 labels,
+                cells,
                 values,
                 lines,
                 addresses,
@@ -142,7 +150,17 @@ fn short_passes(
     ensures { λ r. ⌜ Gives (passesOf base (now (source .entry))) (slices (now (addresses .entry)) (now (words .entry)) (now (marks .entry))) r (slices (now (addresses .exit)) (now (words .exit)) (now (marks .exit))) ⌝ }
 {
     let mut table = [0u32; label::SMALL];
-    passes_in(source, base, lines, &mut table, addresses, words, marks)
+    let mut cells = [0u32; 2 * SHORT];
+    passes_in(
+        source,
+        base,
+        lines,
+        &mut table,
+        &mut cells,
+        addresses,
+        words,
+        marks,
+    )
 }
 
 // Both passes over any source.
@@ -158,7 +176,17 @@ fn long_passes(
     ensures { λ r. ⌜ Gives (passesOf base (now (source .entry))) (slices (now (addresses .entry)) (now (words .entry)) (now (marks .entry))) r (slices (now (addresses .exit)) (now (words .exit)) (now (marks .exit))) ⌝ }
 {
     let mut table = [0u32; label::TABLE];
-    passes_in(source, base, lines, &mut table, addresses, words, marks)
+    let mut cells = [0u32; 2 * rules::MAX_LINES];
+    passes_in(
+        source,
+        base,
+        lines,
+        &mut table,
+        &mut cells,
+        addresses,
+        words,
+        marks,
+    )
 }
 
 // Both passes. A short source has a small table, since a table is cleared for each call.
