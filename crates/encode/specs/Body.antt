@@ -1,4 +1,4 @@
--- The words and the size of an operation and of an instruction. Assumes nothing.
+-- The words of an operation and of an instruction. Assumes nothing.
 use Prim.Native.Nat.{ℕ, _<_}
 use mathlib.Core.Path.{_≡_}
 use mathlib.Core.Option.{Option, none, bind}
@@ -11,11 +11,8 @@ use Rattle.rules.specs.Encode.{Operation as Ruled}
 use Rattle.opcode.specs.Operation.{operationOf}
 use Rattle.opcode.specs.declared.mnemonic.Operation.{Operation}
 use Rattle.opcode.specs.declared.mnemonic.Operation.the-variants.{Branch}
-use Rattle.instruction.specs.Size.{sizeBy}
-use Rattle.instruction.specs.declared.SizeRule.{SizeRule}
 use Rattle.encode.specs.Code.{codeOf}
 use Rattle.encode.specs.declared.Code.{Code}
-use Rattle.encode.specs.declared.Encoded.{Encoded}
 
 -- a branch's condition has 4 bits
 abbrev pub Conditioned : Operation → Type 0
@@ -24,11 +21,6 @@ Conditioned o = (k : ℕ) → o ≡ Branch k → k < 16
 -- r is the code of the operation that o stands for, with the operands ps
 abbrev pub Encodes : Code → Table → ℕ → Operation → List Text → Type 0
 Encodes r ls a o ps = (q : Option Ruled) → o ≡ operationOf q → r ≡ codeOf (bind q (λ p. encodeOperation ls a p ps))
-
--- r is that code, and the size by the rule k
-pub record Answers (r : Encoded) (ls : Table) (a : ℕ) (o : Operation) (k : SizeRule) (ps : List Text) : Type 0 where
-  pub code : Encodes (r .code) ls a o ps
-  pub size : r .size ≡ sizeBy k ps
 
 -- the words of an instruction; there are none of other bodies
 unfoldable pub encodeBody : Table → ℕ → Body → Option (List Cell)

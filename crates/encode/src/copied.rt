@@ -8,31 +8,29 @@ ghost use Rattle.rules.specs.Assemble.{over};
 ghost use Rattle.label.specs.Table.{tableOf};
 ghost use Rattle.instruction.specs.Split.{operandsIn};
 ghost use Rattle.encode.specs.Near.{Near};
-ghost use Rattle.encode.specs.Body.{Conditioned, Answers};
-use crate::Encoded;
+ghost use Rattle.encode.specs.Body.{Conditioned, Encodes};
+use crate::Code;
 use crate::encode_tail;
-use instruction::SizeRule;
 use opcode::mnemonic::Operation;
 
-// The words and the size of an operation, by a copy of the tail that starts at `at`.
+// The words of an operation, by a copy of the tail that starts at `at`.
 fn encode_joined(
     source: &[u8],
     table: &[u32],
     labels: usize,
     address: u32,
     o: Operation,
-    rule: SizeRule,
     t: &[u8],
     at: usize,
     scratch: &mut [u8],
-) -> Encoded
+) -> Code
     requires { ⌜ Near (now source) (now table) labels address × Conditioned o ⌝ }
     requires { ⌜ (at ≤ length (now t)) × (length (now t) ≤ length (now scratch)) ⌝ }
-    ensures { λ r. ⌜ Answers r (tableOf (now (source .entry)) (now (table .entry)) labels) address o rule (operandsIn (joined (pieces (drop at (now (t .entry)))))) ⌝ }
+    ensures { λ r. ⌜ Encodes r (tableOf (now (source .entry)) (now (table .entry)) labels) address o (operandsIn (joined (pieces (drop at (now (t .entry)))))) ⌝ }
     ensures { λ _. ⌜ now (scratch .exit) ≡ over (joined (pieces (drop at (now (t .entry))))) (now (scratch .entry)) ⌝ }
 {
     let n = instruction::join_pieces(t, at, scratch);
-    encode_tail(source, table, labels, address, o, rule, &scratch[..n])
+    encode_tail(source, table, labels, address, o, &scratch[..n])
 }
 
 // The same for a short text: the copy has little room, so that little is cleared.
@@ -42,16 +40,15 @@ fn encode_short(
     labels: usize,
     address: u32,
     o: Operation,
-    rule: SizeRule,
     t: &[u8],
     at: usize,
-) -> Encoded
+) -> Code
     requires { ⌜ Near (now source) (now table) labels address × Conditioned o ⌝ }
     requires { ⌜ (at ≤ length (now t)) × (length (now t) ≤ 64) ⌝ }
-    ensures { λ r. ⌜ Answers r (tableOf (now (source .entry)) (now (table .entry)) labels) address o rule (operandsIn (joined (pieces (drop at (now (t .entry)))))) ⌝ }
+    ensures { λ r. ⌜ Encodes r (tableOf (now (source .entry)) (now (table .entry)) labels) address o (operandsIn (joined (pieces (drop at (now (t .entry)))))) ⌝ }
 {
     let mut scratch = [0u8; 64];
-    encode_joined(source, table, labels, address, o, rule, t, at, &mut scratch)
+    encode_joined(source, table, labels, address, o, t, at, &mut scratch)
 }
 
 // For a longer one.
@@ -61,16 +58,15 @@ fn encode_long(
     labels: usize,
     address: u32,
     o: Operation,
-    rule: SizeRule,
     t: &[u8],
     at: usize,
-) -> Encoded
+) -> Code
     requires { ⌜ Near (now source) (now table) labels address × Conditioned o ⌝ }
     requires { ⌜ (at ≤ length (now t)) × (length (now t) ≤ 1024) ⌝ }
-    ensures { λ r. ⌜ Answers r (tableOf (now (source .entry)) (now (table .entry)) labels) address o rule (operandsIn (joined (pieces (drop at (now (t .entry)))))) ⌝ }
+    ensures { λ r. ⌜ Encodes r (tableOf (now (source .entry)) (now (table .entry)) labels) address o (operandsIn (joined (pieces (drop at (now (t .entry)))))) ⌝ }
 {
     let mut scratch = [0u8; 1024];
-    encode_joined(source, table, labels, address, o, rule, t, at, &mut scratch)
+    encode_joined(source, table, labels, address, o, t, at, &mut scratch)
 }
 
 // For one of any length that a source has.
@@ -80,16 +76,15 @@ fn encode_longest(
     labels: usize,
     address: u32,
     o: Operation,
-    rule: SizeRule,
     t: &[u8],
     at: usize,
-) -> Encoded
+) -> Code
     requires { ⌜ Near (now source) (now table) labels address × Conditioned o ⌝ }
     requires { ⌜ (at ≤ length (now t)) × (length (now t) ≤ maxSource) ⌝ }
-    ensures { λ r. ⌜ Answers r (tableOf (now (source .entry)) (now (table .entry)) labels) address o rule (operandsIn (joined (pieces (drop at (now (t .entry)))))) ⌝ }
+    ensures { λ r. ⌜ Encodes r (tableOf (now (source .entry)) (now (table .entry)) labels) address o (operandsIn (joined (pieces (drop at (now (t .entry)))))) ⌝ }
 {
     let mut scratch = [0u8; rules::MAX_SOURCE];
-    encode_joined(source, table, labels, address, o, rule, t, at, &mut scratch)
+    encode_joined(source, table, labels, address, o, t, at, &mut scratch)
 }
 
 // By the room that the copy takes.
@@ -99,19 +94,18 @@ pub fn encode_copied(
     labels: usize,
     address: u32,
     o: Operation,
-    rule: SizeRule,
     t: &[u8],
     at: usize,
-) -> Encoded
+) -> Code
     requires { ⌜ Near (now source) (now table) labels address × Conditioned o ⌝ }
     requires { ⌜ (at ≤ length (now t)) × (length (now t) ≤ maxSource) ⌝ }
-    ensures { λ r. ⌜ Answers r (tableOf (now (source .entry)) (now (table .entry)) labels) address o rule (operandsIn (joined (pieces (drop at (now (t .entry)))))) ⌝ }
+    ensures { λ r. ⌜ Encodes r (tableOf (now (source .entry)) (now (table .entry)) labels) address o (operandsIn (joined (pieces (drop at (now (t .entry)))))) ⌝ }
 {
     if t.len() <= 64 {
-        return encode_short(source, table, labels, address, o, rule, t, at);
+        return encode_short(source, table, labels, address, o, t, at);
     }
     if t.len() <= 1024 {
-        return encode_long(source, table, labels, address, o, rule, t, at);
+        return encode_long(source, table, labels, address, o, t, at);
     }
-    encode_longest(source, table, labels, address, o, rule, t, at)
+    encode_longest(source, table, labels, address, o, t, at)
 }

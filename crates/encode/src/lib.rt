@@ -1,15 +1,15 @@
-// One instruction to its words and its size, by value. The functions keep the names of the Rust original.
+// One instruction to its words, by value. The functions keep the names of the Rust original.
 ghost use mathlib.Core.Path.{_≡_};
 ghost use Prim.Native.Nat.{_≤_};
 ghost use lib.ListN.{length};
 ghost use Rattle.rules.specs.Limits.{maxSource};
-ghost use Rattle.rules.specs.Line.{instructionOf, size};
+ghost use Rattle.rules.specs.Line.{instructionOf};
 ghost use Rattle.label.specs.Table.{tableOf};
 ghost use Rattle.instruction.specs.Split.{operandsIn, operandsAt};
 ghost use Rattle.encode.specs.Code.{codeOf};
 ghost use Rattle.encode.specs.Rows.{twoRows};
 ghost use Rattle.encode.specs.Near.{Near};
-ghost use Rattle.encode.specs.Body.{Conditioned, Encodes, Answers, encodeBody};
+ghost use Rattle.encode.specs.Body.{Conditioned, Encodes, encodeBody};
 use branch::encode_branch;
 use branch::encode_dbra;
 use copied::encode_copied;
@@ -20,7 +20,6 @@ use form::encode_quick;
 use form::encode_registers;
 use form::encode_tst;
 use instruction::Operands;
-use instruction::SizeRule;
 use labelled::encode_jump;
 use labelled::encode_move;
 use labelled::encode_movea;
@@ -37,12 +36,6 @@ pub enum Code {
     Word(u16),
     Value(u16, u16),
     Label(u16, u16),
-}
-
-// An instruction's words, and how many bytes it takes: the size goes by the text, also where there are no words.
-pub struct Encoded {
-    pub code: Code,
-    pub size: u32,
 }
 
 // Forms of exactly two operands.
@@ -128,46 +121,40 @@ fn encode_operation(
     encode_two(source, table, labels, address, o, s, &tail[c..d])
 }
 
-// The words and the size of an operation, its operands cut once from `tail`.
+// The words of an operation, its operands cut from `tail`.
 fn encode_tail(
     source: &[u8],
     table: &[u32],
     labels: usize,
     address: u32,
     o: Operation,
-    rule: SizeRule,
     tail: &[u8],
-) -> Encoded
+) -> Code
     requires { ⌜ Near (now source) (now table) labels address × Conditioned o ⌝ }
-    ensures { λ r. ⌜ Answers r (tableOf (now (source .entry)) (now (table .entry)) labels) address o rule (operandsIn (now (tail .entry))) ⌝ }
+    ensures { λ r. ⌜ Encodes r (tableOf (now (source .entry)) (now (table .entry)) labels) address o (operandsIn (now (tail .entry))) ⌝ }
 {
     let found = instruction::split_operands(tail);
-    let size = instruction::size_of(rule, found, tail);
-    let code = encode_operation(source, table, labels, address, o, found, tail);
-    Encoded { code, size }
+    encode_operation(source, table, labels, address, o, found, tail)
 }
 
-// The words and the size of the instruction whose text is `t`; its tail is copied only where it does not stand joined.
+// The words of the instruction whose text is `t`; its tail is copied only where it does not stand joined.
 pub fn encode_instruction(
     source: &[u8],
     table: &[u32],
     labels: usize,
     address: u32,
     t: &[u8],
-) -> Encoded
+) -> Code
     requires { ⌜ Near (now source) (now table) labels address × (length (now t) ≤ maxSource) ⌝ }
-    ensures { λ r. ⌜ r .code ≡ codeOf (encodeBody (tableOf (now (source .entry)) (now (table .entry)) labels) address (instructionOf (now (t .entry)))) ⌝ }
-    ensures { λ r. ⌜ r .size ≡ size (instructionOf (now (t .entry))) ⌝ }
+    ensures { λ r. ⌜ r ≡ codeOf (encodeBody (tableOf (now (source .entry)) (now (table .entry)) labels) address (instructionOf (now (t .entry)))) ⌝ }
 {
     let head = instruction::read_head(t);
     let a = head.start;
     let b = head.end;
-    let mnemonic = &t[a..b];
-    let o = opcode::mnemonic::find_operation(mnemonic);
-    let rule = instruction::sized(mnemonic, head.long);
+    let o = opcode::mnemonic::find_operation(&t[a..b]);
     let start = text::skip_blanks(t, head.tail);
     if instruction::is_joined(t, start) {
-        return encode_tail(source, table, labels, address, o, rule, &t[start..]);
+        return encode_tail(source, table, labels, address, o, &t[start..]);
     }
-    encode_copied(source, table, labels, address, o, rule, t, head.tail)
+    encode_copied(source, table, labels, address, o, t, head.tail)
 }

@@ -247,7 +247,7 @@ module _ (t : Text) (h : Head) (e : h ≡ headOf t) {k : SizeRule} (q : k ≡ si
   rule-is = q ∙ rw (head-of t h e .mnemonic, head-of t h e .suffix)
 
   -- by the joined tail
-  pub answer-by : {r : ℕ} → r ≡ sizeBy k (operandsIn (joined (pieces (drop (h .tail) t)))) → r ≡ size (instructionOf t)
+  answer-by : {r : ℕ} → r ≡ sizeBy k (operandsIn (joined (pieces (drop (h .tail) t)))) → r ≡ size (instructionOf t)
   answer-by a = a ∙ rw (head-of t h e .others, rule-is) (sym (size-is t))
 
   pub answer-fixed : {y : Bool} → y ≡ hasOperands k → not y ≡ true → 2 ≡ size (instructionOf t)

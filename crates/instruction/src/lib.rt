@@ -300,7 +300,7 @@ fn is_plain(t: &[u8]) -> bool
 }
 
 // Which operands decide the size.
-pub enum SizeRule {
+enum SizeRule {
     // 2 whatever the operands.
     Fixed,
     // 4 where the first starts with #.
@@ -310,7 +310,7 @@ pub enum SizeRule {
 }
 
 // Which operands decide, by the mnemonic and whether the suffix is `L`.
-pub fn sized(mnemonic: &[u8], long: bool) -> SizeRule
+fn sized(mnemonic: &[u8], long: bool) -> SizeRule
     ensures { λ r. ⌜ r ≡ sizedBy (uppers (now (mnemonic .entry))) long ⌝ }
 {
     if text::same_upper(mnemonic, b"MULS") {
@@ -359,7 +359,7 @@ fn takes_four(rule: SizeRule, first: &[u8], last: &[u8]) -> bool
 }
 
 // The size of an instruction whose operands stand in `tail`.
-pub fn size_of(rule: SizeRule, o: Operands, tail: &[u8]) -> u32
+fn size_of(rule: SizeRule, o: Operands, tail: &[u8]) -> u32
     requires { ⌜ o ≡ operandsAt (now tail) ⌝ }
     ensures { λ r. ⌜ r ≡ sizeBy rule (operandsIn (now (tail .entry))) ⌝ }
 {

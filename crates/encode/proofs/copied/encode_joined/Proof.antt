@@ -2,8 +2,7 @@
 use borrow.Author.Needs.{needs}
 use mathlib.Core.Path.{sym}
 use lib.Seq.{length-take-le}
-use Rattle.instruction.proofs.Lists.{over-room}
-use Rattle.encode.proofs.Instructions.{copied}
+use Rattle.instruction.proofs.Lists.{take-over, over-room}
 use Rattle.encode.proofs.copied.encode_joined.Statement.{statement}
 use Rattle.encode.proofs.copied.encode_joined.Tie as tie
 
@@ -14,7 +13,7 @@ slice-aggregate-encode-tail : tie.Need-slice-aggregate-encode-tail
 slice-aggregate-encode-tail c = sym (length-take-le _ _ (over-room _ _ _ _ (c .before .before .before .join-pieces .ensures .1) (c .before .before .before .join-pieces .ensures .0)))
 
 returns : tie.Need-returns
-returns c = let copy = c .before .before .before .before .join-pieces .ensures in (copied _ _ _ _ _ _ _ _ _ (copy .0) (copy .1) (c .encode-tail .ensures), copy .1)
+returns c = let copy = c .before .before .before .before .join-pieces .ensures in (rw (take-over _ _ _ _ (copy .1) (copy .0)) at (c .encode-tail .ensures), copy .1)
 
 pub encode-joined-spec : {M : Type 1} → statement M
 encode-joined-spec =
