@@ -2,8 +2,7 @@
 use mathlib.Core.Path.{_≡_, refl, sym, ap, _∙_}
 use mathlib.Core.Bool.{Bool, true, false, _||_, false≢true}
 use mathlib.Core.List.{List, [], _∷_, _++_, flatMap}
-use Prim.Native.Nat.{ℕ, suc, _+_, _≤_, _<_}
-use native.Mathlib.Numerals.{add-one}
+use Prim.Native.Nat.{ℕ, suc, _≤_, _<_}
 use native.Mathlib.Omega.{arith}
 use borrow.Author.Tests.{ltb-true, ltb-false, eqb-true, eqb-false}
 use lib.Dec.{eqb, ltb}
@@ -34,11 +33,11 @@ pub record Ahead (part : Part) (t : Table) (base : ℕ) (source : Text) (at a : 
   pub words : left ≡ flatMap (partPlaces part t) (walk base a (linesFrom source number at))
 
 -- a line read: its words, and those of the lines behind it
-pub record Next (part : Part) (t : Table) (base : ℕ) (source : Text) (a : ℕ) (left : List Place) (c : Code) (r : Words) : Type 0 where
+pub record Next (part : Part) (t : Table) (base : ℕ) (source : Text) (at a : ℕ) (left : List Place) (c : Code) (r : Words) : Type 0 where
   pub rest : List Place
   pub split : left ≡ placesOf a c ++ rest
   pub ends : r .last ≡ true → rest ≡ []
-  pub goes : r .last ≡ false → Ahead part t base source (r .next) (r .after) rest
+  pub goes : r .last ≡ false → Ahead part t base source (suc (lineEnd source at)) (r .after) rest
 
 pub ahead-start : (part : Part) (source : Text) (base : ℕ) (cells : List ℕ) (count : ℕ) → Walking source base cells count
     → Ahead part (tableOf source cells count) base source 0 base (listOf part (tableOf source cells count) base source)
@@ -74,7 +73,7 @@ module _ {part : Part} {t : Table} {base : ℕ} {source : Text} {at a : ℕ} {le
       go false e = low-more base a _ (here .others) e (rw (here .same) at (h .stays)) .0
 
   -- nothing is left behind END
-  at-end : (c : Code) (r : Words) → ReadsIn part t base source at a c r → isEnd (lineOf (lineFrom source at)) ≡ true → Next part t base source a left c r
+  at-end : (c : Code) (r : Words) → ReadsIn part t base source at a c r → isEnd (lineOf (lineFrom source at)) ≡ true → Next part t base source at a left c r
   unfolding flatMap
   at-end c r d e =
       let here = lines-here source (h .number) at in
@@ -95,7 +94,7 @@ module _ {part : Part} {t : Table} {base : ℕ} {source : Text} {at a : ℕ} {le
     unfolding flatMap
     split-off ls s = h .words ∙ rw (s, walk-more base a (lineHere source (h .number) at) ls e, d .code, code-places t a part (bodyOf (lineOf (lineFrom source at))))
 
-    at-last : lineEnd source at ≡ length source → Next part t base source a left c r
+    at-last : lineEnd source at ≡ length source → Next part t base source at a left c r
     unfolding walk flatMap
     at-last f =
         record {
@@ -105,7 +104,7 @@ module _ {part : Part} {t : Table} {base : ℕ} {source : Text} {at a : ℕ} {le
           goes = λ g. absurd (eqb-false _ _ (sym is-last ∙ g) f);
         }
 
-    at-more : (lineEnd source at ≡ length source → ⊥) → Next part t base source a left c r
+    at-more : (lineEnd source at ≡ length source → ⊥) → Next part t base source at a left c r
     at-more f =
         let lt : lineEnd source at < length source = omega (arith, line-end-le source at (h .inside)) in
         let s = more-lines source (h .number) at lt in
@@ -114,16 +113,16 @@ module _ {part : Part} {t : Table} {base : ℕ} {source : Text} {at a : ℕ} {le
           rest = flatMap (partPlaces part t) (walk base (addressAfter base a (lineOf (lineFrom source at))) (linesFrom source (suc (h .number)) (suc (lineEnd source at))));
           split = split-off _ s;
           ends = λ g. absurd (f (eqb-true _ _ (sym is-last ∙ g)));
-          goes = λ g. rw (d .next, d .after, add-one (lineEnd source at)) (record { number = suc (h .number); inside = omega arith; below = l .0; stays = l .1; words = refl });
+          goes = λ g. rw (d .after) (record { number = suc (h .number); inside = omega arith; below = l .0; stays = l .1; words = refl });
         }
 
-  pub next : (c : Code) (r : Words) → ReadsIn part t base source at a c r → Next part t base source a left c r
+  pub next : (c : Code) (r : Words) → ReadsIn part t base source at a c r → Next part t base source at a left c r
   next c r d = go (isEnd (lineOf (lineFrom source at))) refl
     where
-      within : (y : Bool) → isEnd (lineOf (lineFrom source at)) ≡ false → eqb (lineEnd source at) (length source) ≡ y → Next part t base source a left c r
+      within : (y : Bool) → isEnd (lineOf (lineFrom source at)) ≡ false → eqb (lineEnd source at) (length source) ≡ y → Next part t base source at a left c r
       within true e f = at-last c r d e (eqb-true _ _ f)
       within false e f = at-more c r d e (eqb-false _ _ f)
 
-      go : (y : Bool) → isEnd (lineOf (lineFrom source at)) ≡ y → Next part t base source a left c r
+      go : (y : Bool) → isEnd (lineOf (lineFrom source at)) ≡ y → Next part t base source at a left c r
       go true e = at-end c r d e
       go false e = within (eqb (lineEnd source at) (length source)) e refl

@@ -5,4 +5,5 @@ pub mod LineCode
 pub mod Reading
 pub mod Ahead
 pub mod Passes
+pub mod Turns
 pub mod Callers

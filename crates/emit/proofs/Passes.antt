@@ -1,8 +1,8 @@
--- What the loop over all lines keeps: the words counted, and those written in the slices. Assumes nothing.
+-- What the pass over all lines keeps: the words counted, and those written in the slices. Assumes nothing.
 use mathlib.Core.Path.{_≡_, refl, ap, _∙_}
 use mathlib.Core.Bool.{Bool, true, false, false≢true}
 use mathlib.Core.List.{List, [], _++_}
-use Prim.Native.Nat.{ℕ, _+_, _*_, _-_, _≤_, _<_}
+use Prim.Native.Nat.{ℕ, suc, _+_, _*_, _≤_}
 use native.Mathlib.Omega.{arith}
 use lib.ListN.{length, length-append, take-append-drop}
 use Rattle.rules.specs.Limits.{maxSource}
@@ -10,32 +10,23 @@ use Rattle.rules.specs.Text.{Text}
 use Rattle.rules.specs.Label.{Table}
 use Rattle.rules.specs.Assemble.{Place, over}
 use Rattle.label.specs.Table.{tableOf}
+use Rattle.scan.specs.Lines.{lineEnd}
 use Rattle.encode.specs.Code.{placesOf, codeLength}
 use Rattle.encode.specs.declared.Code.{Code}
 use Rattle.encode.proofs.Callers.{code-words}
 use Rattle.emit.specs.Emit.{Part, Values, Instructions, listOf, listBy, wanted, Walking, Room, Written}
-use Rattle.emit.specs.Read.{Standing, ReadsIn, Reads, endsAfter, Taking, StoredBoth}
+use Rattle.emit.specs.Read.{ReadsIn, Reads, endsAfter, Taking, StoredBoth}
 use Rattle.emit.specs.declared.Words.{Words}
 use Rattle.emit.specs.declared.Ends.{Ends}
 use Rattle.emit.proofs.LineCode.{code-two}
 use Rattle.emit.proofs.Halves.{Halves, halves-start, front-room, back-room, halves-more, halves-all}
-use Rattle.emit.proofs.Ahead.{Ahead, ahead-start, after-below, next}
-
--- the next line can be read
-pub standing : {part : Part} {source : Text} {base : ℕ} {cells : List ℕ} {count at a : ℕ} {left : List Place} → Walking source base cells count
-    → Ahead part (tableOf source cells count) base source at a left → Standing source base cells count at a
-standing w h =
-    record { near = record { held = w .held; labels-below = w .labels-below; address-below = h .below }; short = w .short; inside = h .inside; below = after-below h }
+use Rattle.emit.proofs.Ahead.{Ahead, ahead-start, next}
 
 module _ {part : Part} {t : Table} {base : ℕ} {source : Text} {at a : ℕ} {left : List Place} {c : Code} {r : Words} (h : Ahead part t base source at a left)
     (d : ReadsIn part t base source at a c r) where
   -- the words ahead: the line's and the others
   length-left : length left ≡ codeLength c + length (next h c r d .rest)
   length-left = ap length (next h c r d .split) ∙ length-append (placesOf a c) (next h c r d .rest) ∙ rw (code-words a c)
-
-  -- the next line starts behind this one
-  pub line-less : r .last ≡ false → length source - r .next < length source - at
-  line-less f = omega (arith, next h c r d .goes f .inside, d .next)
 
 -- ---- the slices, with so many words in place, or as they were
 pub record Filled (t : Table) (base : ℕ) (source : Text) (v : ℕ) (left-values left-codes : List Place) (xs₀ ys₀ zs₀ xs ys zs : List ℕ) (e : Ends) : Type 0 where
@@ -118,7 +109,7 @@ held-all {t = t} {base} {source} {v} {xs₀} {ys₀} {zs₀} {xs} {ys} {zs} {e} 
     }
 held-all g (untouched h) = record { addresses = h .addresses; words = h .words; marks = h .marks }
 
--- ---- the loop: the words counted, and those of the lines ahead
+-- ---- the pass: the words counted, and those of the lines ahead
 pub record Emitting (write : Bool) (t : Table) (base : ℕ) (source : Text) (v : ℕ) (xs₀ ys₀ zs₀ xs ys zs : List ℕ) (at a : ℕ) (e : Ends) : Type 0 where
   pub left-values : List Place
   pub left-codes : List Place
@@ -179,7 +170,7 @@ module _ {write : Bool} {t : Table} {base : ℕ} {source : Text} {v : ℕ} {xs�
     pub words-fit : length source ≤ maxSource → f .words ≤ 2 * maxSource + 2
     words-fit h = rw g (omega (arith, inv .few-words, inv .codes-ahead .inside, code-two (r .code)))
 
-    pub emitting-more : r .last ≡ false → Emitting write t base source v xs₀ ys₀ zs₀ xs′ ys′ zs′ (r .next) (r .after) f
+    pub emitting-more : r .last ≡ false → Emitting write t base source v xs₀ ys₀ zs₀ xs′ ys′ zs′ (suc (lineEnd source at)) (r .after) f
     unfolding rest-values rest-codes
     emitting-more l =
         record {
@@ -188,8 +179,8 @@ module _ {write : Bool} {t : Table} {base : ℕ} {source : Text} {v : ℕ} {xs�
           values-ahead = next (inv .values-ahead) (r .value) r (d .values) .goes l;
           codes-ahead = next (inv .codes-ahead) (r .code) r (d .words) .goes l;
           counted = words-counted;
-          few-values = rw g (omega (arith, inv .few-values, d .words .next, code-two (r .value)));
-          few-words = rw g (omega (arith, inv .few-words, d .words .next, code-two (r .code)));
+          few-values = rw g (omega (arith, inv .few-values, code-two (r .value)));
+          few-words = rw g (omega (arith, inv .few-words, code-two (r .code)));
           held = held-then;
         }
 

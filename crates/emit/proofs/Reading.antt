@@ -1,46 +1,60 @@
--- A line's words, from the line that was scanned. Assumes nothing.
-use mathlib.Core.Path.{_≡_, sym, ap, _∙_}
-use mathlib.Core.Bool.{_||_}
+-- A line's words, from what is kept of it. Assumes nothing.
+use mathlib.Core.Path.{_≡_, _∙_}
+use mathlib.Core.Bool.{Bool, true, false, _||_}
 use mathlib.Core.List.{List}
-use Prim.Native.Nat.{ℕ, _+_, _-_, _<_}
-use native.Mathlib.Omega.{arith}
+use Prim.Native.Nat.{ℕ, _<_}
 use lib.Dec.{eqb}
-use lib.ListN.{length, take, drop}
+use lib.ListN.{length}
+use Rattle.rules.specs.Limits.{addressLimit}
 use Rattle.rules.specs.Text.{Text}
-use Rattle.rules.specs.Line.{lineOf}
 use Rattle.rules.specs.Label.{Table}
-use Rattle.line.specs.Line.{lineAt}
-use Rattle.scan.specs.Lines.{lineEnd, lineFrom}
-use Rattle.scan.specs.Walk.{addressAfter, bodyOf, isEnd}
-use Rattle.scan.specs.Scan.{Scan}
-use Rattle.scan.specs.declared.Scanned.{Scanned}
-use Rattle.scan.proofs.LineLaws.{line-part-le}
-use Rattle.scan.proofs.Scanning.{scanned-says, scanned-within}
-use Rattle.emit.specs.Read.{dataCode, Lined, Places, Standing, Reads}
-use Rattle.emit.specs.declared.Placed.{Placed}
+use Rattle.text.specs.declared.Span.{Span}
+use Rattle.encode.specs.Code.{codeOf}
+use Rattle.encode.specs.Body.{encodeBody}
+use Rattle.kept.specs.Task.{taskBody, taskEnds, taskAfter, TaskIn}
+use Rattle.kept.specs.Cells.{keptAt}
+use Rattle.kept.specs.Lines.{startOf, lastLine, Tells}
+use Rattle.kept.specs.declared.Task.{Task}
+use Rattle.kept.specs.declared.Task.the-variants.{Instruction}
+use Rattle.kept.specs.declared.Kept.{Kept}
+use Rattle.emit.specs.Read.{dataCode, Encoding, Standing, Reads}
 use Rattle.emit.specs.declared.Words.{Words}
 
--- the line as it is lent
-pub lined : {source : Text} {base : ℕ} {cells : List ℕ} {count at a : ℕ} {s : Scanned} → Standing source base cells count at a → Scan source at s
-    → Lined source base cells count a (take (s .end - at) (drop at source)) (s .read)
-lined {source} {at = at} {s = s} h d =
-    record {
-      near = h .near;
-      short = omega (arith, line-part-le source at (s .end), h .short);
-      within = scanned-within d;
-      below = rw (scanned-says d) (h .below);
-    }
+-- ---- a task
+-- an instruction's text lies in the source
+pub span-in : (source : Text) (t : Task) (n : ℕ) (s : Span) → t ≡ Instruction n s → TaskIn source t → TaskIn source (Instruction n s)
+span-in source t n s e h = rw e at h
 
-pub line-words : (t : Table) (base : ℕ) (source : Text) (at a : ℕ) (s : Scanned) (p : Placed) (r : Words) → Scan source at s
-    → ((line : Text) → r .value ≡ dataCode (bodyOf (lineAt line (s .read))))
-    → Places t base a (lineAt (take (s .end - at) (drop at source)) (s .read)) p → r .code ≡ p .code → r .after ≡ p .after
-    → ((line : Text) → r .last ≡ (isEnd (lineAt line (s .read)) || eqb (s .end) (length source)))
-    → r .next ≡ s .end + 1 → Reads t base source at a r
-line-words t base source at a s p r d value placed code after last next =
-    let l : r .last ≡ (isEnd (lineOf (lineFrom source at)) || eqb (lineEnd source at) (length source)) = last (lineFrom source at) ∙ rw (d .reads .says, d .ends) in
-    let n : r .next ≡ lineEnd source at + 1 = next ∙ rw (d .ends) in
-    let f = after ∙ placed .after ∙ ap (addressAfter base a) (scanned-says d) in
+-- whether it is the last line, where x says that it is END, and y that the source ends with it
+module _ (x y : Bool) where
+  pub last-end : x ≡ true → true ≡ (x || y)
+  last-end e = rw e
+
+  pub last-other : x ≡ false → y ≡ (x || y)
+  last-other e = rw e
+
+-- ---- what is kept of a line
+module _ {source : Text} {base : ℕ} {table : List ℕ} {labels : ℕ} {cells : List ℕ} {k a : ℕ} {r : Kept} (h : Standing source base table labels cells k a)
+    (e : r ≡ keptAt cells k) where
+  -- its instruction can be encoded
+  pub encoding : Encoding source table labels a (r .task)
+  encoding = record { near = h .near; short = h .short; within = rw e (h .tells .does .within) }
+
+  -- the address after it is low
+  pub after-low : taskAfter base a (r .task) < addressLimit
+  after-low = rw (e, h .tells .does .after base a) (h .below)
+
+  pub told : Tells source (startOf source k) r
+  told = rw e (h .tells)
+
+-- its words are the line's
+pub kept-words : (t : Table) (base : ℕ) (source : Text) (i a : ℕ) (s : Kept) (r : Words) → Tells source i s
+    → ((x : Text) → r .value ≡ dataCode (taskBody x (s .task))) → r .code ≡ codeOf (encodeBody t a (taskBody source (s .task)))
+    → r .last ≡ (taskEnds (s .task) || eqb (s .end) (length source)) → r .after ≡ taskAfter base a (s .task) → Reads t base source i a r
+kept-words t base source i a s r d value code last after =
+    let l : r .last ≡ lastLine source i = last ∙ rw (d .does .ends, d .ends) in
+    let f = after ∙ d .does .after base a in
     record {
-      values = record { code = value (lineFrom source at) ∙ rw (d .reads .says); last = l; next = n; after = f };
-      words = record { code = code ∙ placed .code ∙ rw (scanned-says d); last = l; next = n; after = f };
+      values = record { code = value source ∙ rw (d .does .body); last = l; after = f };
+      words = record { code = code ∙ rw (d .does .body); last = l; after = f };
     }

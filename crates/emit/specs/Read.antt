@@ -1,28 +1,27 @@
 -- The words of one line, as the code reads them, and places stored in the slices. Assumes nothing.
 use mathlib.Core.Path.{_≡_}
-use mathlib.Core.Bool.{Bool, true, _||_}
+use mathlib.Core.Bool.{Bool, true}
 use mathlib.Core.Option.{some}
 use mathlib.Core.List.{List, _++_, map}
 use Prim.Native.Nat.{ℕ, _+_, _*_, _≤_, _<_}
-use lib.Dec.{eqb}
 use lib.ListN.{length, take, drop}
 use lib.Seq.{sets}
 use Rattle.rules.specs.Limits.{maxSource, addressLimit}
 use Rattle.rules.specs.Text.{Text}
-use Rattle.rules.specs.Line.{Body, Line, lineOf}
+use Rattle.rules.specs.Line.{Body, lineOf}
 use Rattle.rules.specs.Label.{Table}
 use Rattle.rules.specs.Assemble.{Place, dataCells}
-use Rattle.line.specs.Line.{lineAt, Within}
-use Rattle.line.specs.declared.Line.{Line as ReadLine}
-use Rattle.scan.specs.Lines.{lineEnd, lineFrom}
-use Rattle.scan.specs.Walk.{addressAfter, bodyOf, isEnd}
+use Rattle.scan.specs.Lines.{lineFrom}
+use Rattle.scan.specs.Walk.{addressAfter, bodyOf}
+use Rattle.kept.specs.Task.{TaskIn}
+use Rattle.kept.specs.Cells.{keptAt, Standing as InCells}
+use Rattle.kept.specs.Lines.{startOf, lastLine, Tells}
+use Rattle.kept.specs.declared.Task.{Task}
 use Rattle.encode.specs.Code.{codeOf, codeLength}
 use Rattle.encode.specs.Body.{encodeBody}
 use Rattle.encode.specs.Near.{Near}
 use Rattle.encode.specs.declared.Code.{Code}
-use Rattle.encode.specs.declared.Code.the-variants.{Nothing}
 use Rattle.emit.specs.Emit.{Part, Values, Instructions, Room}
-use Rattle.emit.specs.declared.Placed.{Placed}
 use Rattle.emit.specs.declared.Words.{Words}
 use Rattle.emit.specs.declared.Ends.{Ends}
 
@@ -35,34 +34,24 @@ abbrev pub codeIn : Part → Table → ℕ → Body → Code
 codeIn Values t a b = dataCode b
 codeIn Instructions t a b = codeOf (encodeBody t a b)
 
--- what is read of a line lies in it, its labels and address are near, and the address after it is below 2^30
-pub record Lined (source : Text) (base : ℕ) (cells : List ℕ) (count address : ℕ) (line : Text) (read : ReadLine) : Type 0 where
-  pub near : Near source cells count address
-  pub short : length line ≤ maxSource
-  pub within : Within line read
-  pub below : addressAfter base address (lineAt line read) < addressLimit
-
--- no instruction
-abbrev pub noWords : ℕ → Placed
-noWords after = record { code = Nothing; after = after }
-
--- a line at address a that says so: its instruction's code, and the address after it
-pub record Places (t : Table) (base a : ℕ) (said : Line) (r : Placed) : Type 0 where
-  pub code : r .code ≡ codeOf (encodeBody t a (bodyOf said))
-  pub after : r .after ≡ addressAfter base a said
-
--- a line starts at `at`, and the addresses before and after it are below 2^30
-pub record Standing (source : Text) (base : ℕ) (cells : List ℕ) (count at a : ℕ) : Type 0 where
-  pub near : Near source cells count a
+-- the labels and the address are near, and an instruction's text lies in the source
+pub record Encoding (source : Text) (table : List ℕ) (labels address : ℕ) (task : Task) : Type 0 where
+  pub near : Near source table labels address
   pub short : length source ≤ maxSource
-  pub inside : at ≤ length source
-  pub below : addressAfter base a (lineOf (lineFrom source at)) < addressLimit
+  pub within : TaskIn source task
 
--- the line that starts at i, at address a: its code c in a part, whether it is the last that is read, and where the next one stands
+-- line k is kept, its labels and address are near, and the address after it is below 2^30
+pub record Standing (source : Text) (base : ℕ) (table : List ℕ) (labels : ℕ) (cells : List ℕ) (k a : ℕ) : Type 0 where
+  pub near : Near source table labels a
+  pub short : length source ≤ maxSource
+  pub stands : InCells cells k
+  pub tells : Tells source (startOf source k) (keptAt cells k)
+  pub below : addressAfter base a (lineOf (lineFrom source (startOf source k))) < addressLimit
+
+-- the line that starts at i, at address a: its code c in a part, whether it is the last that is read, and the address after it
 pub record ReadsIn (part : Part) (t : Table) (base : ℕ) (source : Text) (i a : ℕ) (c : Code) (r : Words) : Type 0 where
   pub code : c ≡ codeIn part t a (bodyOf (lineOf (lineFrom source i)))
-  pub last : r .last ≡ (isEnd (lineOf (lineFrom source i)) || eqb (lineEnd source i) (length source))
-  pub next : r .next ≡ lineEnd source i + 1
+  pub last : r .last ≡ lastLine source i
   pub after : r .after ≡ addressAfter base a (lineOf (lineFrom source i))
 
 -- the same in both parts

@@ -1,149 +1,125 @@
 // The second pass: the words of the data and of the instructions, counted or written into three lent slices.
+// It reads the lines that the first pass kept; only an instruction's text is read again.
 use encode::Code;
-use line::Body;
-use line::Line;
-use numeral::unsigned::Number;
+use kept::Task;
 ghost use mathlib.Core.Path.{_≡_};
 ghost use mathlib.Core.Bool.{_||_};
 ghost use mathlib.Core.List.{_∷_, []};
 ghost use Prim.Native.Nat.{_+_, _≤_, _<_};
 ghost use lib.Dec.{eqb};
 ghost use lib.ListN.{length};
-ghost use Rattle.rules.specs.Limits.{maxSource, addressLimit};
+ghost use Rattle.rules.specs.Limits.{addressLimit};
 ghost use Rattle.rules.specs.Text.{Text};
-ghost use Rattle.rules.specs.Line.{instructionOf};
 ghost use Rattle.label.specs.Table.{tableOf};
-ghost use Rattle.line.specs.Line.{lineAt};
-ghost use Rattle.scan.specs.Walk.{bodyOf, isEnd};
+ghost use Rattle.kept.specs.Task.{taskBody, taskEnds, taskAfter};
+ghost use Rattle.kept.specs.Lines.{startOf, AllKept};
 ghost use Rattle.encode.specs.Code.{codeOf, place, placesOf, codeLength};
 ghost use Rattle.encode.specs.Body.{encodeBody};
-ghost use Rattle.encode.specs.Near.{Near};
 ghost use Rattle.emit.specs.Emit.{Values, listOf, listBy, wanted, Walking, Room, Written};
-ghost use Rattle.emit.specs.Read.{dataCode, noWords, Lined, Places, Standing, Reads, Stored, endsAfter, Taking, StoredBoth};
+ghost use Rattle.emit.specs.Read.{dataCode, Encoding, Standing, Reads, Stored, endsAfter, Taking, StoredBoth};
 
 // ---- The words of a line.
 
 // The words of a line's value, if it has one.
-fn value_code(read: Line) -> Code
-    ensures { λ r. ⌜ ((line : Text) → r ≡ dataCode (bodyOf (lineAt line read))) ⌝ }
+fn value_code(task: Task) -> Code
+    ensures { λ r. ⌜ ((source : Text) → r ≡ dataCode (taskBody source task)) ⌝ }
 {
-    match read {
-        Line::Skipped => Code::Nothing,
-        Line::End => Code::Nothing,
-        Line::Org(_) => Code::Nothing,
-        Line::NoOrg => Code::Nothing,
-        Line::Item(_, body) => match body {
-            Body::Bare => Code::Nothing,
-            Body::Instruction(_) => Code::Nothing,
-            Body::Data(_, v) => match v {
-                Number::Unreadable => Code::Nothing,
-                Number::Value(n) => {
-                    let high = opcode::word::high_word(n);
-                    let low = opcode::word::low_word(n);
-                    Code::Value(high, low)
-                }
-            },
-        },
+    match task {
+        Task::Nothing => Code::Nothing,
+        Task::End => Code::Nothing,
+        Task::Org(_) => Code::Nothing,
+        Task::Instruction(_, _) => Code::Nothing,
+        Task::Data(_) => Code::Nothing,
+        Task::Value(_, n) => {
+            let high = opcode::word::high_word(n);
+            let low = opcode::word::low_word(n);
+            Code::Value(high, low)
+        }
     }
 }
 
-// An instruction's words, and the address after its line.
-struct Placed {
-    code: Code,
-    after: u32,
+// The words of a line's instruction, if it has one.
+fn instruction_code(source: &[u8], table: &[u32], labels: usize, address: u32, task: Task) -> Code
+    requires { ⌜ Encoding (now source) (now table) labels address task ⌝ }
+    ensures { λ r. ⌜ r ≡ codeOf (encodeBody (tableOf (now (source .entry)) (now (table .entry)) labels) address (taskBody (now (source .entry)) task)) ⌝ }
+{
+    match task {
+        Task::Nothing => Code::Nothing,
+        Task::End => Code::Nothing,
+        Task::Org(_) => Code::Nothing,
+        Task::Value(_, _) => Code::Nothing,
+        Task::Data(_) => Code::Nothing,
+        Task::Instruction(_, span) => {
+            let a = span.start;
+            let b = span.end;
+            encode::encode_instruction(source, table, labels, address, &source[a..b])
+        }
+    }
 }
 
-// No instruction, and the address after the line.
-fn no_words(after: u32) -> Placed
-    ensures { λ r. ⌜ r ≡ noWords after ⌝ }
+// The address after a line that is read at `address`.
+fn task_after(base: u32, address: u32, task: Task) -> u32
+    requires { ⌜ taskAfter base address task < addressLimit ⌝ }
+    ensures { λ r. ⌜ r ≡ taskAfter base address task ⌝ }
 {
-    let code = Code::Nothing;
-    Placed { code, after }
-}
-
-// The words of a line's instruction, if it has one, and the address after the line.
-fn instruction_code(
-    source: &[u8],
-    base: u32,
-    table: &[u32],
-    labels: usize,
-    address: u32,
-    line: &[u8],
-    read: Line,
-) -> Placed
-    requires { ⌜ Lined (now source) base (now table) labels address (now line) read ⌝ }
-    ensures { λ r. ⌜ Places (tableOf (now (source .entry)) (now (table .entry)) labels) base address (lineAt (now (line .entry)) read) r ⌝ }
-{
-    match read {
-        Line::Skipped => no_words(address),
-        Line::End => no_words(address),
-        Line::Org(n) => no_words(base + n),
-        Line::NoOrg => no_words(address),
-        Line::Item(_, body) => match body {
-            Body::Bare => no_words(address),
-            Body::Data(n, _) => no_words(address + n),
-            Body::Instruction(span) => {
-                let a = span.start;
-                let b = span.end;
-                let e = encode::encode_instruction(source, table, labels, address, &line[a..b]);
-                let code = e.code;
-                Placed {
-                    code,
-                    after: address + e.size,
-                }
-            }
-        },
+    match task {
+        Task::Nothing => address,
+        Task::End => address,
+        Task::Org(n) => base + n,
+        Task::Instruction(n, _) => address + n,
+        Task::Value(n, _) => address + n,
+        Task::Data(n) => address + n,
     }
 }
 
 // No line is read behind this one: it is END, or it ends where the source does.
-fn is_last(read: Line, end: usize, length: usize) -> bool
-    ensures { λ r. ⌜ ((line : Text) → r ≡ (isEnd (lineAt line read) || eqb end length)) ⌝ }
+fn is_last(task: Task, end: usize, length: usize) -> bool
+    ensures { λ r. ⌜ r ≡ (taskEnds task || eqb end length) ⌝ }
 {
-    match read {
-        Line::End => true,
-        Line::Skipped => end == length,
-        Line::Org(_) => end == length,
-        Line::NoOrg => end == length,
-        Line::Item(_, _) => end == length,
+    match task {
+        Task::End => true,
+        Task::Nothing => end == length,
+        Task::Org(_) => end == length,
+        Task::Instruction(_, _) => end == length,
+        Task::Value(_, _) => end == length,
+        Task::Data(_) => end == length,
     }
 }
 
-// A line's words, those of its value and those of its instruction; whether it is the last that is read; and where the
-// next one starts and stands.
+// A line's words, those of its value and those of its instruction; whether it is the last that is read; and the
+// address after it.
 struct Words {
     value: Code,
     code: Code,
     last: bool,
-    next: usize,
     after: u32,
 }
 
-// The words of the line that starts at `at`.
+// The words of line k.
 fn read_words(
     source: &[u8],
     base: u32,
     table: &[u32],
     labels: usize,
-    at: usize,
+    cells: &[u32],
+    k: usize,
     address: u32,
 ) -> Words
-    requires { ⌜ Standing (now source) base (now table) labels at address ⌝ }
-    ensures { λ r. ⌜ Reads (tableOf (now (source .entry)) (now (table .entry)) labels) base (now (source .entry)) at address r ⌝ }
+    requires { ⌜ Standing (now source) base (now table) labels (now cells) k address ⌝ }
+    ensures { λ r. ⌜ Reads (tableOf (now (source .entry)) (now (table .entry)) labels) base (now (source .entry)) (startOf (now (source .entry)) k) address r ⌝ }
 {
-    let s = scan::scan_line(source, at);
+    let s = kept::kept_line(cells, k);
     let end = s.end;
-    let read = s.read;
-    let value = value_code(read);
-    let p = instruction_code(source, base, table, labels, address, &source[at..end], read);
-    let code = p.code;
-    let last = is_last(read, end, source.len());
+    let task = s.task;
+    let value = value_code(task);
+    let code = instruction_code(source, table, labels, address, task);
+    let last = is_last(task, end, source.len());
+    let after = task_after(base, address, task);
     Words {
         value,
         code,
         last,
-        next: end + 1,
-        after: p.after,
+        after,
     }
 }
 
@@ -300,6 +276,7 @@ pub fn emit_words(
     base: u32,
     table: &[u32],
     labels: usize,
+    cells: &[u32],
     values: usize,
     addresses: &mut [u32],
     words: &mut [u16],
@@ -307,17 +284,18 @@ pub fn emit_words(
 ) -> usize
     requires { ⌜ Walking (now source) base (now table) labels × (values ≡ length (listOf Values (tableOf (now source) (now table) labels) base (now source))) ⌝ }
     requires { ⌜ Room (length (wanted write (listBy (tableOf (now source) (now table) labels) base (now source)))) (now addresses) (now words) (now marks) ⌝ }
+    requires { ⌜ AllKept (now source) (now cells) ⌝ }
     ensures { λ r. ⌜ r ≡ length (listBy (tableOf (now (source .entry)) (now (table .entry)) labels) base (now (source .entry))) ⌝ }
     ensures { λ _. ⌜ Written (wanted write (listBy (tableOf (now (source .entry)) (now (table .entry)) labels) base (now (source .entry)))) (now (addresses .entry)) (now (words .entry)) (now (marks .entry)) (now (addresses .exit)) (now (words .exit)) (now (marks .exit)) ⌝ }
 {
-    let mut at = 0;
+    let mut k = 0;
     let mut address = base;
     let mut done = Ends {
         values: 0,
         words: 0,
     };
     loop {
-        let w = read_words(source, base, table, labels, at, address);
+        let w = read_words(source, base, table, labels, cells, k, address);
         let value = w.value;
         let code = w.code;
         done = take_line(
@@ -334,7 +312,7 @@ pub fn emit_words(
         if w.last {
             return values + done.words;
         }
-        at = w.next;
+        k += 1;
         address = w.after;
     }
 }
