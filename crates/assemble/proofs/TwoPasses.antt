@@ -9,7 +9,7 @@ use native.Mathlib.Omega.{arith}
 use lib.Dec.{ltb}
 use borrow.Author.Tests.{ltb-true}
 use lib.ListN.{length, replicate, length-replicate}
-use Rattle.rules.specs.Limits.{maxSource, maxLines, maxLabels, addressLimit}
+use Rattle.rules.specs.Limits.{maxSource, maxLabels, addressLimit}
 use Rattle.rules.specs.Text.{Text, cutAt}
 use Rattle.rules.specs.Line.{Name, Body, Line, lineOf}
 use Rattle.rules.specs.Label.{Label, Table, find, recorded, hasRoom}
@@ -32,7 +32,7 @@ use Rattle.collect.proofs.Steps.{stop-accepted}
 use Rattle.collect.proofs.Naming.{room-less, room-rows, room-full}
 use Rattle.collect.proofs.Cells.{all-kept}
 use Rattle.emit.specs.Emit.{Values, Instructions, Walking, listOf, listBy}
-use Rattle.assemble.specs.Assembled.{Starting, shortLines, Second, Gives, passesOf}
+use Rattle.assemble.specs.Assembled.{Starting, Second, Gives, passesOf}
 use Rattle.assemble.proofs.Lists.{gives-refusal}
 use Rattle.assemble.proofs.Below.{stop-below}
 
@@ -54,21 +54,21 @@ did (accepted p) labels values e = record { pass = p; is = refl; count = cc; wor
 did (refused m j) labels values e = absurd (false≢true cc)
 
 -- what the first pass needs, and room in the two tables
-pub first : {base lines : ℕ} {s : Text} {table cells : List ℕ} → Starting s base lines → Held s table 0 → RoomFor (2 * lines) table → 2 * lines ≤ length cells
+pub first : {base lines : ℕ} {s : Text} {table : List ℕ} (cells : List ℕ) → Starting s base lines → Held s table 0 → RoomFor (2 * lines) table → 2 * lines ≤ length cells
     → (Setting s base × Held s table 0 × RoomFor (2 * length (cutAt 10 s)) table) × (2 * length (cutAt 10 s) ≤ length cells)
-first p h r l = ((record { short = p .short; low = p .low }, h, room-less _ (omega (arith, p .lines-are)) r), omega (arith, p .lines-are))
+first cells p h r l = ((record { short = p .short; low = p .low }, h, room-less _ (omega (arith, p .lines-are)) r), omega (arith, p .lines-are))
 
-pub small-room : (lines : ℕ) → lines ≤ shortLines → RoomFor (2 * lines) (replicate (cellOf 64) 0)
-small-room lines h = room-less (2 * lines) (omega arith) (room-rows 64 (replicate (cellOf 64) 0) (rw length-replicate (omega arith)))
+-- a table of n labels has room for those of the lines, two a line; one of all has it for those of any
+module _ (lines : ℕ) where
+  pub rows-room : (n : ℕ) → 2 * lines ≤ n → RoomFor (2 * lines) (replicate (cellOf n) 0)
+  rows-room n h = room-less (2 * lines) h (room-rows n (replicate (cellOf n) 0) (rw length-replicate (omega arith)))
 
-pub small-cells : (lines : ℕ) → lines ≤ shortLines → 2 * lines ≤ length (replicate 64 0)
-small-cells lines h = rw length-replicate (omega arith)
+  pub full-room : RoomFor (2 * lines) (replicate (cellOf maxLabels) 0)
+  full-room = room-full (2 * lines) (replicate (cellOf maxLabels) 0) (rw length-replicate (omega arith))
 
-pub full-cells : (lines : ℕ) → lines ≤ maxLines → 2 * lines ≤ length (replicate 8192 0)
-full-cells lines h = rw length-replicate (omega arith)
-
-pub full-room : (lines : ℕ) → RoomFor (2 * lines) (replicate (cellOf maxLabels) 0)
-full-room lines = room-full (2 * lines) (replicate (cellOf maxLabels) 0) (rw length-replicate (omega arith))
+  -- and so many cells have it for the lines
+  pub cells-room : (n : ℕ) → 2 * lines ≤ n → 2 * lines ≤ length {A = ℕ} (replicate n 0)
+  cells-room n h = rw length-replicate h
 
 -- refusals 5 and 6
 pub passes-refused : (base : ℕ) (s : Text) (cells after : List ℕ) (x : Slices) (r : Collected) (n k : ℕ) → Passed s base cells r after → r ≡ Refuses n k

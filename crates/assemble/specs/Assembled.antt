@@ -32,9 +32,12 @@ pub record Starting (source : Text) (base lines : ℕ) : Type 0 where
   pub lines-are : lines ≡ length (cutAt 10 source)
   pub few : lines ≤ maxLines
 
--- so many lines have room for their labels in the small table
+-- so many lines have room for their labels in the small table, and so many in the middle one
 abbrev pub shortLines : ℕ
 shortLines = 32
+
+abbrev pub middleLines : ℕ
+middleLines = 256
 
 -- what the second pass needs: the labels, the lines kept and the data words of the first, and how many lines there are
 pub record Second (source : Text) (base : ℕ) (table cells : List ℕ) (labels values lines : ℕ) : Type 0 where

@@ -9,7 +9,7 @@ ghost use Rattle.rules.specs.Assemble.{slices};
 ghost use Rattle.label.specs.Table.{tableOf, Held};
 ghost use Rattle.collect.specs.Names.{RoomFor};
 ghost use Rattle.emit.specs.Emit.{listBy};
-ghost use Rattle.assemble.specs.Assembled.{Second, fitOf, Gives, Starting, shortLines, passesOf, Assembled};
+ghost use Rattle.assemble.specs.Assembled.{Second, fitOf, Gives, Starting, shortLines, middleLines, passesOf, Assembled};
 
 // Whether the slices have room for the list: if not, how many places it has.
 enum Fit {
@@ -134,8 +134,10 @@ fn passes_in(
     }
 }
 
-// The most lines whose labels, two a line, have room in a small table.
+// The most lines whose labels, two a line, have room in a small table, and in a middle one.
 const SHORT: usize = label::SMALL_LABELS / 2;
+
+const MIDDLE: usize = label::MIDDLE_LABELS / 2;
 
 // Both passes over a short source.
 fn short_passes(
@@ -151,6 +153,32 @@ fn short_passes(
 {
     let mut table = [0u32; label::SMALL];
     let mut cells = [0u32; 2 * SHORT];
+    passes_in(
+        source,
+        base,
+        lines,
+        &mut table,
+        &mut cells,
+        addresses,
+        words,
+        marks,
+    )
+}
+
+// Both passes over a source of middle length.
+fn middle_passes(
+    source: &[u8],
+    base: u32,
+    lines: usize,
+    addresses: &mut [u32],
+    words: &mut [u16],
+    marks: &mut [u8],
+) -> Answer
+    requires { ⌜ Starting (now source) base lines × (lines ≤ middleLines) ⌝ }
+    ensures { λ r. ⌜ Gives (passesOf base (now (source .entry))) (slices (now (addresses .entry)) (now (words .entry)) (now (marks .entry))) r (slices (now (addresses .exit)) (now (words .exit)) (now (marks .exit))) ⌝ }
+{
+    let mut table = [0u32; label::MIDDLE];
+    let mut cells = [0u32; 2 * MIDDLE];
     passes_in(
         source,
         base,
@@ -189,7 +217,7 @@ fn long_passes(
     )
 }
 
-// Both passes. A short source has a small table, since a table is cleared for each call.
+// Both passes. A shorter source has a smaller table and fewer cells, since they are cleared for each call.
 fn passes(
     source: &[u8],
     base: u32,
@@ -203,6 +231,9 @@ fn passes(
 {
     if lines <= SHORT {
         return short_passes(source, base, lines, addresses, words, marks);
+    }
+    if lines <= MIDDLE {
+        return middle_passes(source, base, lines, addresses, words, marks);
     }
     long_passes(source, base, lines, addresses, words, marks)
 }

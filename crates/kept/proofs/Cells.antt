@@ -1,21 +1,19 @@
 -- Cells written and read again: a task comes back as it was, and the lines before it stay kept. Assumes nothing.
-use mathlib.Core.Path.{_≡_, refl, sym, ap, _∙_}
-use mathlib.Core.Bool.{Bool, true, false, false≢true}
+use mathlib.Core.Path.{_≡_, refl}
+use mathlib.Core.Bool.{Bool, true, false}
 use mathlib.Core.List.{List}
-use Prim.Native.Nat.{ℕ, zero, suc, _+_, _*_, _/_, _%_, _≤_, _<_}
+use Prim.Native.Nat.{ℕ, suc, _+_, _*_, _/_, _%_, _≤_, _<_}
 use native.Mathlib.Omega.{arith}
 use lib.Dec.{ltb}
 use borrow.Author.Tests.{ltb-true, ltb-false}
 use lib.ListN.{length, set, drop, getD, length-set}
 use lib.Seq.{getD-set-same, getD-set-other, drop-set-lt}
 use Rattle.rules.specs.Text.{Text}
-use Rattle.scan.specs.Lines.{lineEnd}
 use Rattle.kept.specs.Task.{Fits}
 use Rattle.kept.specs.Cells.{headCell, tailCell, taskIn, keptBy, keptAt, withLine}
-use Rattle.kept.specs.Lines.{startOf, lastLine, Tells, Keeps, AllKept}
+use Rattle.kept.specs.Lines.{startOf, Tells, Keeps}
 use Rattle.kept.specs.declared.Task.{Task}
 use Rattle.kept.specs.declared.Task.the-variants.{Nothing, End, Org, Instruction, Value, Data}
-use Rattle.kept.specs.declared.Kept.{Kept}
 
 -- ---- the parts of a first cell, and of a place
 module _ (e k n : ℕ) (h : k < 8) (l : n ≤ 4) where
@@ -74,18 +72,3 @@ module _ (source : Text) (cells : List ℕ) (n head tail : ℕ) (h : Keeps sourc
           let z : n ≤ k = ltb-false k n e in
           let m : k ≡ n = omega arith in
           rw (m, with-this cells n head tail room) t
-
--- ---- all lines that are read
--- a line starts no earlier than its number says
-pub start-most : (s : Text) (k : ℕ) → k ≤ startOf s k
-unfolding startOf
-start-most s zero = omega arith
-start-most s (suc k) = omega (arith, start-most s k)
-
--- behind a line that is not the last there is another
-pub kept-next : (source : Text) (cells : List ℕ) (a : AllKept source cells) (k : ℕ) → k < a .count → lastLine source (startOf source k) ≡ false → suc k < a .count
-kept-next source cells a k h e = go (ltb (suc k) (a .count)) refl
-  where
-    go : (y : Bool) → ltb (suc k) (a .count) ≡ y → suc k < a .count
-    go true f = ltb-true _ _ f
-    go false f = let z : a .count ≤ suc k = ltb-false (suc k) (a .count) f in let m : suc k ≡ a .count = omega arith in absurd (false≢true (sym e ∙ a .last k m))

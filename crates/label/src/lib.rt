@@ -17,11 +17,15 @@ const HEADS: usize = 256;
 // The cells of a table: one for each hash, and four for each label.
 pub const TABLE: usize = HEADS + 4 * rules::MAX_LABELS;
 
-// The labels of a small table.
+// The labels of a small table, and of a middle one.
 pub const SMALL_LABELS: usize = 64;
 
-// The cells of a small table.
+pub const MIDDLE_LABELS: usize = 512;
+
+// Their cells.
 pub const SMALL: usize = HEADS + 4 * SMALL_LABELS;
+
+pub const MIDDLE: usize = HEADS + 4 * MIDDLE_LABELS;
 
 pub enum Address {
     At(u32),

@@ -29,7 +29,7 @@ returns-4 : tie.Need-returns-4
 returns-4 c = call-4 _ _ _ (c .before .before .before .before .before .before .if1 .left) _ (c .before .before .before .before .before .first-high .ensures) (c .before .before .before .enum-told .given .1) _ (c .before .before .count-lines .ensures) (c .before .if2 .left) (c .if3 .taken)
 
 passes-requires : tie.Need-passes-requires
-passes-requires c κs = record { short = c .before .before .before .before .before .before .before .before .before .if1 .left; low = c .before .before .before .if3 .left; lines-are = c .before .before .before .before .before .count-lines .ensures }
+passes-requires c κs = record { short = c .before .before .before .before .before .before .before .before .before .if1 .left; low = c .before .before .before .if3 .left; lines-are = c .before .before .before .before .before .count-lines .ensures; few = c .before .before .before .before .if2 .left }
 
 same-length : tie.Need-same-length
 same-length c = search needs

@@ -24,13 +24,13 @@ same-length-3 : tie.Need-same-length-3
 same-length-3 c = search needs
 
 returns : tie.Need-returns
-returns c = rw (c .before .before .before .before .before .before .before .before .before .fit-list .ensures .1) (gives-refusal-7 _ _ _ (c .before .before .before .before .before .before .before .before .before .fit-list .ensures .0) _ (c .before .room .given .1))
+returns c = rw ((c .before .before .before .before .before .before .before .before .before .fit-list) .ensures .1) (gives-refusal-7 _ _ _ ((c .before .before .before .before .before .before .before .before .before .fit-list) .ensures .0) _ ((c .before .room) .given .1))
 
 enum-told : tie.Need-enum-told
 enum-told c = search needs
 
 emit-words-requires : tie.Need-emit-words-requires
-emit-words-requires c κs = let s = c .before .before .before .before .before .before .before .before .before .before .before .before .before .before .before .before .before .before .before .before .args in let t = tableOf (s .source .now) (s .table .now) (s .labels) in ((c .before .before .before .before .before .before .before .before .before .before .before .before .before .before .before .before .before .before .before .before .pre .walking, c .before .before .before .before .before .before .before .before .before .before .before .before .before .before .before .before .before .before .before .before .pre .values-are), same-room (listBy t (s .base) (s .source .now)) _ _ _ _ _ _ (c .before .before .before .before .before .before .before .before .before .before .before .fit-list .ensures .1) (fits (listBy t (s .base) (s .source .now)) _ _ (c .before .before .before .before .before .before .before .before .before .before .before .fit-list .ensures .0) (c .before .before .before .enum-told .given .1)))
+emit-words-requires c κs = let s = (c .before .before .before .before .before .before .before .before .before .before .before .before .before .before .before .before .before .before .before .before .before .args) in let t = tableOf (s .source .now) (s .table .now) (s .labels) in (((c .before .before .before .before .before .before .before .before .before .before .before .before .before .before .before .before .before .before .before .before .before .pre) .walking, (c .before .before .before .before .before .before .before .before .before .before .before .before .before .before .before .before .before .before .before .before .before .pre) .values-are), (same-room (listBy t (s .base) (s .source .now)) _ _ _ _ _ _ ((c .before .before .before .before .before .before .before .before .before .before .before .fit-list) .ensures .1) (fits (listBy t (s .base) (s .source .now)) _ _ ((c .before .before .before .before .before .before .before .before .before .before .before .fit-list) .ensures .0) ((c .before .before .before .enum-told) .given .1)), (c .before .before .before .before .before .before .before .before .before .before .before .before .before .before .before .before .before .before .before .before .before .pre) .kept))
 
 same-length-4 : tie.Need-same-length-4
 same-length-4 c = search needs
@@ -42,7 +42,7 @@ same-length-6 : tie.Need-same-length-6
 same-length-6 c = search needs
 
 returns-2 : tie.Need-returns-2
-returns-2 c = let s = c .before .before .before .before .before .before .before .before .before .before .before .before .before .before .before .before .before .before .before .before .before .before .before .before .before .before .before .args in let t = tableOf (s .source .now) (s .table .now) (s .labels) in let l = listBy t (s .base) (s .source .now) in gives-list l _ _ (c .before .before .before .before .before .before .emit-words .ensures .0) (ap (short _) (c .before .before .before .before .before .before .emit-words .ensures .0) ∙ fits l _ _ (c .before .before .before .before .before .before .before .before .before .before .before .before .before .before .before .before .before .before .fit-list .ensures .0) (c .before .before .before .before .before .before .before .before .before .before .enum-told .given .1)) _ (held-columns l _ _ _ _ _ _ (c .before .before .before .before .before .before .emit-words .ensures .1) ∙ ap (holding l) (c .before .before .before .before .before .before .before .before .before .before .before .before .before .before .before .before .before .before .fit-list .ensures .1))
+returns-2 c = let s = (c .before .before .before .before .before .before .before .before .before .before .before .before .before .before .before .before .before .before .before .before .before .before .before .before .before .before .before .before .args) in let t = tableOf (s .source .now) (s .table .now) (s .labels) in let l = listBy t (s .base) (s .source .now) in gives-list l _ _ ((c .before .before .before .before .before .before .emit-words) .ensures .0) (ap (short _) ((c .before .before .before .before .before .before .emit-words) .ensures .0) ∙ fits l _ _ ((c .before .before .before .before .before .before .before .before .before .before .before .before .before .before .before .before .before .before .fit-list) .ensures .0) ((c .before .before .before .before .before .before .before .before .before .before .enum-told) .given .1)) _ (held-columns l _ _ _ _ _ _ ((c .before .before .before .before .before .before .emit-words) .ensures .1) ∙ ap (holding l) ((c .before .before .before .before .before .before .before .before .before .before .before .before .before .before .before .before .before .before .fit-list) .ensures .1))
 
 pub second-pass-spec : {M : Type 1} → statement M
 second-pass-spec =

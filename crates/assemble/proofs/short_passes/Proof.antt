@@ -1,14 +1,29 @@
--- `short_passes` lends a small table, with room for the labels of so few lines. Assumes nothing.
+-- `short_passes` lends a small table and cells, with room for the labels of so few lines. Assumes nothing.
+use Rattle.assemble.proofs.TwoPasses.{rows-room, cells-room}
 use native.Mathlib.Omega.{arith}
 use Rattle.label.specs.Table.{cellOf}
 use Rattle.label.proofs.Table.{held-zeros}
-use Rattle.assemble.proofs.TwoPasses.{small-room}
 use borrow.Author.Needs.{needs}
 use Rattle.assemble.proofs.short_passes.Statement.{statement}
 use Rattle.assemble.proofs.short_passes.Tie as tie
 
+slice-aggregate-passes-in : tie.Need-slice-aggregate-passes-in
+slice-aggregate-passes-in c = search needs
+
+slice-aggregate-passes-in-2 : tie.Need-slice-aggregate-passes-in-2
+slice-aggregate-passes-in-2 c = search needs
+
 passes-in-requires : tie.Need-passes-in-requires
-passes-in-requires c κs = let p = c .before .before .before .before .before .before .before .before .pre in (p .0, held-zeros _ (cellOf 64) (omega arith), small-room _ (p .1))
+passes-in-requires c κs = let p = (c .before .before .before .before .before .before .before .before .before .pre) in let h = p .1 in (p .0, held-zeros _ (cellOf 64) (omega arith), rows-room _ 64 (omega arith), cells-room _ 64 (omega arith))
+
+same-length : tie.Need-same-length
+same-length c = search needs
+
+same-length-2 : tie.Need-same-length-2
+same-length-2 c = search needs
+
+same-length-3 : tie.Need-same-length-3
+same-length-3 c = search needs
 
 returns : tie.Need-returns
 returns c = search needs
@@ -17,9 +32,10 @@ pub short-passes-spec : {M : Type 1} → statement M
 short-passes-spec =
     tie.close
     (tie.spec
-    (λ c. search needs)
+    slice-aggregate-passes-in
+    slice-aggregate-passes-in-2
     passes-in-requires
-    (λ c. search needs)
-    (λ c. search needs)
-    (λ c. search needs)
+    same-length
+    same-length-2
+    same-length-3
     returns)
