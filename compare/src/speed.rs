@@ -1,27 +1,40 @@
 //! Speed: the same inputs through the Rust original and through the static library, in one run. Each figure is the
-//! median of many repetitions; the ratio is the original's time over ours.
+//! median of many repetitions, taken in turns; the ratio, the original's time over ours, is the median of its own.
 use crate::library::{assemble, relocate, Slices};
 use crate::{oracle, record};
 use std::hint::black_box;
 use std::time::Instant;
 
-/// The median time of a call, in nanoseconds, over batches that take about a millisecond each.
-fn median(mut f: impl FnMut()) -> f64 {
+/// How many calls take about a millisecond.
+fn batch(f: &mut impl FnMut()) -> usize {
+    f();
     let start = Instant::now();
     f();
     let once = start.elapsed().as_nanos().max(1) as f64;
-    let batch = ((1_000_000.0 / once) as usize).clamp(1, 10_000);
-    let mut times: Vec<f64> = (0..61)
-        .map(|_| {
-            let start = Instant::now();
-            for _ in 0..batch {
-                f();
-            }
-            start.elapsed().as_nanos() as f64 / batch as f64
-        })
-        .collect();
+    ((1_000_000.0 / once) as usize).clamp(1, 10_000)
+}
+
+/// The time of a call in a batch, in nanoseconds.
+fn timed(f: &mut impl FnMut(), batch: usize) -> f64 {
+    let start = Instant::now();
+    for _ in 0..batch {
+        f();
+    }
+    start.elapsed().as_nanos() as f64 / batch as f64
+}
+
+fn median(mut times: Vec<f64>) -> f64 {
     times.sort_by(|a, b| a.total_cmp(b));
     times[times.len() / 2]
+}
+
+/// The median times of a call of each, and of their ratio: batches of the two take turns, so that what else the machine
+/// does meets both.
+fn medians(mut f: impl FnMut(), mut g: impl FnMut()) -> [f64; 3] {
+    let (m, n) = (batch(&mut f), batch(&mut g));
+    let turns: Vec<[f64; 2]> = (0..201).map(|_| [timed(&mut f, m), timed(&mut g, n)]).collect();
+    let of = |h: &dyn Fn(&[f64; 2]) -> f64| median(turns.iter().map(h).collect());
+    [of(&|t| t[0]), of(&|t| t[1]), of(&|t| t[0] / t[1])]
 }
 
 /// Lines repeated while they fit into a source.
@@ -71,8 +84,8 @@ fn inputs() -> Vec<(&'static str, String)> {
     ]
 }
 
-fn row(name: &str, rust: f64, ours: f64) {
-    println!("| {name} | {:.1} µs | {:.1} µs | {:.1} |", rust / 1000.0, ours / 1000.0, rust / ours);
+fn row(name: &str, [rust, ours, ratio]: [f64; 3]) {
+    println!("| {name} | {:.2} µs | {:.2} µs | {ratio:.1} |", rust / 1000.0, ours / 1000.0);
 }
 
 /// A plain loop in Rust over the same slices: the checks, then the move.
@@ -101,13 +114,13 @@ pub fn table() {
     println!("|---|---|---|---|");
     let mut x = Slices::old([8192; 3]);
     for (name, s) in inputs() {
-        let rust = median(|| {
+        let rust = || {
             black_box(oracle::rust(black_box(&s)));
-        });
-        let ours = median(|| {
+        };
+        let ours = || {
             black_box(assemble(black_box(s.as_bytes()), 0, &mut x));
-        });
-        row(name, rust, ours);
+        };
+        row(name, medians(rust, ours));
     }
     println!();
     println!("| mover, places | plain Rust loop | Lagvettu | times as fast |");
@@ -119,16 +132,16 @@ pub fn table() {
             marks: (0..n).map(|i| (i % 5 == 0) as u8).collect(),
         };
         let (mut a, mut b) = (list(count), list(count));
-        let mut d = 2;
-        let rust = median(|| {
+        let (mut d, mut e) = (2, 2);
+        let plain = || {
             d = -d;
             black_box(plain_move(black_box(&mut a), count, d));
-        });
-        let mut d = 2;
-        let ours = median(|| {
-            d = -d;
-            black_box(relocate(black_box(&mut b), count, d));
-        });
-        println!("| {count} | {rust:.0} ns | {ours:.0} ns | {:.2} |", rust / ours);
+        };
+        let moved = || {
+            e = -e;
+            black_box(relocate(black_box(&mut b), count, e));
+        };
+        let [rust, ours, ratio] = medians(plain, moved);
+        println!("| {count} | {rust:.0} ns | {ours:.0} ns | {ratio:.2} |");
     }
 }
