@@ -19,6 +19,7 @@ use Rattle.answer.specs.declared.Answer.{Answer}
 use Rattle.answer.specs.declared.Answer.the-variants.{Accepted, Refused}
 use Rattle.label.specs.Table.{cellOf, tableOf, Held, AllBelow, no-label}
 use Rattle.label.proofs.Rows.{below-recorded}
+use Rattle.label.proofs.Table.{held-zeros}
 use Rattle.scan.specs.Walk.{walk, low}
 use Rattle.scan.proofs.WalkLaws.{pass-walked}
 use Rattle.collect.specs.Collect.{collectedFrom, collectedOf, labelOf, namesOf, recordSome, stopLabels}
@@ -58,17 +59,19 @@ pub first : {base lines : ℕ} {s : Text} {table : List ℕ} (cells : List ℕ) 
     → (Setting s base × Held s table 0 × RoomFor (2 * length (cutAt 10 s)) table) × (2 * length (cutAt 10 s) ≤ length cells)
 first cells p h r l = ((record { short = p .short; low = p .low }, h, room-less _ (omega (arith, p .lines-are)) r), omega (arith, p .lines-are))
 
--- a table of n labels has room for those of the lines, two a line; one of all has it for those of any
-module _ (lines : ℕ) where
-  pub rows-room : (n : ℕ) → 2 * lines ≤ n → RoomFor (2 * lines) (replicate (cellOf n) 0)
-  rows-room n h = room-less (2 * lines) h (room-rows n (replicate (cellOf n) 0) (rw length-replicate (omega arith)))
+-- so many cells have room for the lines, two a line
+pub cells-room : (lines n : ℕ) → 2 * lines ≤ n → 2 * lines ≤ length {A = ℕ} (replicate n 0)
+cells-room lines n h = rw length-replicate h
 
-  pub full-room : RoomFor (2 * lines) (replicate (cellOf maxLabels) 0)
-  full-room = room-full (2 * lines) (replicate (cellOf maxLabels) 0) (rw length-replicate (omega arith))
+-- a table of all labels has room for those of any lines
+pub full-room : (lines : ℕ) → RoomFor (2 * lines) (replicate (cellOf maxLabels) 0)
+full-room lines = room-full (2 * lines) (replicate (cellOf maxLabels) 0) (rw length-replicate (omega arith))
 
-  -- and so many cells have it for the lines
-  pub cells-room : (n : ℕ) → 2 * lines ≤ n → 2 * lines ≤ length {A = ℕ} (replicate n 0)
-  cells-room n h = rw length-replicate h
+-- what is lent for lines of at most n labels: a table for these, and as many cells
+pub lent : (base lines : ℕ) (s : Text) (n : ℕ) → Starting s base lines → 2 * lines ≤ n
+    → Starting s base lines × Held s (replicate (cellOf n) 0) 0 × RoomFor (2 * lines) (replicate (cellOf n) 0) × (2 * lines ≤ length {A = ℕ} (replicate n 0))
+lent base lines s n p h =
+    (p, held-zeros s (cellOf n) (omega arith), room-less (2 * lines) h (room-rows n (replicate (cellOf n) 0) (rw length-replicate (omega arith))), cells-room lines n h)
 
 -- refusals 5 and 6
 pub passes-refused : (base : ℕ) (s : Text) (cells after : List ℕ) (x : Slices) (r : Collected) (n k : ℕ) → Passed s base cells r after → r ≡ Refuses n k

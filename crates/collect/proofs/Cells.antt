@@ -1,8 +1,11 @@
 -- The lines that the first pass has kept: one more with each line, up to where it stops. Assumes nothing.
 use mathlib.Core.Path.{_≡_, refl, sym, ap, _∙_}
+use mathlib.Core.Bool.{Bool, true, false}
 use mathlib.Core.List.{List}
 use Prim.Native.Nat.{ℕ, suc, _+_, _-_, _*_, _≤_, _<_}
 use native.Mathlib.Omega.{arith}
+use lib.Dec.{ltb}
+use borrow.Author.Tests.{ltb-true, ltb-false}
 use lib.ListN.{length, take, drop}
 use Rattle.rules.specs.Limits.{maxSource}
 use Rattle.rules.specs.Text.{Text, cutAt}
@@ -41,6 +44,7 @@ pub record KeptTo (source : Text) (old cells : List ℕ) (p : Progress) : Type 0
   pub past : drop (2 * (p .number - 1)) cells ≡ drop (2 * (p .number - 1)) old
   pub long : length cells ≡ length old
   pub room : 2 * (p .number - 1 + linesLeft source p) ≤ length cells
+  pub before : (k : ℕ) → k < p .number - 1 → lastLine source (startOf source k) ≡ false
 
 pub kept-start : (source : Text) (base : ℕ) (old : List ℕ) → 2 * length (cutAt 10 source) ≤ length old
     → KeptTo source old old (record { at = 0; number = 1; address = base; labels = 0; words = 0 })
@@ -52,6 +56,7 @@ kept-start source base old h =
       past = refl;
       long = refl;
       room = omega (arith, length-numbered 1 0 (cutAt 10 source));
+      before = λ k l. absurd (omega arith);
     }
 
 module _ (source : Text) (base : ℕ) (old cells : List ℕ) (p : Progress) (g : Setting source base) (u : KeptTo source old cells p) where
@@ -80,6 +85,17 @@ module _ (source : Text) (base : ℕ) (old cells : List ℕ) (p : Progress) (g :
         rw (← e, k .written) (with-past cells (p .number - 1) (k .head) (k .tail))
         ∙ past-more (2 * (p .number - 1)) (2 * suc (p .number - 1)) cells old (omega arith) (u .past)
 
+    -- this line is not the last either
+    more-before : lastLine source (p .at) ≡ false → (k : ℕ) → k < suc (p .number - 1) → lastLine source (startOf source k) ≡ false
+    more-before e k l = go (ltb k (p .number - 1)) refl
+      where
+        go : (y : Bool) → ltb k (p .number - 1) ≡ y → lastLine source (startOf source k) ≡ false
+        go true f = u .before k (ltb-true _ _ f)
+        go false f =
+            let n : p .number - 1 ≤ k = ltb-false k (p .number - 1) f in
+            let m : k ≡ p .number - 1 = omega arith in
+            rw (m, ← u .starts) e
+
     more-kept : (table′ : List ℕ) (q : Progress) → Going source base table p q table′ → KeptTo source old after q
     unfolding startOf
     more-kept table′ q go =
@@ -90,6 +106,7 @@ module _ (source : Text) (base : ℕ) (old cells : List ℕ) (p : Progress) (g :
           past = rw e more-past;
           long = more-long;
           room = omega (arith, go .fewer, u .room, more-long, u .long);
+          before = λ k l. more-before (go .more) k (omega arith);
         }
 
     lines-read : (r : Collected) → StopsAt source p r → LinesRead source r (suc (p .number - 1))
@@ -97,7 +114,7 @@ module _ (source : Text) (base : ℕ) (old cells : List ℕ) (p : Progress) (g :
     lines-read (Refused n j) s = omega (arith, s, v .counted)
 
     all-lines : (table′ : List ℕ) (r : Collected) → Stopping source base table p r table′ → KeptLines source r old after
-    all-lines table′ r s = record { count = suc (p .number - 1); read = lines-read r (s .stops); kept = more; past = more-past; long = more-long }
+    all-lines table′ r s = record { count = suc (p .number - 1); read = lines-read r (s .stops); before = λ k l. u .before k (omega arith); kept = more; past = more-past; long = more-long }
 
     -- by what a line came to
     module _ (table′ : List ℕ) (x : Pace) (d : Paced source base table p x table′) where

@@ -5,7 +5,7 @@ use mathlib.Core.Option.{Option, none, some}
 use mathlib.Core.List.{List, [], _∷_}
 use Prim.Native.Nat.{ℕ, suc, _+_, _-_, _*_, _≤_, _<_}
 use native.Mathlib.Omega.{arith}
-use borrow.Author.Tests.{lt-ltb, le-ltb, eq-eqb}
+use borrow.Author.Tests.{lt-ltb, le-ltb, eq-eqb, ne-eqb}
 use lib.Dec.{eqb, ltb}
 use lib.ListN.{length, take, drop}
 use Rattle.rules.specs.Limits.{addressLimit}
@@ -213,6 +213,7 @@ module _ (source : Text) (base : ℕ) (cells : List ℕ) (p : Progress) (g : Set
               starts = sym f;
               next = refl;
               fewer = ap length k;
+              more = ap (λ (y : Bool). y || eqb (lineEnd source (p .at)) (length source)) reads-on ∙ ne-eqb _ _ (λ w. z (c .ends ∙ w));
             }
 
         -- with the data words as the code counted them

@@ -1,6 +1,6 @@
 -- Lines kept by the first pass: what one line leaves in the cells, and what the pass leaves. Assumes nothing.
 use mathlib.Core.Path.{_≡_}
-use mathlib.Core.Bool.{true}
+use mathlib.Core.Bool.{true, false}
 use mathlib.Core.List.{List}
 use Prim.Native.Nat.{ℕ, suc, _*_, _-_, _<_}
 use lib.ListN.{length, drop}
@@ -23,10 +23,11 @@ abbrev pub LinesRead : Text → Collected → ℕ → Type 0
 LinesRead source (Done l w) n = (0 < n) × ((k : ℕ) → suc k ≡ n → lastLine source (startOf source k) ≡ true)
 LinesRead source (Refused m k) n = n ≡ k
 
--- these lines kept, and the cells behind them unchanged
+-- these lines kept, none but the last of them the last that is read, and the cells behind them unchanged
 pub record KeptLines (source : Text) (r : Collected) (cells after : List ℕ) : Type 0 where
   pub count : ℕ
   pub read : LinesRead source r count
+  pub before : (k : ℕ) → suc k < count → lastLine source (startOf source k) ≡ false
   pub kept : Keeps source after count
   pub past : drop (2 * count) after ≡ drop (2 * count) cells
   pub long : length after ≡ length cells

@@ -1,7 +1,7 @@
 -- The first pass from line to line: what is left of it, and what one line leaves. Assumes nothing.
 use mathlib.Core.Path.{_≡_}
 use Prim.Native.Nat.{ℕ, suc, _+_, _*_, _≤_, _<_}
-use mathlib.Core.Bool.{true}
+use mathlib.Core.Bool.{true, false}
 use mathlib.Core.List.{List, []}
 use lib.ListN.{length, drop}
 use Rattle.rules.specs.Limits.{maxSource, addressLimit}
@@ -58,6 +58,7 @@ pub record Going (source : Text) (base : ℕ) (cells : List ℕ) (p q : Progress
   pub starts : q .at ≡ suc (lineEnd source (p .at))
   pub next : q .number ≡ p .number + 1
   pub fewer : linesLeft source p ≡ suc (linesLeft source q)
+  pub more : lastLine source (p .at) ≡ false
 
 -- where the pass stops: done at the last line that is read, or refused at this one
 abbrev pub StopsAt : Text → Progress → Collected → Type 0

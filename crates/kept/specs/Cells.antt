@@ -52,7 +52,7 @@ pub record Standing (cells : List ℕ) (k : ℕ) : Type 0 where
   pub room : 2 * k + 2 ≤ length cells
   pub few : k ≤ maxSource
 
--- a line that can be kept: it ends before 2^15, and so does its instruction; its size is at most 4
+-- a line that can be kept: it ends within the first 2^15 bytes, and so does its instruction; its size is at most 4
 pub record Keeping (i end : ℕ) (read : Line) (size : ℕ) : Type 0 where
   pub ends : end ≤ maxSource
   pub small : Small i read

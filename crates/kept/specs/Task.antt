@@ -35,7 +35,7 @@ taskOf i (Line·Org v) n = Org v
 taskOf i NoOrg n = Nothing
 taskOf i (Item ns b) n = bodyTask i n b
 
--- an instruction read stands before 2^15
+-- an instruction read stands within the first 2^15 bytes
 abbrev pub SmallBody : ℕ → Body → Type 0
 SmallBody i Bare = Unit
 SmallBody i (Body·Data m v) = Unit

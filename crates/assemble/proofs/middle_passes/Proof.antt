@@ -1,41 +1,21 @@
 -- `middle_passes` lends a middle table and cells, with room for so many lines. Assumes nothing.
 use native.Mathlib.Omega.{arith}
-use Rattle.label.specs.Table.{cellOf}
-use Rattle.label.proofs.Table.{held-zeros}
-use Rattle.assemble.proofs.TwoPasses.{rows-room, cells-room}
+use Rattle.assemble.proofs.TwoPasses.{lent}
 use borrow.Author.Needs.{needs}
 use Rattle.assemble.proofs.middle_passes.Statement.{statement}
 use Rattle.assemble.proofs.middle_passes.Tie as tie
 
-slice-aggregate-passes-in : tie.Need-slice-aggregate-passes-in
-slice-aggregate-passes-in c = search needs
-
-slice-aggregate-passes-in-2 : tie.Need-slice-aggregate-passes-in-2
-slice-aggregate-passes-in-2 c = search needs
-
 passes-in-requires : tie.Need-passes-in-requires
-passes-in-requires c κs = let p = (c .before .before .before .before .before .before .before .before .before .pre) in let h = p .1 in (p .0, held-zeros _ (cellOf 512) (omega arith), rows-room _ 512 (omega arith), cells-room _ 512 (omega arith))
-
-same-length : tie.Need-same-length
-same-length c = search needs
-
-same-length-2 : tie.Need-same-length-2
-same-length-2 c = search needs
-
-same-length-3 : tie.Need-same-length-3
-same-length-3 c = search needs
-
-returns : tie.Need-returns
-returns c = search needs
+passes-in-requires c κs = let p = (c .before .before .before .before .before .before .before .before .before .pre) in lent _ _ _ 512 (p .0) (let h = p .1 in omega arith)
 
 pub middle-passes-spec : {M : Type 1} → statement M
 middle-passes-spec =
     tie.close
     (tie.spec
-    slice-aggregate-passes-in
-    slice-aggregate-passes-in-2
+    (λ c. search needs)
+    (λ c. search needs)
     passes-in-requires
-    same-length
-    same-length-2
-    same-length-3
-    returns)
+    (λ c. search needs)
+    (λ c. search needs)
+    (λ c. search needs)
+    (λ c. search needs))

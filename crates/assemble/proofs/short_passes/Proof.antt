@@ -1,41 +1,21 @@
 -- `short_passes` lends a small table and cells, with room for the labels of so few lines. Assumes nothing.
-use Rattle.assemble.proofs.TwoPasses.{rows-room, cells-room}
+use Rattle.assemble.proofs.TwoPasses.{lent}
 use native.Mathlib.Omega.{arith}
-use Rattle.label.specs.Table.{cellOf}
-use Rattle.label.proofs.Table.{held-zeros}
 use borrow.Author.Needs.{needs}
 use Rattle.assemble.proofs.short_passes.Statement.{statement}
 use Rattle.assemble.proofs.short_passes.Tie as tie
 
-slice-aggregate-passes-in : tie.Need-slice-aggregate-passes-in
-slice-aggregate-passes-in c = search needs
-
-slice-aggregate-passes-in-2 : tie.Need-slice-aggregate-passes-in-2
-slice-aggregate-passes-in-2 c = search needs
-
 passes-in-requires : tie.Need-passes-in-requires
-passes-in-requires c κs = let p = (c .before .before .before .before .before .before .before .before .before .pre) in let h = p .1 in (p .0, held-zeros _ (cellOf 64) (omega arith), rows-room _ 64 (omega arith), cells-room _ 64 (omega arith))
-
-same-length : tie.Need-same-length
-same-length c = search needs
-
-same-length-2 : tie.Need-same-length-2
-same-length-2 c = search needs
-
-same-length-3 : tie.Need-same-length-3
-same-length-3 c = search needs
-
-returns : tie.Need-returns
-returns c = search needs
+passes-in-requires c κs = let p = (c .before .before .before .before .before .before .before .before .before .pre) in lent _ _ _ 64 (p .0) (let h = p .1 in omega arith)
 
 pub short-passes-spec : {M : Type 1} → statement M
 short-passes-spec =
     tie.close
     (tie.spec
-    slice-aggregate-passes-in
-    slice-aggregate-passes-in-2
+    (λ c. search needs)
+    (λ c. search needs)
     passes-in-requires
-    same-length
-    same-length-2
-    same-length-3
-    returns)
+    (λ c. search needs)
+    (λ c. search needs)
+    (λ c. search needs)
+    (λ c. search needs))
