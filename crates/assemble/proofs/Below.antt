@@ -9,7 +9,7 @@ use lib.Dec.{ltb}
 use Rattle.rules.specs.Limits.{addressLimit}
 use Rattle.rules.specs.Line.{Name, Body, Line, skipped, end, org, item, lineOf}
 use Rattle.rules.specs.Label.{Label, Table, find, recorded, hasRoom, recordAll}
-use Rattle.rules.specs.Assemble.{SourceLine, Step, halt, full, next, advance, step}
+use Rattle.rules.specs.Assemble.{SourceLine, Step, halt, full, next, advance, step, advanceBy, stepBy}
 use Rattle.label.specs.Table.{AllBelow}
 use Rattle.label.proofs.Rows.{below-recorded}
 use Rattle.collect.specs.Collect.{labelOf, namesOf, recordSome, stopLabels}
@@ -27,12 +27,12 @@ module _ (i a : ℕ) (h : a < addressLimit) where
 
   advance-below : (a′ : ℕ) (ns : List Name) (t t′ : Table) (b c : Body) (o : Option Table) → recordAll i a ns t ≡ o → advance a c o ≡ next a′ t′ b
       → AllBelow addressLimit t → AllBelow addressLimit t′
-  unfolding advance
+  unfolding advanceBy
   advance-below a′ ns t t′ b c none r e k = absurd (false≢true cc)
   advance-below a′ ns t t′ b c (some u) r e k = let f : u ≡ t′ = cc in rw (record-some i a ns t u r ∙ f) at (some-below ns t k)
 
   step-below : (base a′ : ℕ) (t t′ : Table) (b : Body) (l : Line) → step base i a t l ≡ next a′ t′ b → AllBelow addressLimit t → AllBelow addressLimit t′
-  unfolding step
+  unfolding stepBy
   step-below base a′ t t′ b skipped e k = let f : t ≡ t′ = cc in rw f at k
   step-below base a′ t t′ b end e k = absurd (false≢true cc)
   step-below base a′ t t′ b (org none) e k = let f : t ≡ t′ = cc in rw f at k

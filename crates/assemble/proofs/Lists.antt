@@ -8,7 +8,7 @@ use borrow.Author.Tests.{ltb-false, le-ltb}
 use lib.Dec.{ltb}
 use lib.ListN.{length}
 use Rattle.rules.specs.Answer.{Answer as Ruled, accepted, refused, refuseIf, andThen}
-use Rattle.rules.specs.Assemble.{Place, Slices, short, over, holding, writeList}
+use Rattle.rules.specs.Assemble.{Place, Slices, short, room, over, holding, writeList}
 use Rattle.answer.specs.Answer.{answerOf}
 use Rattle.answer.specs.declared.Answer.the-variants.{Accepted, Refused}
 use Rattle.emit.specs.Emit.{Room, Written}
@@ -24,11 +24,11 @@ gives-refusal list x n p e = rw e (record { answer = refl; slices = refl })
 
 module _ (l : List Place) (x : Slices) (n : ℕ) (e : n ≡ length l) where
   pub gives-short : short x n ≡ true → Gives (accepted l) x (Refused 7 n) x
-  unfolding andThen refuseIf writeList
+  unfolding andThen room refuseIf writeList
   gives-short s = let t = rw e at s in record { answer = rw (t, e); slices = rw (t, writeList) }
 
   pub gives-list : short x n ≡ false → (y : Slices) → y ≡ holding l x → Gives (accepted l) x (Accepted n) y
-  unfolding andThen refuseIf writeList
+  unfolding andThen room refuseIf writeList
   gives-list s y h = let t = rw e at s in record { answer = rw (t, e); slices = h ∙ rw (t, writeList) }
 
 -- three columns are the slices

@@ -13,7 +13,7 @@ use Rattle.rules.specs.Limits.{maxSource, maxLines, maxLabels, addressLimit}
 use Rattle.rules.specs.Text.{Text, cutAt}
 use Rattle.rules.specs.Label.{Table}
 use Rattle.rules.specs.Answer.{Answer as Ruled, accepted, refused, refuseIf, refuseAt, andThen}
-use Rattle.rules.specs.Assemble.{Place, Pass, Slices, firstHigh, firstPass, secondPass, linesOf, writeList, assemble, assembleAnswer, assembleSlices, dataPlaces, codePlaces}
+use Rattle.rules.specs.Assemble.{Place, Pass, Slices, firstHigh, firstPass, secondPass, linesOf, writeList, assemble, assembleAnswer, assembleSlices, dataPlaces, codePlaces, assembleBy, checks, passAtBy}
 use Rattle.answer.specs.Answer.{answerOf}
 use Rattle.answer.specs.declared.Answer.{Answer}
 use Rattle.answer.specs.declared.Answer.the-variants.{Refused}
@@ -25,26 +25,26 @@ use Rattle.assemble.proofs.Lists.{gives-refusal}
 
 module _ (base : ℕ) (s : Text) where
   refused-1 : maxSource < length s → assemble base s ≡ refused 1 (length s)
-  unfolding assemble refuseIf
+  unfolding checks passAtBy assembleBy andThen refuseIf
   refused-1 h = rw (lt-ltb maxSource (length s) h)
 
   module _ (h : length s ≤ maxSource) where
     refused-2 : (i : ℕ) → firstHigh 0 s ≡ some i → assemble base s ≡ refused 2 i
-    unfolding assemble refuseIf refuseAt
+    unfolding checks passAtBy assembleBy andThen refuseIf refuseAt
     refused-2 i e = rw (le-ltb maxSource (length s) h, e)
 
     module _ (e : firstHigh 0 s ≡ none) where
       refused-3 : maxLines < length (cutAt 10 s) → assemble base s ≡ refused 3 (length (cutAt 10 s))
-      unfolding assemble refuseIf refuseAt
+      unfolding checks passAtBy assembleBy andThen refuseIf refuseAt
       refused-3 k = rw (le-ltb maxSource (length s) h, e, lt-ltb maxLines (length (cutAt 10 s)) k)
 
       module _ (k : length (cutAt 10 s) ≤ maxLines) where
         refused-4 : addressLimit ≤ base → assemble base s ≡ refused 4 0
-        unfolding assemble refuseIf refuseAt
+        unfolding checks passAtBy assembleBy andThen refuseIf refuseAt
         refused-4 l = rw (le-ltb maxSource (length s) h, e, le-ltb maxLines (length (cutAt 10 s)) k, le-leb addressLimit base l)
 
         in-limits : base < addressLimit → assemble base s ≡ passesOf base s
-        unfolding assemble refuseIf refuseAt
+        unfolding checks passAtBy assembleBy andThen refuseIf refuseAt
         in-limits l = rw (le-ltb maxSource (length s) h, e, le-ltb maxLines (length (cutAt 10 s)) k, lt-leb addressLimit base l)
 
 -- a call by what its list is

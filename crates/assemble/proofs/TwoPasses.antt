@@ -14,7 +14,7 @@ use Rattle.rules.specs.Text.{Text, cutAt}
 use Rattle.rules.specs.Line.{Name, Body, Line, lineOf}
 use Rattle.rules.specs.Label.{Label, Table, find, recorded, hasRoom}
 use Rattle.rules.specs.Answer.{Answer as Ruled, accepted, refused, andThen}
-use Rattle.rules.specs.Assemble.{SourceLine, Step, halt, full, next, step, Pass, Place, Slices, firstPass, secondPass, linesOf, dataPlaces, codePlaces}
+use Rattle.rules.specs.Assemble.{SourceLine, Step, halt, full, next, step, Pass, Place, Slices, firstPass, linesOf, dataPlaces, codePlaces, secondPassBy}
 use Rattle.answer.specs.declared.Answer.{Answer}
 use Rattle.answer.specs.declared.Answer.the-variants.{Accepted, Refused}
 use Rattle.label.specs.Table.{cellOf, tableOf, Held, AllBelow, no-label}
@@ -112,7 +112,7 @@ module _ (base : ℕ) (s : Text) (cells after : List ℕ) (r : Collected) (label
   second lines cells kept k a = record { walking = walking; kept = all-kept s r cells kept labels values e a; values-are = values-is; lines-are = k }
 
   list-is : passesOf base s ≡ accepted (listBy (tableOf s after labels) base s)
-  unfolding andThen secondPass
+  unfolding andThen secondPassBy
   list-is = rw (done .is, puts-is, table-is)
 
   pub passes-done : (x y : Slices) (a : Answer) → Gives (accepted (listBy (tableOf s after labels) base s)) x a y → Gives (passesOf base s) x a y

@@ -6,8 +6,8 @@ use mathlib.Core.List.{List, []}
 use lib.ListN.{length}
 use Rattle.rules.specs.Limits.{maxSource, maxLines, addressLimit}
 use Rattle.rules.specs.Text.{Text, cutAt}
-use Rattle.rules.specs.Answer.{Answer as Ruled, accepted, refuseIf, andThen}
-use Rattle.rules.specs.Assemble.{Place, Slices, short, writeList, firstPass, secondPass, linesOf, assembleAnswer, assembleSlices}
+use Rattle.rules.specs.Answer.{Answer as Ruled, andThen}
+use Rattle.rules.specs.Assemble.{Place, Slices, short, room, writeList, firstPass, wordsOf, encoded, linesOf, assembleAnswer, assembleSlices}
 use Rattle.answer.specs.Answer.{answerOf}
 use Rattle.answer.specs.declared.Answer.{Answer}
 use Rattle.label.specs.Table.{tableOf}
@@ -18,7 +18,7 @@ use Rattle.assemble.specs.declared.Fit.the-variants.{Fits, Short}
 
 -- a call's answer, once the list or a refusal is known: "then 7"
 abbrev pub called : Ruled (List Place) → Slices → Ruled ℕ
-called list x = andThen list (λ l. refuseIf (short x (length l)) 7 (length l) (accepted (length l)))
+called list x = andThen list (room x)
 
 -- what a call gives from there
 pub record Gives (list : Ruled (List Place)) (x : Slices) (r : Answer) (y : Slices) : Type 0 where
@@ -56,7 +56,7 @@ fitOf l x = fitBy (short x (length l)) (length l)
 
 -- both passes
 abbrev pub passesOf : ℕ → Text → Ruled (List Place)
-passesOf base source = andThen (firstPass base base [] (linesOf source)) (λ p. accepted (secondPass p))
+passesOf base source = andThen (firstPass base base [] (linesOf source)) (encoded wordsOf)
 
 -- the contract of `assemble`: by paper 01, the answer and every place of the slices
 pub record Assembled (base : ℕ) (source : Text) (x : Slices) (r : Answer) (y : Slices) : Type 0 where

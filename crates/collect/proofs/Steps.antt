@@ -11,7 +11,7 @@ use Rattle.rules.specs.Limits.{addressLimit}
 use Rattle.rules.specs.Line.{Name, Body, bare, size, Line, skipped, end, org, item, lineOf}
 use Rattle.rules.specs.Label.{Label, Table, find, recorded, hasRoom, recordAll}
 use Rattle.rules.specs.Answer.{Answer, accepted, refused, andThen}
-use Rattle.rules.specs.Assemble.{SourceLine, Put, Pass, Step, halt, full, next, advance, step, putting, firstPass, dataPlaces}
+use Rattle.rules.specs.Assemble.{SourceLine, Put, Pass, Step, halt, full, next, advance, step, putting, firstPass, dataPlaces, advanceBy, firstPassBy, stepBy}
 use Rattle.scan.specs.Walk.{addressAfter, bodyOf, isEnd, putAt}
 use Rattle.scan.proofs.WalkLaws.{then-accepted, pass-halts, pass-full, pass-out, pass-more}
 use Rattle.collect.specs.declared.Collected.{Collected}
@@ -25,19 +25,19 @@ stepOf a b (some t) = next a t b
 
 -- END halts; any other line records its labels, and leaves the address after it and its body
 pub step-end : (base i a : ℕ) (t : Table) (l : Line) → isEnd l ≡ true → step base i a t l ≡ halt
-unfolding step isEnd
+unfolding stepBy isEnd
 step-end base i a t skipped e = absurd (false≢true e)
 step-end base i a t end e = refl
 step-end base i a t (org v) e = absurd (false≢true e)
 step-end base i a t (item ns b) e = absurd (false≢true e)
 
 advance-is : (a : ℕ) (b : Body) (o : Option Table) → advance a b o ≡ stepOf (a + size b) b o
-unfolding advance stepOf
+unfolding advanceBy stepOf
 advance-is a b none = refl
 advance-is a b (some t) = refl
 
 step-reads : (base i a : ℕ) (t : Table) (l : Line) → isEnd l ≡ false → step base i a t l ≡ stepOf (addressAfter base a l) (bodyOf l) (recordAll i a (namesOf l) t)
-unfolding step isEnd stepOf addressAfter bodyOf namesOf recordAll
+unfolding stepBy isEnd stepOf addressAfter bodyOf namesOf recordAll
 step-reads base i a t skipped e = refl
 step-reads base i a t end e = absurd (false≢true (sym e))
 step-reads base i a t (org none) e = refl
@@ -56,7 +56,7 @@ module _ (base i a : ℕ) (t : Table) (l : Line) (e : isEnd l ≡ false) where
 -- what is left of the answer
 module _ (d base a : ℕ) (t : Table) where
   pub collected-last : collectedFrom d (firstPass base a t []) ≡ Done (length t) d
-  unfolding collectedFrom firstPass flatMap
+  unfolding collectedFrom firstPassBy flatMap
   collected-last = rw (add-zero d)
 
   module _ (l : SourceLine) (ls : List SourceLine) where
@@ -119,7 +119,7 @@ record-some i a (n ∷ ns) t t′ e = go (hasRoom (find (n .text) t) t) refl (re
 
 -- an accepted pass stops with its labels
 pub stop-accepted : (base a : ℕ) (t : Table) (ls : List SourceLine) (p : Pass) → firstPass base a t ls ≡ accepted p → stopLabels base a t ls ≡ p .labels
-unfolding firstPass stopLabels
+unfolding firstPassBy stopLabels
 stop-accepted base a t [] p e = ap (λ (x : Answer Pass). elim x [ accepted y ↦ y .labels | refused n k ↦ [] ]) e
 stop-accepted base a t (l ∷ ls) p e = go (step base (l .start) a t (lineOf (l .text))) refl (λ a′ t′ q. stop-accepted base a′ t′ ls q)
   where

@@ -11,7 +11,7 @@ use Rattle.rules.specs.Limits.{addressLimit}
 use Rattle.rules.specs.Text.{Text, cutAt}
 use Rattle.rules.specs.Line.{Name, Body, Line, skipped, end, org, item, lineOf}
 use Rattle.rules.specs.Label.{Table, recordAll}
-use Rattle.rules.specs.Assemble.{SourceLine, Step, halt, full, next, advance, step, firstPass, numbered, linesOf}
+use Rattle.rules.specs.Assemble.{SourceLine, Step, halt, full, next, advance, step, firstPass, numbered, linesOf, advanceBy, stepBy}
 use Rattle.label.specs.Table.{cellOf, tableOf, Held}
 use Rattle.label.proofs.Table.{table-empty, table-length}
 use Rattle.scan.specs.Lines.{linesFrom}
@@ -27,14 +27,14 @@ use Rattle.collect.proofs.Naming.{room-less, some-longer, stored-from, 
 
 -- a step loses no label
 advance-grows : (i a a′ : ℕ) (ns : List Name) (t t′ : Table) (b c : Body) (o : Option Table) → recordAll i a ns t ≡ o → advance a c o ≡ next a′ t′ b → length t ≤ length t′
-unfolding advance
+unfolding advanceBy
 advance-grows i a a′ ns t t′ b c none r e = absurd (false≢true cc)
 advance-grows i a a′ ns t t′ b c (some u) r e =
     let f : u ≡ t′ = cc in
     omega (arith, some-longer i a ns t, ap length (record-some i a ns t u r ∙ f))
 
 step-grows : (base i a a′ : ℕ) (t t′ : Table) (b : Body) (l : Line) → step base i a t l ≡ next a′ t′ b → length t ≤ length t′
-unfolding step
+unfolding stepBy
 step-grows base i a a′ t t′ b skipped e = let f : t ≡ t′ = cc in omega (arith, ap length f)
 step-grows base i a a′ t t′ b end e = absurd (false≢true cc)
 step-grows base i a a′ t t′ b (org none) e = let f : t ≡ t′ = cc in omega (arith, ap length f)

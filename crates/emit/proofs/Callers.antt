@@ -12,7 +12,7 @@ use Rattle.rules.specs.Limits.{maxSource}
 use Rattle.rules.specs.Text.{Text, cutWhere, cutAt}
 use Rattle.rules.specs.Line.{Body, bare, directive, instruction, lineOf}
 use Rattle.rules.specs.Label.{Table}
-use Rattle.rules.specs.Assemble.{SourceLine, Put, Place, Pass, numbered, linesOf, placesAt, dataCells, codeCells, dataPlaces, codePlaces, secondPass}
+use Rattle.rules.specs.Assemble.{SourceLine, Put, Place, Pass, numbered, linesOf, placesAt, dataCells, dataPlaces, secondPass, codePlacesBy, secondPassBy, wordsOf}
 use Rattle.scan.specs.Walk.{addressAfter, bodyOf, isEnd, putAt, walk}
 use Rattle.scan.proofs.WalkLaws.{Walked, walk-end, walk-more}
 use Rattle.encode.proofs.Callers.{code-words}
@@ -23,7 +23,7 @@ use Rattle.emit.proofs.LineCode.{code-two, code-places}
 -- the words of the data and those of the instructions are the list of an accepted first pass
 pub both-parts : (base : ℕ) (source : Text) (p : Pass) → Walked base base (linesOf source) p
     → secondPass p ≡ listOf Values (p .labels) base source ++ listOf Instructions (p .labels) base source
-unfolding secondPass
+unfolding secondPassBy
 both-parts base source p w = rw (w .puts)
 
 length-numbered : (n i : ℕ) (ts : List Text) → length (numbered n i ts) ≡ length ts
@@ -58,7 +58,7 @@ module _ (part : Part) (t : Table) where
 -- ---- both parts together: a line has a value or an instruction, not both
 module _ (t : Table) where
   both-few : (a : ℕ) (b : Body) → length (partPlaces Values t (record { address = a; body = b })) + length (partPlaces Instructions t (record { address = a; body = b })) ≤ 2
-  unfolding dataPlaces codePlaces dataCells codeCells placesAt
+  unfolding dataPlaces codePlacesBy dataCells wordsOf placesAt
   both-few a bare = omega arith
   both-few a (directive n v) = let h = put-few Values t (record { address = a; body = directive n v }) in omega arith
   both-few a (instruction m f ps) = let h = put-few Instructions t (record { address = a; body = instruction m f ps }) in omega arith

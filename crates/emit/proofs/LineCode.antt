@@ -8,7 +8,7 @@ use native.Mathlib.Omega.{arith}
 use Rattle.rules.specs.Text.{Text}
 use Rattle.rules.specs.Line.{Body, bare, directive, instruction, instructionOf, Line, skipped, end, org, item}
 use Rattle.rules.specs.Label.{Table}
-use Rattle.rules.specs.Assemble.{placeOf, placesAt, valueCells, dataCells, dataPlaces, codePlaces}
+use Rattle.rules.specs.Assemble.{placeOf, placesAt, valueCells, dataCells, dataPlaces, codePlacesBy}
 use Rattle.scan.specs.Walk.{addressAfter, bodyOf, isEnd}
 use Rattle.encode.specs.Code.{codeOf, placesOf, codeLength}
 use Rattle.encode.specs.declared.Code.{Code}
@@ -28,7 +28,7 @@ code-two (Label w x) = omega arith
 module _ (t : Table) (a : ℕ) where
   -- a code loses no word
   pub code-places : (part : Part) (b : Body) → placesOf a (codeIn part t a b) ≡ partPlaces part t (record { address = a; body = b })
-  unfolding dataPlaces codePlaces dataCells valueCells placesAt placeOf
+  unfolding dataPlaces codePlacesBy dataCells valueCells placesAt placeOf
   code-places Values bare = refl
   code-places Values (directive n none) = refl
   code-places Values (directive n (some v)) = refl

@@ -10,7 +10,7 @@ use Rattle.rules.specs.Line.{Body, bare, directive, instruction}
 use Rattle.rules.specs.Label.{Table}
 use Rattle.rules.specs.Encode.{Cell, Operation, moveq, move, movea, muls, tst, subq, asl, dbra, nop, simhalt, add, sub, cmp, jmp, branch}
 use Rattle.rules.specs.Encode.{mnemonics, operationIn, dataRegister, addressRegister, two, one, oneOrMore, displacement, isSome, jumps, encodeMove, encodeOperation, encode}
-use Rattle.rules.specs.Assemble.{placeOf, placesAt, codeCells}
+use Rattle.rules.specs.Assemble.{placeOf, placesAt, codeCells, wordsOf}
 use Rattle.encode.specs.Code.{codeOf, placesOf, codeLength}
 use Rattle.encode.specs.Rows.{registersRow, moveqRow, quickRow, highRow, lowRow, fromIndirect, toIndirect, fromLabel, toLabel}
 use Rattle.encode.specs.Body.{encodeBody}
@@ -84,7 +84,7 @@ pub encode-places : (ls : Table) (a : ℕ) (m : Text) (ps : List Text) → place
 encode-places ls a m ps = places (shaped-encode ls a m ps) a
 
 pub body-places : (ls : Table) (a : ℕ) (b : Body) → placesOf a (codeOf (encodeBody ls a b)) ≡ placesAt a (codeCells ls a b)
-unfolding encodeBody codeCells placesAt
+unfolding encodeBody wordsOf placesAt
 body-places ls a bare = refl
 body-places ls a (directive n v) = refl
 body-places ls a (instruction m f ps) = encode-places ls a m ps

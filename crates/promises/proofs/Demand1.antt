@@ -9,28 +9,38 @@ use lib.Seq.{drop-at}
 use lib.IntN.{ℤ}
 use Rattle.rules.specs.Text.{Text}
 use Rattle.rules.specs.Answer.{Answer, accepted, refused, refuseIf, refuseAt, andThen}
-use Rattle.rules.specs.Assemble.{assemble, Place, Slices, short, assembleAnswer, over, holding, writeList, assembleSlices}
+use Rattle.rules.specs.Assemble.{checks, passAtBy, assemble, Place, Slices, short, room, assembleAnswer, over, holding, writeList, assembleSlices}
 use Rattle.rules.specs.Relocate.{moveAddresses, moveWords, moveAnswer, moveBy, moveSlices}
 use Rattle.rules.specs.Tally.{listIn, held, movedPlace}
-use Rattle.promises.specs.Demand1.{AssembleCondition, MoveCondition, AssembleRefusesExactly, MoveRefusesExactly, RefusalChangesNothing, SamePast, Assembled, Moved, AcceptedWrites}
-use Rattle.promises.proofs.Demand1Order.{clash}
-use Rattle.promises.proofs.Demand1Checks.{none-holds, refuses-exactly}
+use Rattle.promises.specs.Demand1.{SourceCondition, PassCondition, AssembleCondition, MoveCondition, checking, passing, assembling, moving, ChecksRefuseExactly, PassRefusesExactly, AssembleRefusesExactly, MoveRefusesExactly, RefusalChangesNothing, SamePast, Assembled, Moved, AcceptedWrites}
+use Rattle.promises.proofs.Compared.{clash}
+use Rattle.promises.proofs.Stages.{apart, are-apart, none-holds, refuses-exactly}
 use Rattle.promises.proofs.Demand1Assemble as A
 use Rattle.promises.proofs.Demand1Move as M
 
+pub checks-refuse-exactly : ChecksRefuseExactly
+unfolding ChecksRefuseExactly apart
+checks-refuse-exactly X s a =
+    refuses-exactly (SourceCondition s) checking (are-apart checking refl) (A.source-known s) (checks s (accepted a)) (A.checks-answered X s a)
+
+pub pass-refuses-exactly : PassRefusesExactly
+unfolding PassRefusesExactly apart
+pass-refuses-exactly z base s =
+    refuses-exactly (PassCondition z base s) passing (are-apart passing refl) (A.pass-known z base s) (passAtBy z base s) (A.pass-answered z base s)
+
 pub assemble-refuses-exactly : AssembleRefusesExactly
-unfolding AssembleRefusesExactly
+unfolding AssembleRefusesExactly apart
 assemble-refuses-exactly base s x =
-    refuses-exactly (AssembleCondition base s x) 8 (A.last base s x) (A.once base s x) (assembleAnswer base s x) (A.answered base s x)
+    refuses-exactly (AssembleCondition base s x) assembling (are-apart assembling refl) (A.known base s x) (assembleAnswer base s x) (A.answered base s x)
 
 pub move-refuses-exactly : MoveRefusesExactly
-unfolding MoveRefusesExactly
+unfolding MoveRefusesExactly apart
 move-refuses-exactly x count d =
-    refuses-exactly (MoveCondition x count d) 12 (M.last x count d) (M.once x count d) (moveAnswer x count d) (M.answered x count d)
+    refuses-exactly (MoveCondition x count d) moving (are-apart moving refl) (M.known x count d) (moveAnswer x count d) (M.answered x count d)
 
 -- a refused call
 unwritten : (base : ℕ) (s : Text) (x : Slices) (n p : ℕ) → assembleAnswer base s x ≡ refused n p → assembleSlices base s x ≡ x
-unfolding assembleAnswer assembleSlices andThen writeList refuseIf
+unfolding assembleAnswer room assembleSlices andThen writeList refuseIf
 unwritten base s x n p e = go (assemble base s) refl
   where
     listed : (l : List Place) (y : Bool) → short x (length l) ≡ y → refuseIf (short x (length l)) 7 (length l) (accepted (length l)) ≡ refused n p → writeList (accepted l) x ≡ x
@@ -96,11 +106,11 @@ module _ (d : ℤ) where
 
 -- an accepted call
 accepted-list : (base : ℕ) (s : Text) (x : Slices) (n : ℕ) → assembleAnswer base s x ≡ accepted n → Assembled base s n x (assembleSlices base s x)
-unfolding assembleAnswer assembleSlices andThen writeList refuseIf
+unfolding assembleAnswer room assembleSlices andThen writeList refuseIf apart
 accepted-list base s x n e = go (assemble base s) refl
   where
     clear : (m q : ℕ) → ¬ AssembleCondition base s x m q
-    clear = none-holds (AssembleCondition base s x) 8 (A.last base s x) (A.once base s x) n (assembleAnswer base s x) e (A.answered base s x)
+    clear = none-holds (AssembleCondition base s x) assembling (are-apart assembling refl) (A.known base s x) n (assembleAnswer base s x) e (A.answered base s x)
 
     listed : (l : List Place) → assemble base s ≡ accepted l → (y : Bool) → short x (length l) ≡ y
         → refuseIf (short x (length l)) 7 (length l) (accepted (length l)) ≡ accepted n → Assembled base s n x (writeList (accepted l) x)
@@ -133,11 +143,11 @@ moved-count x count d n e =
     cc
 
 accepted-move : (x : Slices) (count : ℕ) (d : ℤ) (n : ℕ) → moveAnswer x count d ≡ accepted n → Moved count d n x (moveSlices x count d)
-unfolding moveSlices moveBy held
+unfolding moveSlices moveBy held apart
 accepted-move x count d n e =
     rw e
     (record {
-      clear = none-holds (MoveCondition x count d) 12 (M.last x count d) (M.once x count d) n (moveAnswer x count d) e (M.answered x count d);
+      clear = none-holds (MoveCondition x count d) moving (are-apart moving refl) (M.known x count d) n (moveAnswer x count d) e (M.answered x count d);
       counted = moved-count x count d n e;
       written = held-moved d n (x .addresses) (x .words) (x .marks);
       past = record { addresses = past-addresses d n (x .addresses); words = past-words d n (x .marks) (x .words); marks = refl };

@@ -1,22 +1,24 @@
--- Conditions 1 to 7 are those by which assembling refuses, in 01's order. Assumes nothing.
-use Prim.Native.Nat.{ℕ, suc, _<_, _≤_}
+-- Conditions 1 to 3, 1 to 6 and 1 to 7 are those by which the checks, the pass at a base and assembling refuse, in 01's order.
+-- Assumes nothing.
+use Prim.Native.Nat.{ℕ, suc, _<_}
 use mathlib.Core.Path.{_≡_, refl, ap, _∙_}
 use mathlib.Core.Bool.{Bool, true, false, cond}
 use mathlib.Core.List.{List, [], _∷_}
 use native.Mathlib.Omega.{arith}
-use borrow.Author.Tests.{ltb-true, ltb-false, leb-true, leb-false}
+use borrow.Author.Tests.{ltb-true, ltb-false, lt-ltb, leb-true, leb-false, le-leb}
 use lib.ListN.{length, getD}
 use lib.Dec.{leb, ltb, eqb}
 use Rattle.rules.specs.Limits.{maxSource, maxLines, addressLimit}
 use Rattle.rules.specs.Text.{Text, onFirst, cutWhere, cutAt}
-use Rattle.rules.specs.Answer.{accepted}
-use Rattle.rules.specs.Assemble.{linesOf, firstPass, secondPass, firstHigh, assemble, Place, Slices, short, assembleAnswer}
+use Rattle.rules.specs.Line.{size}
+use Rattle.rules.specs.Answer.{Answer, accepted}
+use Rattle.rules.specs.Assemble.{Sizes, wordsOf, firstHigh, checks, passAtBy, passAt, encoded, assembleBy, assemble, Place, Slices, short, room, assembleAnswer}
 use Rattle.rules.specs.Relocate.{firstIndex}
-use Rattle.promises.specs.Demand1.{lineCount, AssembleCondition, source-over, byte-over, lines-over, base-over, address-over, labels-over, slice-short, round}
-use Rattle.promises.proofs.Demand1Order.{Round, six, own, round-of}
-use Rattle.promises.proofs.Demand1Search.{Found, lowest-once, search-finds}
-use Rattle.promises.proofs.Demand1Checks.{Clear, Through, passed, refuse-if, refuse-at, and-then}
-use Rattle.promises.proofs.Demand1Short.{shorter, not-shorter}
+use Rattle.promises.specs.Stages.{Stage, all, Checked}
+use Rattle.promises.specs.Demand1.{lineCount, Lowest, SourceCondition, source-over, byte-over, lines-over, PassCondition, of-source, base-over, address-over, labels-over, AssembleCondition, of-pass, slice-short, checking, passing, assembling}
+use Rattle.promises.proofs.Demand1Search.{Found, search-finds}
+use Rattle.promises.proofs.Stages.{isChecked, not-checked, checked-by, still-checked, Runs, done, refuse-if, refuse-at, and-then, runs-by}
+use Rattle.promises.proofs.Demand1Short.{shorter, is-short}
 use Rattle.promises.proofs.Demand1Passes.{pass-through}
 
 -- the lines are counted by their ends
@@ -51,100 +53,101 @@ high-first i (b ∷ s) = go (ltb 127 b) refl (high-first (suc i) s)
 high-found : (s : Text) → Found (λ i. 127 < getD s i 0) (length s) (firstHigh 0 s)
 high-found s = rw (high-first 0 s) (search-finds (λ b. ltb 127 b) (λ b. 127 < b) (λ b. ltb-true 127 b) (λ b e h. let k = ltb-false 127 b e in omega arith) (length s) s (omega arith))
 
+-- the number that a condition has is one of its stages'
+pub source-known : (s : Text) (n p : ℕ) → SourceCondition s n p → Checked n checking
+unfolding isChecked
+source-known s n p (source-over h) = checked-by 1 checking refl
+source-known s n p (byte-over h) = checked-by 2 checking refl
+source-known s n p (lines-over h) = checked-by 3 checking refl
+
+-- the checks, and what follows them where they pass
+module _ (s : Text) where
+  to-1 : (q : ℕ) → SourceCondition s 1 q → (ltb maxSource (length s) ≡ true) × (q ≡ length s)
+  to-1 q (source-over h) = (lt-ltb maxSource (length s) h, refl)
+
+  to-2 : (q : ℕ) → SourceCondition s 2 q → Lowest (λ i. 127 < getD s i 0) (length s) q
+  to-2 q (byte-over h) = h
+
+  to-3 : (q : ℕ) → SourceCondition s 3 q → (ltb maxLines (lineCount s) ≡ true) × (q ≡ lineCount s)
+  to-3 q (lines-over h) = (lt-ltb maxLines (lineCount s) h, refl)
+
+  -- among conditions that have those of a source
+  module _ (C : ℕ → ℕ → Type 0) (to : (n p : ℕ) → SourceCondition s n p → C n p) (from : (n p : ℕ) → Checked n checking → C n p → SourceCondition s n p) where
+    pub checks-run : {A : Type 0} {ss : List Stage} (a : Answer A) → Runs C ss a → Runs C (all 1 ∷ all 2 ∷ all 3 ∷ ss) (checks s a)
+    unfolding checks isChecked
+    checks-run a r =
+        refuse-if C 1 (length s) (ltb maxSource (length s)) _
+        (λ e. to 1 (length s) (source-over (ltb-true maxSource (length s) e)))
+        (λ q c. to-1 q (from 1 q (checked-by 1 checking refl) c)) λ e1.
+        refuse-at C (λ i. 127 < getD s i 0) 2 (length s) (firstHigh 0 s) _ (high-found s)
+        (λ p h. to 2 p (byte-over h)) (λ q c. to-2 q (from 2 q (checked-by 2 checking refl) c))
+        (rw (counted s .0)
+        (refuse-if C 3 (lineCount s) (ltb maxLines (lineCount s)) a
+        (λ e. to 3 (lineCount s) (lines-over (ltb-true maxLines (lineCount s) e)))
+        (λ q c. to-3 q (from 3 q (checked-by 3 checking refl) c)) (λ e3. r)))
+
+pub checks-answered : (A : Type 0) (s : Text) (a : A) → Runs (SourceCondition s) checking (checks s (accepted a))
+checks-answered A s a = checks-run s (SourceCondition s) (λ n p c. c) (λ n p k c. c) (accepted a) done
+
+-- the pass at a base
+module _ (z : Sizes) (base : ℕ) (s : Text) where
+  pub pass-known : (n p : ℕ) → PassCondition z base s n p → Checked n passing
+  unfolding isChecked
+  pass-known n p (of-source (source-over h)) = checked-by 1 passing refl
+  pass-known n p (of-source (byte-over h)) = checked-by 2 passing refl
+  pass-known n p (of-source (lines-over h)) = checked-by 3 passing refl
+  pass-known n p (base-over h) = checked-by 4 passing refl
+  pass-known n p (address-over r e h) = checked-by 5 passing refl
+  pass-known n p (labels-over r e h) = checked-by 6 passing refl
+
+  from-pass : (n p : ℕ) → Checked n checking → PassCondition z base s n p → SourceCondition s n p
+  unfolding isChecked
+  from-pass n p k (of-source c) = c
+  from-pass n p k (base-over h) = absurd (not-checked 4 checking refl k)
+  from-pass n p k (address-over r e h) = absurd (not-checked 5 checking refl k)
+  from-pass n p k (labels-over r e h) = absurd (not-checked 6 checking refl k)
+
+  to-4 : (q : ℕ) → PassCondition z base s 4 q → (leb addressLimit base ≡ true) × (q ≡ 0)
+  unfolding isChecked
+  to-4 q (base-over h) = (le-leb addressLimit base h, refl)
+  to-4 q (of-source c) = absurd (not-checked 4 checking refl (source-known s 4 q c))
+
+  pub pass-answered : Runs (PassCondition z base s) passing (passAtBy z base s)
+  unfolding passAtBy
+  pass-answered =
+      checks-run s (PassCondition z base s) (λ n p. of-source) from-pass _
+      (refuse-if (PassCondition z base s) 4 0 (leb addressLimit base) _
+      (λ e. base-over (leb-true addressLimit base e)) to-4
+      (λ e. pass-through z base s (leb-false addressLimit base e)))
+
+-- assembling
 module _ (base : ℕ) (s : Text) (x : Slices) where
   abbrev C : ℕ → ℕ → Type 0
   C = AssembleCondition base s x
 
-  -- a test that fails rules its condition out
-  not-1 : length s ≤ maxSource → (q : ℕ) → ¬ C 1 q
-  not-1 h q (source-over k) = omega arith
+  pub known : (n p : ℕ) → C n p → Checked n assembling
+  unfolding isChecked
+  known n p (of-pass c) = still-checked (all 7 ∷ []) (pass-known size base s n p c)
+  known n p (slice-short e h) = checked-by 7 assembling refl
 
-  not-2 : ((i : ℕ) → i < length s → ¬ (127 < getD s i 0)) → (q : ℕ) → ¬ C 2 q
-  not-2 h q (byte-over k) = h q (k .inside) (k .holds)
+  from-assemble : (n p : ℕ) → Checked n passing → C n p → PassCondition size base s n p
+  unfolding isChecked
+  from-assemble n p k (of-pass c) = c
+  from-assemble n p k (slice-short e h) = absurd (not-checked 7 passing refl k)
 
-  not-3 : lineCount s ≤ maxLines → (q : ℕ) → ¬ C 3 q
-  not-3 h q (lines-over k) = omega arith
+  to-7 : (l : List Place) → assemble base s ≡ accepted l → (q : ℕ) → C 7 q → (short x (length l) ≡ true) × (q ≡ length l)
+  unfolding isChecked
+  to-7 l e q (slice-short {l = k} g h) = let u : k ≡ l = cc in (is-short x (length l) (rw u at h), ap length u)
+  to-7 l e q (of-pass c) = absurd (not-checked 7 passing refl (pass-known size base s 7 q c))
 
-  not-4 : base < addressLimit → (q : ℕ) → ¬ C 4 q
-  not-4 h q (base-over k) = omega arith
+  listed : Runs C passing (assemble base s)
+  unfolding assembleBy
+  listed =
+      and-then C [] (passAt base s) (encoded wordsOf)
+      (runs-by (PassCondition size base s) C passing (passAt base s) (λ n p. of-pass) from-assemble (pass-answered size base s)) (λ p e. done)
 
-  not-7 : (l : List Place) → assemble base s ≡ accepted l → short x (length l) ≡ false → (q : ℕ) → ¬ C 7 q
-  not-7 l e f q (slice-short {l = k} g h) = let u : k ≡ l = cc in not-shorter x (length l) f (rw u at h)
-
-  -- the numbers are 1 to 7
-  numbers : (n p : ℕ) → C n p → (0 < n) × (n < 8)
-  numbers n p (source-over h) = omega arith
-  numbers n p (byte-over h) = omega arith
-  numbers n p (lines-over h) = omega arith
-  numbers n p (base-over h) = omega arith
-  numbers n p (address-over r e h) = omega arith
-  numbers n p (labels-over r e h) = omega arith
-  numbers n p (slice-short e h) = omega arith
-
-  -- the place of a number, where it has but one
-  pub once : (n q p : ℕ) → C n q → C n p → (round n ≡ 5 → q ≡ p) → q ≡ p
-  unfolding round
-  once n q p (source-over h) (source-over k) f = refl
-  once n q p (byte-over h) (byte-over k) f = lowest-once (λ i. 127 < getD s i 0) (length s) q p h k
-  once n q p (lines-over h) (lines-over k) f = refl
-  once n q p (base-over h) (base-over k) f = refl
-  once n q p (address-over r e h) (address-over o g k) f = f refl
-  once n q p (labels-over r e h) (labels-over o g k) f = f refl
-  once n q p (slice-short e h) (slice-short g i) f = cc
-
-  -- no number has the sixth round
-  clear-7 : Clear C 6 → Clear C 7
-  clear-7 c m q h = go (round-of m)
-    where
-      go : Round m → ¬ C m q
-      go (six e f) = c m q (omega arith)
-      go (own e f) = c m q (omega arith)
-
-  -- no condition stands before the first
-  clear-1 : Clear C 1
-  clear-1 m q h c = go (round-of m) (numbers m q c)
-    where
-      go : Round m → (0 < m) × (m < 8) → ⊥
-      go (six e f) k = omega arith
-      go (own e f) k = omega arith
-
-  -- where 4 does not hold
-  base-low : Clear C 5 → base < addressLimit
-  unfolding round
-  base-low c = go (leb addressLimit base) refl
-    where
-      go : (y : Bool) → leb addressLimit base ≡ y → base < addressLimit
-      go true e = absurd (c 4 0 (omega arith) (base-over (leb-true addressLimit base e)))
-      go false e = leb-false addressLimit base e
-
-  -- 1, 2, 3, 4, then the lines
-  assembled : Through C 7 (assemble base s)
-  unfolding assemble linesOf
-  assembled =
-      refuse-if C 7 1 (length s) (ltb maxSource (length s)) _ (omega arith) clear-1
-      (λ e. source-over (ltb-true maxSource (length s) e)) (λ e. not-1 (ltb-false maxSource (length s) e)) λ c2.
-      refuse-at C (λ i. 127 < getD s i 0) 7 2 (length s) (firstHigh 0 s) _ (high-found s) (omega arith) c2
-      (λ p h. byte-over h) not-2 λ c3.
-      refuse-if C 7 3 (length (cutAt 10 s)) (ltb maxLines (length (cutAt 10 s))) _ (omega arith) c3
-      (λ e. rw (counted s .0) (lines-over (rw (counted s .0) at (ltb-true maxLines (length (cutAt 10 s)) e))))
-      (λ e. not-3 (rw (counted s .0) at (ltb-false maxLines (length (cutAt 10 s)) e))) λ c4.
-      refuse-if C 7 4 0 (leb addressLimit base) _ (omega arith) c4
-      (λ e. base-over (leb-true addressLimit base e)) (λ e. not-4 (leb-false addressLimit base e)) λ c5.
-      and-then C 6 7 (firstPass base base [] (linesOf s)) (λ p. accepted (secondPass p)) (pass-through base s x c5 (base-low c5))
-      (λ p e c. passed (clear-7 c))
-
-  -- then 7
-  pub answered : Through C 8 (assembleAnswer base s x)
-  unfolding assembleAnswer
+  pub answered : Runs C assembling (assembleAnswer base s x)
+  unfolding assembleAnswer room
   answered =
-      and-then C 7 8 (assemble base s) _ assembled λ l e c7.
-      refuse-if C 8 7 (length l) (short x (length l)) (accepted (length l)) (omega arith) c7
-      (λ f. slice-short e (shorter x (length l) f)) (not-7 l e) (λ c8. passed c8)
-
-  -- no condition stands behind the seventh round
-  pub last : (n p : ℕ) → C n p → round n < 8
-  last n p c = go (round-of n) (numbers n p c)
-    where
-      go : Round n → (0 < n) × (n < 8) → round n < 8
-      go (six e f) k = omega arith
-      go (own e f) k = omega arith
+      and-then C (all 7 ∷ []) (assemble base s) (room x) listed λ l e.
+      refuse-if C 7 (length l) (short x (length l)) (accepted (length l)) (λ f. slice-short e (shorter x (length l) f)) (to-7 l e) (λ f. done)

@@ -15,9 +15,9 @@ use Rattle.rules.specs.Text.{Text, same}
 use Rattle.rules.specs.Line.{Name, Body, Line, skipped, end, org, item}
 use Rattle.rules.specs.Label.{Label, Table, find, recorded, hasRoom, recordAll}
 use Rattle.rules.specs.Encode.{isSome}
-use Rattle.rules.specs.Assemble.{Step, halt, full, next, advance, step}
+use Rattle.rules.specs.Assemble.{Sizes, Step, halt, full, next, advanceBy, stepBy}
 use Rattle.promises.specs.Demand1.{addressAfter, namesOf, onTop, isAmong, distinct, TooMany, now, later}
-use Rattle.promises.proofs.Demand1Order.{clash}
+use Rattle.promises.proofs.Compared.{clash}
 
 -- names that compare the same are equal
 same-equal : (s t : Text) → same s t ≡ true → s ≡ t
@@ -131,26 +131,26 @@ records i a (m ∷ ms) t ns h = go (hasRoom (find (m .text) t) t) refl (λ u. re
     go false e ih = rw (e, recordAll) (overflow (now (sym (h .knows (m .text)) ∙ (full-new (find (m .text) t) t e .0)) (rw (h .count) at (full-new (find (m .text) t) t e .1))))
 
 -- what a line does, by what it records and where it leaves the address
-pub data Stepped (base a : ℕ) (ns : List Text) (l : Line) : Step → Type 0 where
-  halted : l ≡ end → Stepped base a ns l halt
-  filled : TooMany (namesOf l) ns → Stepped base a ns l full
-  read : {t : Table} {b : Body} → l ≢ end → ¬ TooMany (namesOf l) ns → Holds t (onTop (namesOf l) ns) → Stepped base a ns l (next (addressAfter base a l) t b)
+pub data Stepped (z : Sizes) (base a : ℕ) (ns : List Text) (l : Line) : Step → Type 0 where
+  halted : l ≡ end → Stepped z base a ns l halt
+  filled : TooMany (namesOf l) ns → Stepped z base a ns l full
+  read : {t : Table} {b : Body} → l ≢ end → ¬ TooMany (namesOf l) ns → Holds t (onTop (namesOf l) ns) → Stepped z base a ns l (next (addressAfter z base a l) t b)
 
 -- a line without labels never holds one too many
 pub no-names : (ns : List Text) → ¬ TooMany [] ns
 no-names ns = elim [ ]
 
 -- a line with labels and a body
-advanced : (base a : ℕ) (ns : List Text) (ms : List Name) (b : Body) (o : Option Table) → Recorded (map (λ n. n .text) ms) ns o → Stepped base a ns (item ms b) (advance a b o)
-unfolding advance namesOf addressAfter
-advanced base a ns ms b none (overflow v) = filled v
-advanced base a ns ms b (some t) (fits d h) = read (λ e. clash cc) d h
+advanced : (z : Sizes) (base a : ℕ) (ns : List Text) (ms : List Name) (b : Body) (o : Option Table) → Recorded (map (λ n. n .text) ms) ns o → Stepped z base a ns (item ms b) (advanceBy z a b o)
+unfolding advanceBy namesOf addressAfter
+advanced z base a ns ms b none (overflow v) = filled v
+advanced z base a ns ms b (some t) (fits d h) = read (λ e. clash cc) d h
 
 -- any line
-pub stepped : (base i a : ℕ) (t : Table) (ns : List Text) (l : Line) → Holds t ns → Stepped base a ns l (step base i a t l)
-unfolding step namesOf addressAfter onTop
-stepped base i a t ns skipped h = read (λ e. clash cc) (no-names ns) h
-stepped base i a t ns end h = halted refl
-stepped base i a t ns (org none) h = read (λ e. clash cc) (no-names ns) h
-stepped base i a t ns (org (some v)) h = read (λ e. clash cc) (no-names ns) h
-stepped base i a t ns (item ms b) h = advanced base a ns ms b (recordAll i a ms t) (records i a ms t ns h)
+pub stepped : (z : Sizes) (base i a : ℕ) (t : Table) (ns : List Text) (l : Line) → Holds t ns → Stepped z base a ns l (stepBy z base i a t l)
+unfolding stepBy namesOf addressAfter onTop
+stepped z base i a t ns skipped h = read (λ e. clash cc) (no-names ns) h
+stepped z base i a t ns end h = halted refl
+stepped z base i a t ns (org none) h = read (λ e. clash cc) (no-names ns) h
+stepped z base i a t ns (org (some v)) h = read (λ e. clash cc) (no-names ns) h
+stepped z base i a t ns (item ms b) h = advanced z base a ns ms b (recordAll i a ms t) (records i a ms t ns h)

@@ -8,7 +8,7 @@ use native.Mathlib.Omega.{arith}
 use lib.ListN.{length, getD}
 use Rattle.rules.specs.Relocate.{firstIndex}
 use Rattle.promises.specs.Demand1.{Lowest}
-use Rattle.promises.proofs.Demand1Order.{Compared, less, more, equal, compared}
+use Rattle.promises.proofs.Compared.{Compared, less, more, equal, compared}
 
 -- a search for the lowest index below n at which P holds
 pub data Found (P : ℕ → Type 0) (n : ℕ) : Option ℕ → Type 0 where

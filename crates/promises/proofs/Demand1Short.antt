@@ -8,7 +8,7 @@ use lib.ListN.{length}
 use lib.Dec.{ltb}
 use Rattle.rules.specs.Assemble.{Slices, short}
 use Rattle.promises.specs.Demand1.{Shorter, addresses, words, marks}
-use Rattle.promises.proofs.Demand1Order.{clash}
+use Rattle.promises.proofs.Compared.{clash}
 
 -- the three lengths, by what the test answers
 data Lengths (x : Slices) (n : ℕ) : Bool → Type 0 where
@@ -46,3 +46,10 @@ pub not-shorter : (x : Slices) (n : ℕ) → short x n ≡ false → ¬ Shorter 
 not-shorter x n e (addresses h) = let k = long-enough x n e .0 in omega arith
 not-shorter x n e (words h) = let k = long-enough x n e .1 in omega arith
 not-shorter x n e (marks h) = let k = long-enough x n e .2 in omega arith
+
+pub is-short : (x : Slices) (n : ℕ) → Shorter x n → short x n ≡ true
+is-short x n h = go (short x n) refl
+  where
+    go : (y : Bool) → short x n ≡ y → short x n ≡ true
+    go true e = e
+    go false e = absurd (not-shorter x n e h)

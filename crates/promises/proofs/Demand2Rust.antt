@@ -1,22 +1,22 @@
 -- Demand 2, the Rust: the second pass, and the theorem that the list, marks left out, is the Rust's. Assumes nothing.
 use Prim.Native.Nat.{ℕ, suc, _+_, _/_, _%_, _^_, _<_}
 use mathlib.Core.Path.{_≡_, refl, sym, ap, _∙_}
-use mathlib.Core.Bool.{Bool, true, false}
 use mathlib.Core.Option.{Option, none, some, Option·map, Option·getD}
 use mathlib.Core.List.{List, [], _∷_, _++_, map, flatMap, foldl, append-nil, append-assoc, map-append}
 use native.Mathlib.Omega.{arith}
 use native.Mathlib.Nat.{mod-eq-of-lt, mod-mod, div-add-mod'}
 use lib.Bits.{and-mask}
 use Rattle.rules.specs.Text.{Text, cutAt}
-use Rattle.rules.specs.Line.{Body, bare, directive, instruction, instructionSize}
+use Rattle.rules.specs.Line.{Body, bare, directive, instruction, instructionSize, size}
 use Rattle.rules.specs.Label.{Table, find}
 use Rattle.rules.specs.Encode.{Cell, literal, address, encode}
-use Rattle.rules.specs.Answer.{Answer, accepted, refused, refuseIf, refuseAt, andThen}
-use Rattle.rules.specs.Assemble.{numbered, linesOf, Put, Pass, firstPass, Place, placeOf, placesAt, valueCells, dataCells, codeCells, dataPlaces, codePlaces, secondPass, assemble}
+use Rattle.rules.specs.Answer.{Answer, accepted, refused, andThen}
+use Rattle.rules.specs.Assemble.{numbered, linesOf, Put, Pass, firstPass, Place, placeOf, placesAt, valueCells, dataCells, dataPlaces, codePlaces, secondPass, assemble, secondPassBy, codePlacesBy, wordsOf}
 use Rattle.promises.specs.RustStr.{split, HashMap, look-up, push, add-u32}
 use Rattle.promises.specs.RustAssembler.{AssemblyInstruction, Code, encode-instruction-with-ext, State, first-pass, push-data, push-ext, push-code, push-instruction}
 use Rattle.promises.specs.RustAssembler as Rust
 use Rattle.promises.specs.Demand2Rust.{unmarked, ListIsTheRusts}
+use Rattle.promises.proofs.Accepted.{accepts}
 use Rattle.promises.proofs.RustText.{split-is}
 use Rattle.promises.proofs.RustOperand.{Agrees}
 use Rattle.promises.proofs.RustEncode.{plain, extWords, codeWords, encode-same}
@@ -111,7 +111,7 @@ data-put a (instruction m f ps) h k = refl
 
 code-put : {m : HashMap} {t : Table} → Agrees m t → (a : ℕ) (b : Body) → a < 2 ^ 30
     → flatMap (instWords m) (codeOf (record { address = a; body = b })) ≡ map unmarked (codePlaces t (record { address = a; body = b }))
-unfolding codeOf codePlaces codeCells placesAt flatMap
+unfolding codeOf codePlacesBy wordsOf placesAt flatMap
 code-put g a bare h = refl
 code-put g a (directive n v) h = refl
 code-put {m = m} g a (instruction n f ps) h = append-nil (instWords m (instAt a n f ps)) ∙ inst-words g a h n f ps
@@ -132,7 +132,7 @@ puts-words f g h e (cons {p = p} {ps = ps} l ls) =
 -- the two passes
 second-is : (s : State) (p : Pass) → Ended (record { labels = []; instructions = []; data-values = []; current-address = 0 }) s p
     → foldl (push-instruction (s .labels)) (foldl push-data [] (s .data-values)) (s .instructions) ≡ map unmarked (secondPass p)
-unfolding secondPass
+unfolding secondPassBy
 second-is s p e =
     rw (
       e .instructions,
@@ -150,25 +150,14 @@ unfolding numbered
 lines-texts n i [] = refl
 lines-texts n i (l ∷ ls) = ap (λ (r : List Text). l ∷ r) (lines-texts (suc n) _ ls)
 
--- what an accepted answer has passed
-passed-if : {A : Type 0} (x : Bool) (n p : ℕ) (r : Answer A) (a : A) → refuseIf x n p r ≡ accepted a → r ≡ accepted a
-unfolding refuseIf
-passed-if true n p r a e = cc
-passed-if false n p r a e = e
-
-passed-at : {A : Type 0} (o : Option ℕ) (n : ℕ) (r : Answer A) (a : A) → refuseAt o n r ≡ accepted a → r ≡ accepted a
-unfolding refuseAt
-passed-at none n r a e = e
-passed-at (some p) n r a e = cc
-
+-- at first no label is known to either
 empty-agrees : Agrees [] []
 unfolding look-up find
 empty-agrees = record { finds = λ n. refl; low = λ n. tt }
 
 pub list-is-the-rusts : ListIsTheRusts
-unfolding ListIsTheRusts assemble Rust.assemble linesOf andThen
-list-is-the-rusts s l e =
-    go (firstPass 0 0 [] (linesOf s)) refl (passed-if _ 4 0 _ l (passed-if _ 3 _ _ l (passed-at _ 2 _ l (passed-if _ 1 _ _ l e))))
+unfolding ListIsTheRusts Rust.assemble linesOf andThen
+list-is-the-rusts s l e = go (firstPass 0 0 [] (linesOf s)) refl (accepts size wordsOf 0 s l e .passed)
   where
     start : State
     start = record { labels = []; instructions = []; data-values = []; current-address = 0 }

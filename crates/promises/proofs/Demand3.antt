@@ -1,4 +1,4 @@
--- Demand 3: the four statements, from the shift of the base and the mover's tally. Assumes nothing.
+-- Demand 3 for every lawful pair: the four statements, from the shift of the base and the mover's tally; and so for 01's. Assumes nothing.
 use Prim.Native.Nat.{ℕ, zero, suc, _+_, _-_, _%_, _<_}
 use mathlib.Core.Path.{_≡_, refl, sym, _∙_, ap}
 use mathlib.Core.Logic.{_≢_, _↔_}
@@ -14,15 +14,18 @@ use Rattle.rules.specs.Limits.{addressLimit, distanceLimit}
 use Rattle.rules.specs.Text.{Text}
 use Rattle.rules.specs.Number.{modulo}
 use Rattle.rules.specs.Answer.{accepted}
-use Rattle.rules.specs.Assemble.{Place, assemble}
+use Rattle.rules.specs.Line.{size}
+use Rattle.rules.specs.Assemble.{Sizes, Encoder, Place, wordsOf, assembleBy}
 use Rattle.rules.specs.Relocate.{far, movedWord}
 use Rattle.rules.specs.Tally.{firstOutside, movedPlace, tallyList, lastTotal}
-use Rattle.promises.specs.Demand3.{MovedIsAssembled, WordsDiffer, MovesFollowTally, OneMoveForAll}
+use Rattle.promises.specs.Lawful.{Lawful, RulesAreLawful}
+use Rattle.promises.specs.Demand3.{MovedIsAssembledBy, WordsDifferBy, MovesFollowTallyBy, OneMoveForAllBy, Demand3By, LawfulMoves, MovedIsAssembled, WordsDiffer, MovesFollowTally, OneMoveForAll}
 use Rattle.promises.proofs.Lists.{all-at, getElem?-map}
 use Rattle.promises.proofs.Accepted.{accepts}
 use Rattle.promises.proofs.Places.{list-at}
 use Rattle.promises.proofs.Fit.{Fit, listed}
 use Rattle.promises.proofs.Twice.{residue-lt, list-twice, outside-twice, inside-none, fit-inside, length-moved}
+use Rattle.promises.proofs.Lawful.{rules-are-lawful}
 use Rattle.promises.proofs.Moves.{follow-from-zero, last-total-inside, move-accepted, move-gives}
 
 -- two bases are less than 2^30 apart
@@ -37,40 +40,6 @@ apart : (b c : ℕ) → b < addressLimit → c < addressLimit → natAbs (pos c 
 apart zero c hb hc = omega arith
 apart (suc b) c hb hc = apart-sub b c hb hc
 
--- one source accepted at two bases
-module _ (s : Text) (b c : ℕ) (lb lc : List Place) (eb : assemble b s ≡ accepted lb) (ec : assemble c s ≡ accepted lc) where
-  -- c − b is no distance that refusal 8 names
-  near : far (pos c -ℤ pos b) ≡ false
-  unfolding far
-  near =
-      lt-leb distanceLimit (natAbs (pos c -ℤ pos b))
-      (apart b c (leb-false addressLimit b (accepts b s lb eb .low)) (leb-false addressLimit c (accepts c s lc ec .low)))
-
-  -- the list for c is the list for b, moved by c − b, and refusal 11 names no place: both are the list at base 0, moved
-  moved : (tallyList (pos c -ℤ pos b) lb ≡ lc) × (firstOutside (pos c -ℤ pos b) 0 lb ≡ none)
-  moved =
-      let qb = list-at b s lb eb in
-      let qc = list-at c s lc ec in
-      let same : qb .0 ≡ qc .0 = cc in
-      let to-c : pos b +ℤ (pos c -ℤ pos b) ≡ pos c = +ℤ-comm (pos b) (pos c -ℤ pos b) ∙ -ℤ-+ℤ-cancel (pos c) (pos b) in
-      let at-b = fit-inside b (qb .0) (rw (qb .2) at (listed b s lb eb .fit)) in
-      let at-c = fit-inside c (qc .0) (rw (qc .2) at (listed c s lc ec .fit)) in (
-        rw (qb .2, list-twice (pos b) (pos c -ℤ pos b) (qb .0) at-b, to-c, same) (sym (qc .2)),
-        rw (qb .2, outside-twice (pos b) (pos c -ℤ pos b) 0 (qb .0) at-b, to-c, same) (inside-none (pos c) 0 (qc .0) at-c),
-      )
-
-pub moved-is-assembled : MovedIsAssembled
-unfolding MovedIsAssembled
-moved-is-assembled s b c lb lc eb ec x h =
-    let fit = listed b s lb eb .fit in
-    let ok = near s b c lb lc eb ec in
-    let m = moved s b c lb lc eb ec in
-    let n : length lb ≡ length lc = sym (length-moved (pos c -ℤ pos b) lb) ∙ ap length (m .0) in (
-      n,
-      move-accepted lb fit x h (pos c -ℤ pos b) ok (m .1) ∙ ap accepted n,
-      rw (← n) (move-gives lb fit x h (pos c -ℤ pos b) ok (m .1) ∙ m .0),
-    )
-
 -- a marked word, which has 16 bits, is another word when moved by no multiple of 65,536; other words stand
 word-differs : (d : ℤ) (p : Place) → Fit p → modulo 65536 d ≢ 0 → (p .word ≢ movedWord d (p .mark) (p .word)) ↔ (p .mark ≡ 1)
 unfolding movedWord
@@ -80,21 +49,81 @@ word-differs d p h k = go (eqb (p .mark) 1) refl
     go true e = (λ u. eqb-true (p .mark) 1 e, λ v w. let r = residue-lt d in let z = h .reduced v in k (omega arith))
     go false e = (λ u. absurd (u refl), λ v. absurd (eqb-false (p .mark) 1 e v))
 
+module _ {z : Sizes} {e : Encoder} {most : ℕ} (law : Lawful z e most) where
+  -- one source accepted at two bases
+  module _ (s : Text) (b c : ℕ) (lb lc : List Place) (eb : assembleBy z e b s ≡ accepted lb) (ec : assembleBy z e c s ≡ accepted lc) where
+    -- c − b is no distance that refusal 8 names
+    near : far (pos c -ℤ pos b) ≡ false
+    unfolding far
+    near =
+        lt-leb distanceLimit (natAbs (pos c -ℤ pos b))
+        (apart b c (leb-false addressLimit b (accepts z e b s lb eb .low)) (leb-false addressLimit c (accepts z e c s lc ec .low)))
+
+    -- the list for c is the list for b, moved by c − b, and refusal 11 names no place: both are the list at base 0, moved
+    moved : (tallyList (pos c -ℤ pos b) lb ≡ lc) × (firstOutside (pos c -ℤ pos b) 0 lb ≡ none)
+    moved =
+        let qb = list-at law b s lb eb in
+        let qc = list-at law c s lc ec in
+        let same : qb .0 ≡ qc .0 = cc in
+        let to-c : pos b +ℤ (pos c -ℤ pos b) ≡ pos c = +ℤ-comm (pos b) (pos c -ℤ pos b) ∙ -ℤ-+ℤ-cancel (pos c) (pos b) in
+        let at-b = fit-inside b (qb .0) (rw (qb .2) at (listed law b s lb eb .fit)) in
+        let at-c = fit-inside c (qc .0) (rw (qc .2) at (listed law c s lc ec .fit)) in (
+          rw (qb .2, list-twice (pos b) (pos c -ℤ pos b) (qb .0) at-b, to-c, same) (sym (qc .2)),
+          rw (qb .2, outside-twice (pos b) (pos c -ℤ pos b) 0 (qb .0) at-b, to-c, same) (inside-none (pos c) 0 (qc .0) at-c),
+        )
+
+  moved-is-assembled-by : MovedIsAssembledBy z e
+  moved-is-assembled-by s b c lb lc eb ec x h =
+      let fit = listed law b s lb eb .fit in
+      let ok = near s b c lb lc eb ec in
+      let m = moved s b c lb lc eb ec in
+      let n : length lb ≡ length lc = sym (length-moved (pos c -ℤ pos b) lb) ∙ ap length (m .0) in (
+        n,
+        move-accepted lb fit x h (pos c -ℤ pos b) ok (m .1) ∙ ap accepted n,
+        rw (← n) (move-gives lb fit x h (pos c -ℤ pos b) ok (m .1) ∙ m .0),
+      )
+
+  words-differ-by : WordsDifferBy z e
+  unfolding tallyList movedPlace
+  words-differ-by s b c lb lc eb ec k i p q hp hq =
+      let d : ℤ = pos c -ℤ pos b in
+      let f : getElem? lc i ≡ some (movedPlace d p) = rw (← moved s b c lb lc eb ec .0, getElem?-map (movedPlace d) lb i, hp) refl in
+      let m : movedPlace d p ≡ q = cc in
+      rw (← m) (refl, word-differs d p (all-at Fit lb i p (listed law b s lb eb .fit) hp) k)
+
+  moves-follow-tally-by : MovesFollowTallyBy z e
+  moves-follow-tally-by s b l f x h ds = follow-from-zero l (listed law b s l f .fit) x h ds
+
+  one-move-for-all-by : OneMoveForAllBy z e
+  one-move-for-all-by s b l f x h ds ok =
+      let fit = listed law b s l f .fit in
+      let ins = inside-none (lastTotal l (pos 0) ds) 0 l (last-total-inside l fit ds) in
+      (move-accepted l fit x h (lastTotal l (pos 0) ds) ok ins, move-gives l fit x h (lastTotal l (pos 0) ds) ok ins)
+
+  demand-3-by : Demand3By z e
+  demand-3-by = record { moved = moved-is-assembled-by; differ = words-differ-by; follow = moves-follow-tally-by; one = one-move-for-all-by }
+
+pub lawful-moves : LawfulMoves
+unfolding LawfulMoves
+lawful-moves z e most law = demand-3-by law
+
+-- 01's pair
+demand-3 : Demand3By size wordsOf
+unfolding LawfulMoves RulesAreLawful
+demand-3 = lawful-moves size wordsOf 2 rules-are-lawful
+
+pub moved-is-assembled : MovedIsAssembled
+unfolding MovedIsAssembled
+moved-is-assembled = demand-3 .moved
+
 pub words-differ : WordsDiffer
-unfolding WordsDiffer tallyList movedPlace
-words-differ s b c lb lc eb ec k i p q hp hq =
-    let d : ℤ = pos c -ℤ pos b in
-    let e : getElem? lc i ≡ some (movedPlace d p) = rw (← moved s b c lb lc eb ec .0, getElem?-map (movedPlace d) lb i, hp) refl in
-    let m : movedPlace d p ≡ q = cc in
-    rw (← m) (refl, word-differs d p (all-at Fit lb i p (listed b s lb eb .fit) hp) k)
+unfolding WordsDiffer
+words-differ = demand-3 .differ
 
 pub moves-follow-tally : MovesFollowTally
 unfolding MovesFollowTally
-moves-follow-tally s b l e x h ds = follow-from-zero l (listed b s l e .fit) x h ds
+moves-follow-tally = demand-3 .follow
 
 pub one-move-for-all : OneMoveForAll
 unfolding OneMoveForAll
-one-move-for-all s b l e x h ds ok =
-    let fit = listed b s l e .fit in
-    let ins = inside-none (lastTotal l (pos 0) ds) 0 l (last-total-inside l fit ds) in
-    (move-accepted l fit x h (lastTotal l (pos 0) ds) ok ins, move-gives l fit x h (lastTotal l (pos 0) ds) ok ins)
+one-move-for-all = demand-3 .one

@@ -1,7 +1,7 @@
 pub mod Examples
-pub mod Demand1Order
+pub mod Compared
 pub mod Demand1Search
-pub mod Demand1Checks
+pub mod Stages
 pub mod Demand1Labels
 pub mod Demand1Passes
 pub mod Demand1Short
@@ -27,6 +27,7 @@ pub mod Shift
 pub mod Words
 pub mod Places
 pub mod Fit
+pub mod Lawful
 pub mod Twice
 pub mod Call
 pub mod Moves

@@ -6,7 +6,7 @@ use native.Mathlib.Omega.{arith}
 use lib.IntN.{ℤ}
 use Rattle.rules.specs.Text.{Text}
 use Rattle.rules.specs.Label.{Table}
-use Rattle.promises.specs.Manual.{InByte, byte, widths, Layout, moveSize, sizeField, opmode, mode, register, extension, Condition, T, CC, CS, NE, EQ, GE, LT, GT, LE, condition, Instruction, layout, extensions}
+use Rattle.manual.specs.Manual.{InByte, byte, widths, Layout, moveSize, sizeField, opmode, mode, register, extension, Condition, T, CC, CS, NE, EQ, GE, LT, GT, LE, condition, Instruction, layout, extensions}
 use Rattle.promises.specs.Demand2Manual.{Written, moveq, load, store, copy, mulsData, muls, add, sub, cmp, tst, subq, asl, nop, branch, Words, FieldsHold}
 use Rattle.promises.proofs.ManualLaws.{imm8-byte, imm16-word, all-some, bytes-read-back, quick-reads-back, displaced-byte, no-word}
 

@@ -10,7 +10,7 @@ use Rattle.rules.specs.Number.{digitValue, digits, someDigits, below, without, 
 use Rattle.rules.specs.Line.{Name, instruction, item, instructionOf, operandsOf, isData, restLine, afterLabel, labelLine, trimmedLine, lineOf}
 use Rattle.rules.specs.Label.{Table, find}
 use Rattle.rules.specs.Encode.{writtenSigned}
-use Rattle.promises.specs.Manual.{Condition, T, CC, CS, NE, EQ, GE, LT, GT, LE, Instruction}
+use Rattle.manual.specs.Manual.{Condition, T, CC, CS, NE, EQ, GE, LT, GT, LE, Instruction}
 use Rattle.promises.specs.Demand2Manual.{X, branchName, InReach, label, signedNumber, Written, moveq, load, store, copy, mulsData, muls, add, sub, cmp, tst, subq, asl, nop, branch, LineIs, EveryFormHasALine}
 
 -- a line from its form

@@ -12,7 +12,7 @@ use Rattle.rules.specs.Text.{Text, bytes, after, starts}
 use Rattle.rules.specs.Number.{digitValue, below, number, number16, within, positive, negative, signed, someDigits, without, hexTail, byPrefix, imm8, imm16, modulo}
 use Rattle.rules.specs.Label.{Table, find}
 use Rattle.rules.specs.Encode.{registerDigit, dataRegister, closed, indirect, reach, displacement, writtenSigned}
-use Rattle.promises.specs.Manual.{InByte, byte, signOf, quick, quickOf, displacementWord}
+use Rattle.manual.specs.Manual.{InByte, byte, signOf, quick, quickOf, displacementWord}
 use Rattle.promises.specs.Demand2Manual.{D, atA, InReach, Displaced, label, signedNumber, BytesReadBack, QuickReadsBack}
 
 -- a digit byte reads as its digit

@@ -7,8 +7,8 @@ use native.Mathlib.Omega.{arith}
 use Rattle.rules.specs.Text.{Text, bytes, same}
 use Rattle.rules.specs.Label.{Table}
 use Rattle.rules.specs.Encode.{literal, branch as branchOn, mnemonics, operationIn, R, two, one, oneOrMore, encodeMove, encodeOperation, encode}
-use Rattle.rules.specs.Assemble.{placeOf, placesAt, dataCells, codeCells, dataPlaces, codePlaces, secondPass}
-use Rattle.promises.specs.Manual.{InByte, join, moveSize, sizeField, opmode, mode, register, extension, Condition, T, CC, CS, NE, EQ, GE, LT, GT, LE, condition, Instruction, layout, extensions, manualWords}
+use Rattle.rules.specs.Assemble.{placeOf, placesAt, dataCells, dataPlaces, secondPassBy, codePlacesBy, wordsOf}
+use Rattle.manual.specs.Manual.{InByte, join, moveSize, sizeField, opmode, mode, register, extension, Condition, T, CC, CS, NE, EQ, GE, LT, GT, LE, condition, Instruction, layout, extensions, manualWords}
 use Rattle.promises.specs.Demand2Manual.{branchName, Written, moveq, load, store, copy, mulsData, muls, add, sub, cmp, tst, subq, asl, nop, branch, bodyOf, emitted, unmarked, LinesAreTheManuals}
 use Rattle.promises.proofs.ManualLaws.{data-register, operand, imm8-byte, all-some, byte-modulo, quick-modulo, displaced, displaced-byte, no-word}
 
@@ -58,5 +58,5 @@ unmarked-places a [] = refl
 unmarked-places a (w ∷ ws) = rw (unmarked-places (a + 2) ws)
 
 pub lines-are-the-manuals : LinesAreTheManuals
-unfolding emitted bodyOf secondPass flatMap dataPlaces dataCells codePlaces codeCells placesAt
+unfolding emitted bodyOf secondPassBy flatMap dataPlaces dataCells codePlacesBy wordsOf placesAt
 lines-are-the-manuals ls a l i r = rw (r .read, encoded (r .written), unmarked-places a (manualWords i), append-nil)

@@ -2,7 +2,7 @@
 use Prim.Native.Nat.{ℕ, _+_, _%_}
 use mathlib.Core.Path.{_≡_, refl, _∙_, ap}
 use mathlib.Core.Bool.{false≢true}
-use mathlib.Core.Option.{Option, none, some, Option·map, Option·getD}
+use mathlib.Core.Option.{none, some}
 use mathlib.Core.List.{List, [], _∷_, map, map-append}
 use native.Mathlib.Nat.{add-assoc, add-comm, add-zero}
 use native.Mathlib.Omega.{arith}
@@ -11,15 +11,15 @@ use Rattle.rules.specs.Text.{Text}
 use Rattle.rules.specs.Number.{modulo}
 use Rattle.rules.specs.Line.{Body, bare, directive, instruction}
 use Rattle.rules.specs.Label.{Table}
-use Rattle.rules.specs.Encode.{Cell, literal, address, encode}
+use Rattle.rules.specs.Encode.{Cell, literal, address}
 use Rattle.rules.specs.Answer.{Answer, accepted, refused, andThen}
-use Rattle.rules.specs.Assemble.{Put, Pass, firstPass, linesOf, Place, placeOf, placesAt, valueCells, dataCells, codeCells, dataPlaces, codePlaces, secondPass, assemble}
+use Rattle.rules.specs.Assemble.{Sizes, Encoder, Put, Pass, firstPassBy, linesOf, Place, placeOf, placesAt, valueCells, dataCells, codeCellsBy, dataPlaces, codePlacesBy, secondPassBy, encoded, assembleBy}
+use Rattle.promises.specs.Lawful.{shiftTable, shiftCell, shiftCells, Lawful}
 use Rattle.rules.specs.Relocate.{movedAddress, movedWord}
 use Rattle.rules.specs.Tally.{movedPlace, tallyList}
 use Rattle.promises.proofs.Lists.{flatMap-by}
-use Rattle.promises.proofs.Shift.{shiftTable, shiftPut, shiftPass, pass-shift}
-use Rattle.promises.proofs.Accepted.{passes, accepts, assembles}
-use Rattle.promises.proofs.Words.{shiftCell, shiftCells, encode-shift}
+use Rattle.promises.proofs.Shift.{shiftPut, shiftPass, pass-shift}
+use Rattle.promises.proofs.Accepted.{passesBy, accepts, assembles}
 
 -- a place, and the places of one line
 placeOf-shift : (b a : ℕ) (c : Cell) → placeOf (b + a) (shiftCell b c) ≡ movedPlace (pos b) (placeOf a c)
@@ -42,50 +42,41 @@ dataCells-shift b (directive n none) = refl
 dataCells-shift b (directive n (some v)) = refl
 dataCells-shift b (instruction m f ps) = refl
 
--- no words, shifted, are no words
-getD-map : (b : ℕ) (o : Option (List Cell)) → Option·getD (Option·map (shiftCells b) o) [] ≡ shiftCells b (Option·getD o [])
-getD-map b none = refl
-getD-map b (some cs) = refl
-
--- an instruction's words change by its labels
-codeCells-shift : (b : ℕ) (t : Table) (a : ℕ) (x : Body) → codeCells (shiftTable b t) (b + a) x ≡ shiftCells b (codeCells t a x)
-unfolding codeCells
-codeCells-shift b t a bare = refl
-codeCells-shift b t a (directive n v) = refl
-codeCells-shift b t a (instruction m f ps) = rw (← encode-shift b t a m ps) (getD-map b (encode t a m ps))
-
 -- what a line puts, as data and as code
 dataPlaces-shift : (b : ℕ) (p : Put) → dataPlaces (shiftPut b p) ≡ map (movedPlace (pos b)) (dataPlaces p)
 unfolding dataPlaces shiftPut
 dataPlaces-shift b p = ap (placesAt (b + p .address)) (dataCells-shift b (p .body)) ∙ placesAt-shift b (p .address) (dataCells (p .body))
 
-codePlaces-shift : (b : ℕ) (t : Table) (p : Put) → codePlaces (shiftTable b t) (shiftPut b p) ≡ map (movedPlace (pos b)) (codePlaces t p)
-unfolding codePlaces shiftPut
-codePlaces-shift b t p = rw (codeCells-shift b t (p .address) (p .body)) (placesAt-shift b (p .address) (codeCells t (p .address) (p .body)))
+-- by a lawful pair
+module _ {z : Sizes} {e : Encoder} {most : ℕ} (law : Lawful z e most) where
+  codePlaces-shift : (b : ℕ) (t : Table) (p : Put) → codePlacesBy e (shiftTable b t) (shiftPut b p) ≡ map (movedPlace (pos b)) (codePlacesBy e t p)
+  unfolding codePlacesBy shiftPut
+  codePlaces-shift b t p =
+      ap (placesAt (b + p .address)) (law .shifts b t (p .address) (p .body)) ∙ placesAt-shift b (p .address) (codeCellsBy e t (p .address) (p .body))
 
--- the second pass over a shifted first pass is the list, moved
-second-shift : (b : ℕ) (p : Pass) → secondPass (shiftPass b p) ≡ tallyList (pos b) (secondPass p)
-unfolding secondPass shiftPass tallyList
-second-shift b p =
-    rw (
-      flatMap-by (shiftPut b) (movedPlace (pos b)) dataPlaces dataPlaces (dataPlaces-shift b) (p .puts),
-      flatMap-by (shiftPut b) (movedPlace (pos b)) (codePlaces (shiftTable b (p .labels))) (codePlaces (p .labels)) (codePlaces-shift b (p .labels)) (p .puts),
-      map-append,
-    )
+  -- the second pass over a shifted first pass is the list, moved
+  second-shift : (b : ℕ) (p : Pass) → secondPassBy e (shiftPass b p) ≡ tallyList (pos b) (secondPassBy e p)
+  unfolding secondPassBy shiftPass tallyList
+  second-shift b p =
+      rw (
+        flatMap-by (shiftPut b) (movedPlace (pos b)) dataPlaces dataPlaces (dataPlaces-shift b) (p .puts),
+        flatMap-by (shiftPut b) (movedPlace (pos b)) (codePlacesBy e (shiftTable b (p .labels))) (codePlacesBy e (p .labels)) (codePlaces-shift b (p .labels)) (p .puts),
+        map-append,
+      )
 
--- the passes from base b are those from base 0, moved by b
-passes-shift : (b : ℕ) (s : Text) (l : List Place) → passes b s ≡ accepted l → (q : List Place) × (passes 0 s ≡ accepted q) × (l ≡ tallyList (pos b) q)
-unfolding andThen
-passes-shift b s l h = go (firstPass 0 0 [] (linesOf s)) refl (pass-shift b l 0 [] (linesOf s) (λ p. accepted (secondPass p)) (rw (add-zero b) h))
-  where
-    go : (m : Answer Pass) → firstPass 0 0 [] (linesOf s) ≡ m → andThen m (λ p. accepted (secondPass (shiftPass b p))) ≡ accepted l
-        → (q : List Place) × (passes 0 s ≡ accepted q) × (l ≡ tallyList (pos b) q)
-    go (accepted p) e k = (secondPass p, rw e, (let u : l ≡ secondPass (shiftPass b p) = cc in u ∙ second-shift b p))
-    go (refused n i) e k = absurd (false≢true cc)
+  -- the passes from base b are those from base 0, moved by b
+  passes-shift : (b : ℕ) (s : Text) (l : List Place) → passesBy z e b s ≡ accepted l → (q : List Place) × (passesBy z e 0 s ≡ accepted q) × (l ≡ tallyList (pos b) q)
+  unfolding andThen
+  passes-shift b s l h = go (firstPassBy z 0 0 [] (linesOf s)) refl (pass-shift z b l 0 [] (linesOf s) (encoded e) (rw (add-zero b) h))
+    where
+      go : (m : Answer Pass) → firstPassBy z 0 0 [] (linesOf s) ≡ m → andThen m (λ p. encoded e (shiftPass b p)) ≡ accepted l
+          → (q : List Place) × (passesBy z e 0 s ≡ accepted q) × (l ≡ tallyList (pos b) q)
+      go (accepted p) f k = (secondPassBy e p, rw f, (let u : l ≡ secondPassBy e (shiftPass b p) = cc in u ∙ second-shift b p))
+      go (refused n i) f k = absurd (false≢true cc)
 
--- so a list at base b is the list at base 0, moved by b
-pub list-at : (b : ℕ) (s : Text) (l : List Place) → assemble b s ≡ accepted l → (q : List Place) × (assemble 0 s ≡ accepted q) × (l ≡ tallyList (pos b) q)
-list-at b s l h =
-    let c = accepts b s l h in
-    let m = passes-shift b s l (c .passed) in
-    (m .0, assembles 0 s (m .0) (record { size = c .size; ascii = c .ascii; lines = c .lines; low = refl; passed = m .1 }), m .2)
+  -- so a list at base b is the list at base 0, moved by b
+  pub list-at : (b : ℕ) (s : Text) (l : List Place) → assembleBy z e b s ≡ accepted l → (q : List Place) × (assembleBy z e 0 s ≡ accepted q) × (l ≡ tallyList (pos b) q)
+  list-at b s l h =
+      let c = accepts z e b s l h in
+      let m = passes-shift b s l (c .passed) in
+      (m .0, assembles z e 0 s (m .0) (record { through = c .through; low = refl; passed = m .1 }), m .2)

@@ -13,7 +13,7 @@ use Rattle.rules.specs.Text.{Text, same}
 use Rattle.rules.specs.Line.{Name, Body, bare, directive, instruction, size, Line, skipped, end, org, item, lineOf}
 use Rattle.rules.specs.Label.{Label, Table, find, recorded, hasRoom, recordAll}
 use Rattle.rules.specs.Answer.{Answer, accepted, refused, andThen}
-use Rattle.rules.specs.Assemble.{SourceLine, Put, Pass, next, advance, step, putting, firstPass}
+use Rattle.rules.specs.Assemble.{SourceLine, Put, Pass, next, step, putting, firstPass, firstPassBy, stepBy, advanceBy}
 use Rattle.promises.specs.RustStr.{HashMap, insert, look-up}
 use Rattle.promises.specs.RustAssembler.{AssemblyInstruction, State, continue, set-address, insert-label, push-value, handle-instruction, handle-org, body, first-pass}
 use Rattle.promises.proofs.RustText.{same-eq, equals-is}
@@ -159,7 +159,7 @@ module _ (a : ℕ) (low : a < 2 ^ 30) (t : Table) (l : SourceLine) (ls : List So
       → (a′ < 2 ^ 30 → Putting s s′ a′ t′ (record { address = a; body = b })) → BodyLow b
       → (a′ < 2 ^ 30 → s′ .current-address ≡ a′ → Agrees (s′ .labels) t′ → (p : Pass) → firstPass 0 a′ t′ ls ≡ accepted p → Ended s′ (first-pass (texts ls) s′) p)
       → (p : Pass) → firstPass 0 a t (l ∷ ls) ≡ accepted p → Ended s (first-pass (l .text ∷ texts ls) s) p
-  unfolding firstPass first-pass andThen putting
+  unfolding firstPassBy first-pass andThen putting
   onward a′ t′ b s′ e f k v ih p h = rw (first-pass, body-is (l .text) s, f) (go (ltb a′ addressLimit) refl)
     where
       here : Put
@@ -172,8 +172,8 @@ module _ (a : ℕ) (low : a < 2 ^ 30) (t : Table) (l : SourceLine) (ls : List So
           (combine s s′ (first-pass (texts ls) s′) a′ t′ here p′ (k d) (record { address = low; value = v }) (ih d (k d .current) (k d .agrees) p′ f))
 
       go : (x : Bool) → ltb a′ addressLimit ≡ x → Ended s (first-pass (texts ls) s′) p
-      go true d = after (ltb-true a′ (2 ^ 30) d) (firstPass 0 a′ t′ ls) refl (rw (firstPass, e, d) at h)
-      go false d = absurd (never 5 (l .number) p (rw (firstPass, e, d) at h))
+      go true d = after (ltb-true a′ (2 ^ 30) d) (firstPass 0 a′ t′ ls) refl (rw (firstPassBy, e, d) at h)
+      go false d = absurd (never 5 (l .number) p (rw (firstPassBy, e, d) at h))
 
 still : (a : ℕ) (t : Table) (s : State) → s .current-address ≡ a → Agrees (s .labels) t → Putting s s a t (record { address = a; body = bare })
 unfolding codeOf valueOf
@@ -204,7 +204,7 @@ item-puts i a low s c ns t t′ g e b h =
 
 pub pass-ends : (ls : List SourceLine) (a : ℕ) → a < 2 ^ 30 → (t : Table) (s : State) → s .current-address ≡ a → Agrees (s .labels) t
     → (p : Pass) → firstPass 0 a t ls ≡ accepted p → Ended s (first-pass (texts ls) s) p
-unfolding firstPass first-pass step perform handle-org set-address advance
+unfolding firstPassBy first-pass stepBy perform handle-org set-address advanceBy
 pass-ends [] a low t s c g p e = done t s p g e
 pass-ends (l ∷ ls) a low t s c g p e = go (lineOf (l .text)) refl (pass-ends ls)
   where
@@ -214,7 +214,7 @@ pass-ends (l ∷ ls) a low t s c g p e = go (lineOf (l .text)) refl (pass-ends l
 
     go : (x : Line) → lineOf (l .text) ≡ x → Rest → Ended s (first-pass (l .text ∷ texts ls) s) p
     go skipped f ih = onward a low t l ls s a t bare s (rw f) (rw f) (λ h. still a t s c g) tt (λ h c′ g′. ih a h t s c′ g′) p e
-    go end f ih = rw (first-pass, body-is (l .text) s, f) (done t s p g (rw (firstPass, f) at e))
+    go end f ih = rw (first-pass, body-is (l .text) s, f) (done t s p g (rw (firstPassBy, f) at e))
     go (org none) f ih = onward a low t l ls s a t bare s (rw f) (rw f) (λ h. still a t s c g) tt (λ h c′ g′. ih a h t s c′ g′) p e
     go (org (some v)) f ih =
         onward a low t l ls s (0 + v) t bare (set-address v s) (rw f) (rw f) (λ h. moved) tt (λ h c′ g′. ih (0 + v) h t (set-address v s) c′ g′) p e
@@ -224,7 +224,7 @@ pass-ends (l ∷ ls) a low t s c g p e = go (lineOf (l .text)) refl (pass-ends l
     go (item ns b) f ih = on (recordAll (l .start) a ns t) refl
       where
         on : (o : Option Table) → recordAll (l .start) a ns t ≡ o → Ended s (first-pass (l .text ∷ texts ls) s) p
-        on none r = absurd (never 6 (l .number) p (rw (firstPass, f, r) at e))
+        on none r = absurd (never 6 (l .number) p (rw (firstPassBy, f, r) at e))
         on (some t′) r =
             onward a low t l ls s (a + size b) t′ b (put b (insertAll ns s)) (rw (f, r)) (rw f)
             (λ h. item-puts (l .start) a low s c ns t t′ g r b h) (item-low (l .text) ns b f) (λ h c′ g′. ih (a + size b) h t′ (put b (insertAll ns s)) c′ g′) p e

@@ -14,15 +14,10 @@ use Rattle.rules.specs.Text.{Text, same}
 use Rattle.rules.specs.Line.{Name, Body, Line, skipped, end, org, item, lineOf}
 use Rattle.rules.specs.Label.{Label, Table, find, recorded, hasRoom, recordAll}
 use Rattle.rules.specs.Answer.{Answer, accepted, refused, andThen}
-use Rattle.rules.specs.Assemble.{SourceLine, Put, Pass, Step, halt, full, next, advance, step, putting, firstPass}
+use Rattle.rules.specs.Assemble.{Sizes, SourceLine, Put, Pass, Step, halt, full, next, advanceBy, stepBy, putting, firstPassBy}
+use Rattle.promises.specs.Lawful.{shiftLabel, shiftTable}
 
--- a label, the labels, what a line puts, and what a pass comes to, each address b higher
-unfoldable pub shiftLabel : ℕ → Label → Label
-shiftLabel b l = record { name = l .name; start = l .start; address = b + l .address }
-
-abbrev pub shiftTable : ℕ → Table → Table
-shiftTable b t = map (shiftLabel b) t
-
+-- what a line puts, and what a pass comes to, each address b higher
 unfoldable pub shiftPut : ℕ → Put → Put
 shiftPut b p = record { address = b + p .address; body = p .body }
 
@@ -78,19 +73,19 @@ recordAll-shift b i a (n ∷ ns) t = go (hasRoom (find (n .text) t) t) refl (rec
     go false e ih = rw (find-shift b (n .text) t, hasRoom-shift b (find (n .text) t) t, e, recordAll)
 
 -- the next address is b higher
-advance-shift : (b a : ℕ) (x : Body) (o : Option Table) → advance (b + a) x (Option·map (shiftTable b) o) ≡ shiftStep b (advance a x o)
-unfolding advance shiftStep
-advance-shift b a x none = refl
-advance-shift b a x (some t) = rw add-assoc
+advance-shift : (z : Sizes) (b a : ℕ) (x : Body) (o : Option Table) → advanceBy z (b + a) x (Option·map (shiftTable b) o) ≡ shiftStep b (advanceBy z a x o)
+unfolding advanceBy shiftStep
+advance-shift z b a x none = refl
+advance-shift z b a x (some t) = rw add-assoc
 
 -- a line does b higher what it does from base 0
-step-shift : (b i a : ℕ) (t : Table) (l : Line) → step b i (b + a) (shiftTable b t) l ≡ shiftStep b (step 0 i a t l)
-unfolding step shiftStep
-step-shift b i a t skipped = refl
-step-shift b i a t end = refl
-step-shift b i a t (org none) = refl
-step-shift b i a t (org (some v)) = rw zero-add
-step-shift b i a t (item ns x) = rw (recordAll-shift b i a ns t) (advance-shift b a x (recordAll i a ns t))
+step-shift : (z : Sizes) (b i a : ℕ) (t : Table) (l : Line) → stepBy z b i (b + a) (shiftTable b t) l ≡ shiftStep b (stepBy z 0 i a t l)
+unfolding stepBy shiftStep
+step-shift z b i a t skipped = refl
+step-shift z b i a t end = refl
+step-shift z b i a t (org none) = refl
+step-shift z b i a t (org (some v)) = rw zero-add
+step-shift z b i a t (item ns x) = rw (recordAll-shift b i a ns t) (advance-shift z b a x (recordAll i a ns t))
 
 -- `andThen` twice
 andThen-assoc : {A B C : Type 0} (m : Answer A) (f : A → Answer B) (g : B → Answer C) → andThen (andThen m f) g ≡ andThen m (λ a. andThen (f a) g)
@@ -100,24 +95,24 @@ andThen-assoc (refused n p) f g = refl
 
 -- where what follows the pass from base b is accepted, the same follows the pass from base 0, shifted:
 -- stated with what follows, f, since `assemble` has it so, and since a line's own put is what follows the lines after it
-module _ {A : Type 0} (b : ℕ) (y : A) where
+module _ {A : Type 0} (z : Sizes) (b : ℕ) (y : A) where
   abbrev Shifts : ℕ → Table → List SourceLine → (Pass → Answer A) → Type 0
-  Shifts a t ls f = andThen (firstPass b (b + a) (shiftTable b t) ls) f ≡ accepted y → andThen (firstPass 0 a t ls) (λ p. f (shiftPass b p)) ≡ accepted y
+  Shifts a t ls f = andThen (firstPassBy z b (b + a) (shiftTable b t) ls) f ≡ accepted y → andThen (firstPassBy z 0 a t ls) (λ p. f (shiftPass b p)) ≡ accepted y
 
   pub pass-shift : (a : ℕ) (t : Table) (ls : List SourceLine) (f : Pass → Answer A) → Shifts a t ls f
-  unfolding firstPass andThen putting shiftPass shiftPut shiftStep
+  unfolding firstPassBy andThen putting shiftPass shiftPut shiftStep
   pass-shift a t [] f h = h
-  pass-shift a t (l ∷ ls) f h = go (step 0 (l .start) a t (lineOf (l .text))) refl (λ a′ t′. pass-shift a′ t′ ls)
+  pass-shift a t (l ∷ ls) f h = go (stepBy z 0 (l .start) a t (lineOf (l .text))) refl (λ a′ t′. pass-shift a′ t′ ls)
     where
-      onward : (a′ : ℕ) (t′ : Table) (x : Body) → step 0 (l .start) a t (lineOf (l .text)) ≡ next a′ t′ x → ((g : Pass → Answer A) → Shifts a′ t′ ls g)
-          → (z : Bool) → ltb (b + a′) addressLimit ≡ z → andThen (firstPass 0 a t (l ∷ ls)) (λ p. f (shiftPass b p)) ≡ accepted y
+      onward : (a′ : ℕ) (t′ : Table) (x : Body) → stepBy z 0 (l .start) a t (lineOf (l .text)) ≡ next a′ t′ x → ((g : Pass → Answer A) → Shifts a′ t′ ls g)
+          → (k : Bool) → ltb (b + a′) addressLimit ≡ k → andThen (firstPassBy z 0 a t (l ∷ ls)) (λ p. f (shiftPass b p)) ≡ accepted y
       onward a′ t′ x e ih true i =
           let j = lt-ltb a′ addressLimit (let k = ltb-true (b + a′) addressLimit i in omega arith) in
-          rw (e, j, firstPass, andThen-assoc) (ih (λ p. andThen (putting (b + a) x p) f) (rw (step-shift, e, i, firstPass, andThen-assoc) at h))
-      onward a′ t′ x e ih false i = let c = rw (step-shift, e, i, firstPass) at h in absurd (false≢true cc)
+          rw (e, j, firstPassBy, andThen-assoc) (ih (λ p. andThen (putting (b + a) x p) f) (rw (step-shift z, e, i, firstPassBy, andThen-assoc) at h))
+      onward a′ t′ x e ih false i = let c = rw (step-shift z, e, i, firstPassBy) at h in absurd (false≢true cc)
 
-      go : (s : Step) → step 0 (l .start) a t (lineOf (l .text)) ≡ s → ((a′ : ℕ) (t′ : Table) (g : Pass → Answer A) → Shifts a′ t′ ls g)
-          → andThen (firstPass 0 a t (l ∷ ls)) (λ p. f (shiftPass b p)) ≡ accepted y
-      go halt e ih = rw (e, firstPass) (rw (step-shift, e, firstPass) at h)
-      go full e ih = let c = rw (step-shift, e, firstPass) at h in absurd (false≢true cc)
+      go : (s : Step) → stepBy z 0 (l .start) a t (lineOf (l .text)) ≡ s → ((a′ : ℕ) (t′ : Table) (g : Pass → Answer A) → Shifts a′ t′ ls g)
+          → andThen (firstPassBy z 0 a t (l ∷ ls)) (λ p. f (shiftPass b p)) ≡ accepted y
+      go halt e ih = rw (e, firstPassBy) (rw (step-shift z, e, firstPassBy) at h)
+      go full e ih = let c = rw (step-shift z, e, firstPassBy) at h in absurd (false≢true cc)
       go (next a′ t′ x) e ih = onward a′ t′ x e (ih a′ t′) (ltb (b + a′) addressLimit) refl

@@ -3,7 +3,7 @@ use Prim.Native.Nat.{ℕ, zero, suc, _+_, _-_, _≤_}
 use mathlib.Core.Path.{_≡_, refl, sym, _∙_}
 use mathlib.Core.Bool.{Bool, true, false, cond}
 use mathlib.Core.Option.{Option, none, some, Option·map, Option·getD, bind, orElse}
-use mathlib.Core.List.{List, [], _∷_, map}
+use mathlib.Core.List.{List, [], _∷_}
 use native.Mathlib.Nat.{add-assoc, zero-add, suc-add, add-suc}
 use native.Mathlib.Omega.{arith}
 use lib.Dec.{leb, ltb, leb·suc-suc}
@@ -11,8 +11,9 @@ use lib.ListN.{length, take, length-take}
 use lib.IntN.{subℕ}
 use Rattle.rules.specs.Text.{Text}
 use Rattle.rules.specs.Label.{Table}
-use Rattle.rules.specs.Encode.{Cell, literal, address, Operation, moveq, move, movea, muls, tst, subq, asl, dbra, nop, simhalt, add, sub, cmp, jmp, branch, two, one, oneOrMore, reach, displacement, isSome, jumps, withLabel, encodeMove, encodeOperation, encode}
-use Rattle.promises.proofs.Shift.{shiftTable, find-shift}
+use Rattle.rules.specs.Encode.{Cell, literal, Operation, moveq, move, movea, muls, tst, subq, asl, dbra, nop, simhalt, add, sub, cmp, jmp, branch, two, one, oneOrMore, reach, displacement, isSome, jumps, withLabel, encodeMove, encodeOperation, encode}
+use Rattle.promises.specs.Lawful.{shiftTable, shiftCell, shiftCells}
+use Rattle.promises.proofs.Shift.{find-shift}
 
 -- a function of the value goes into each combinator that the encoders are made of
 module _ {A B : Type 0} (g : A → B) where
@@ -86,14 +87,6 @@ displacement-shift b ls a s = simp (find-shift, bind-mapped, reach-shift)
 jumps-shift : (b : ℕ) (ls : Table) (s : Text) → jumps (shiftTable b ls) s ≡ jumps ls s
 unfolding jumps
 jumps-shift b ls s = simp (find-shift, isSome-mapped)
-
--- a cell under a shift: a label's address is b higher, a number stands
-unfoldable pub shiftCell : ℕ → Cell → Cell
-shiftCell b (literal w) = literal w
-shiftCell b (address x) = address (b + x)
-
-abbrev pub shiftCells : ℕ → List Cell → List Cell
-shiftCells b cs = map (shiftCell b) cs
 
 -- a row with a label under a shift
 withLabel-shift : (b : ℕ) (ls : Table) (w : ℕ) (l : Text) → withLabel (shiftTable b ls) w l ≡ Option·map (shiftCells b) (withLabel ls w l)

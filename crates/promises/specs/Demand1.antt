@@ -3,7 +3,7 @@
 -- list that the definitions give. Assumes nothing.
 use Prim.Native.Nat.{ℕ, suc, _+_, _<_, _≤_}
 use mathlib.Core.Path.{_≡_}
-use mathlib.Core.Logic.{_↔_, _≢_}
+use mathlib.Core.Logic.{_≢_}
 use mathlib.Core.Bool.{Bool, false, _||_, cond}
 use mathlib.Core.Option.{none, some}
 use mathlib.Core.List.{List, [], _∷_, map}
@@ -14,9 +14,10 @@ use Rattle.rules.specs.Limits.{maxSource, maxLines, maxLabels, addressLimit, la
 use Rattle.rules.specs.Text.{Text, cutAt, same}
 use Rattle.rules.specs.Line.{Line, skipped, end, org, item, lineOf, size}
 use Rattle.rules.specs.Answer.{accepted, refused}
-use Rattle.rules.specs.Assemble.{Place, Slices, assemble, assembleAnswer, assembleSlices}
+use Rattle.rules.specs.Assemble.{Sizes, Place, Slices, checks, passAtBy, assemble, assembleAnswer, assembleSlices}
 use Rattle.rules.specs.Relocate.{moveAnswer, moveSlices}
 use Rattle.rules.specs.Tally.{held, movedPlace}
+use Rattle.promises.specs.Stages.{Stage, all, byLine, RefusesExactly}
 
 -- p is the lowest index below n at which P holds
 pub record Lowest (P : ℕ → Type 0) (n p : ℕ) : Type 0 where
@@ -34,12 +35,12 @@ abbrev pub LineIs : Text → ℕ → Text → Type 0
 LineIs s j l = getElem? (cutAt 10 s) j ≡ some l
 
 -- the address after a line that is read at address a
-unfoldable pub addressAfter : ℕ → ℕ → Line → ℕ
-addressAfter base a skipped = a
-addressAfter base a end = a
-addressAfter base a (org none) = a
-addressAfter base a (org (some v)) = base + v
-addressAfter base a (item ns b) = a + size b
+unfoldable pub addressAfter : Sizes → ℕ → ℕ → Line → ℕ
+addressAfter z base a skipped = a
+addressAfter z base a end = a
+addressAfter z base a (org none) = a
+addressAfter z base a (org (some v)) = base + v
+addressAfter z base a (item ns b) = a + z b
 
 -- the names that a line records, in order
 unfoldable pub namesOf : Line → List Text
@@ -64,10 +65,10 @@ distinct [] = 0
 distinct (n ∷ ns) = cond (isAmong n ns) (distinct ns) (suc (distinct ns))
 
 -- j lines are read, none of them END; the address is a, and ns are recorded. The limits are set aside here
-pub data Reached (base : ℕ) (s : Text) : ℕ → ℕ → List Text → Type 0 where
-  start : Reached base s 0 base []
-  further : {j a : ℕ} {ns : List Text} {l : Text} → Reached base s j a ns → LineIs s j l → lineOf l ≢ end
-      → Reached base s (suc j) (addressAfter base a (lineOf l)) (onTop (namesOf (lineOf l)) ns)
+pub data Reached (z : Sizes) (base : ℕ) (s : Text) : ℕ → ℕ → List Text → Type 0 where
+  start : Reached z base s 0 base []
+  further : {j a : ℕ} {ns : List Text} {l : Text} → Reached z base s j a ns → LineIs s j l → lineOf l ≢ end
+      → Reached z base s (suc j) (addressAfter z base a (lineOf l)) (onTop (namesOf (lineOf l)) ns)
 
 -- of names recorded on top of ns, one is "a new label when 1,024 are recorded"
 pub data TooMany : List Text → List Text → Type 0 where
@@ -85,22 +86,30 @@ pub data OutOfRange : ℤ → Type 0 where
   too-low : {n : ℕ} → OutOfRange (negsuc n)
   too-high : {n : ℕ} → lastAddress < n → OutOfRange (pos n)
 
--- refusals 1 to 7: the condition of each number, at its place
-pub data AssembleCondition (base : ℕ) (s : Text) (x : Slices) : ℕ → ℕ → Type 0 where
+-- refusals 1 to 3: the condition of each number, at its place
+pub data SourceCondition (s : Text) : ℕ → ℕ → Type 0 where
   -- "1 source over 32,768 bytes; place its length"
-  source-over : maxSource < length s → AssembleCondition base s x 1 (length s)
+  source-over : maxSource < length s → SourceCondition s 1 (length s)
   -- "2 a byte over 127 anywhere; place the first one's index, from 0"
-  byte-over : {p : ℕ} → Lowest (λ i. 127 < getD s i 0) (length s) p → AssembleCondition base s x 2 p
+  byte-over : {p : ℕ} → Lowest (λ i. 127 < getD s i 0) (length s) p → SourceCondition s 2 p
   -- "3 over 4,096 lines; place the line count"
-  lines-over : maxLines < lineCount s → AssembleCondition base s x 3 (lineCount s)
+  lines-over : maxLines < lineCount s → SourceCondition s 3 (lineCount s)
+
+-- refusals 1 to 6, with the sizes z
+pub data PassCondition (z : Sizes) (base : ℕ) (s : Text) : ℕ → ℕ → Type 0 where
+  of-source : {n p : ℕ} → SourceCondition s n p → PassCondition z base s n p
   -- "4 base 2^30 or more; place 0"
-  base-over : addressLimit ≤ base → AssembleCondition base s x 4 0
+  base-over : addressLimit ≤ base → PassCondition z base s 4 0
   -- "5 address 2^30 or more after a line; place the line, from 1"
-  address-over : {j a : ℕ} {ns : List Text} {l : Text} → Reached base s j a ns → LineIs s j l
-      → addressLimit ≤ addressAfter base a (lineOf l) → AssembleCondition base s x 5 (suc j)
+  address-over : {j a : ℕ} {ns : List Text} {l : Text} → Reached z base s j a ns → LineIs s j l
+      → addressLimit ≤ addressAfter z base a (lineOf l) → PassCondition z base s 5 (suc j)
   -- "6 a new label when 1,024 are recorded; place the line"
-  labels-over : {j a : ℕ} {ns : List Text} {l : Text} → Reached base s j a ns → LineIs s j l
-      → TooMany (namesOf (lineOf l)) ns → AssembleCondition base s x 6 (suc j)
+  labels-over : {j a : ℕ} {ns : List Text} {l : Text} → Reached z base s j a ns → LineIs s j l
+      → TooMany (namesOf (lineOf l)) ns → PassCondition z base s 6 (suc j)
+
+-- refusals 1 to 7
+pub data AssembleCondition (base : ℕ) (s : Text) (x : Slices) : ℕ → ℕ → Type 0 where
+  of-pass : {n p : ℕ} → PassCondition size base s n p → AssembleCondition base s x n p
   -- "7 any slice shorter than the count needed; place that count"
   slice-short : {l : List Place} → assemble base s ≡ accepted l → Shorter x (length l) → AssembleCondition base s x 7 (length l)
 
@@ -115,29 +124,33 @@ pub data MoveCondition (x : Slices) (count : ℕ) (d : ℤ) : ℕ → ℕ → Ty
   -- "11 a moved address, in those places, below 0 or above 2^30 + 1; place its index", "its lowest index"
   address-out : {p : ℕ} → Lowest (λ i. OutOfRange (pos (getD (x .addresses) i 0) +ℤ d)) count p → MoveCondition x count d 11 p
 
--- the checks go in rounds by their numbers, but 6 shares the round of 5
-unfoldable pub round : ℕ → ℕ
-round n = cond (eqb n 6) 5 n
+-- "Assembling checks 1, 2, 3, 4, then line by line 6 before 5, then 7."
+abbrev pub checking : List Stage
+checking = all 1 ∷ all 2 ∷ all 3 ∷ []
 
--- "Assembling checks 1, 2, 3, 4, then line by line 6 before 5, then 7. Moving checks 8, 9, then 10 .., then 11":
--- condition m at place q is checked before condition n at place p
-pub data CheckedBefore (m q n p : ℕ) : Type 0 where
-  by-round : round m < round n → CheckedBefore m q n p
-  by-line : round m ≡ 5 → round n ≡ 5 → q < p → CheckedBefore m q n p
-  on-line : m ≡ 6 → n ≡ 5 → q ≡ p → CheckedBefore m q n p
+abbrev pub passing : List Stage
+passing = all 1 ∷ all 2 ∷ all 3 ∷ all 4 ∷ byLine (6 ∷ 5 ∷ []) ∷ []
 
--- "condition n of 01 holds, at that place, and none that 01 checks before it"
-abbrev pub FirstOf : (ℕ → ℕ → Type 0) → ℕ → ℕ → Type 0
-FirstOf Condition n p = Condition n p × ((m q : ℕ) → CheckedBefore m q n p → ¬ Condition m q)
+abbrev pub assembling : List Stage
+assembling = all 1 ∷ all 2 ∷ all 3 ∷ all 4 ∷ byLine (6 ∷ 5 ∷ []) ∷ all 7 ∷ []
 
--- "an answer is refusal (n, place) exactly if" that is so; no number but 1 to 7, or 8 to 11, has a condition
+-- "Moving checks 8, 9, then 10 over all count places, then 11 over all of them"
+abbrev pub moving : List Stage
+moving = all 8 ∷ all 9 ∷ all 10 ∷ all 11 ∷ []
+
+-- an answer is a refusal exactly by the first condition that holds, in a call's stages: of the checks, of the pass at a base with any
+-- sizes, of an assembling call and of a move; no number but those of its stages has a condition
+unfoldable pub ChecksRefuseExactly : Type 1
+ChecksRefuseExactly = (A : Type 0) (s : Text) (a : A) → RefusesExactly checking (SourceCondition s) (checks s (accepted a))
+
+unfoldable pub PassRefusesExactly : Type 0
+PassRefusesExactly = (z : Sizes) (base : ℕ) (s : Text) → RefusesExactly passing (PassCondition z base s) (passAtBy z base s)
+
 unfoldable pub AssembleRefusesExactly : Type 0
-AssembleRefusesExactly =
-    (base : ℕ) (s : Text) (x : Slices) (n p : ℕ) → (assembleAnswer base s x ≡ refused n p) ↔ FirstOf (AssembleCondition base s x) n p
+AssembleRefusesExactly = (base : ℕ) (s : Text) (x : Slices) → RefusesExactly assembling (AssembleCondition base s x) (assembleAnswer base s x)
 
 unfoldable pub MoveRefusesExactly : Type 0
-MoveRefusesExactly =
-    (x : Slices) (count : ℕ) (d : ℤ) (n p : ℕ) → (moveAnswer x count d ≡ refused n p) ↔ FirstOf (MoveCondition x count d) n p
+MoveRefusesExactly = (x : Slices) (count : ℕ) (d : ℤ) → RefusesExactly moving (MoveCondition x count d) (moveAnswer x count d)
 
 -- "a refusal leaves every slice as it was"
 pub record RefusalChangesNothing : Type 0 where

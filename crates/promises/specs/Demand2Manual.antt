@@ -11,7 +11,7 @@ use Rattle.rules.specs.Line.{Name, Body, bare, instruction, Line, skipped, end,
 use Rattle.rules.specs.Label.{Table, find}
 use Rattle.rules.specs.Encode.{writtenSigned}
 use Rattle.rules.specs.Assemble.{Place, secondPass}
-use Rattle.promises.specs.Manual.{InByte, byte, signOf, word, long, direct, indirect, immediate, Condition, T, CC, CS, NE, EQ, GE, LT, GT, LE, quick, quickOf, Instruction, MOVEQ, MOVE, MULS, ADD, SUB, CMP, TST, SUBQ, ASL, NOP, Bcc, Layout, layout, extensions, manualWords}
+use Rattle.manual.specs.Manual.{InByte, byte, signOf, word, long, direct, indirect, immediate, Condition, T, CC, CS, NE, EQ, GE, LT, GT, LE, quick, quickOf, Instruction, MOVEQ, MOVE, MULS, ADD, SUB, CMP, TST, SUBQ, ASL, NOP, Bcc, Layout, layout, extensions, manualWords}
 
 -- the operands Dn and (An) as texts: the digit of n is byte 48 + n
 abbrev pub D : ℕ → Text

@@ -1,4 +1,4 @@
--- Demand 3, sentence by sentence, over paper 01's definitions. Assumes nothing.
+-- Demand 3, sentence by sentence, over a size z and an encoder e: paper 01's, and whatever others are lawful. Assumes nothing.
 use Prim.Native.Nat.{ℕ}
 use mathlib.Core.Path.{_≡_}
 use mathlib.Core.Logic.{_≢_, _↔_}
@@ -10,15 +10,17 @@ use lib.IntN.{ℤ, pos, _-ℤ_}
 use Rattle.rules.specs.Text.{Text}
 use Rattle.rules.specs.Number.{modulo}
 use Rattle.rules.specs.Answer.{accepted}
-use Rattle.rules.specs.Assemble.{Place, Slices, assemble}
+use Rattle.rules.specs.Line.{size}
+use Rattle.rules.specs.Assemble.{Sizes, Encoder, Place, Slices, wordsOf, assembleBy}
 use Rattle.rules.specs.Relocate.{far, moveAnswer, moveSlices}
 use Rattle.rules.specs.Tally.{held, moves, tally, tallyList, lastTotal}
+use Rattle.promises.specs.Lawful.{Lawful}
 
 -- "Let one source be accepted at base b and at base c. Then moving its list for b by c − b is accepted and gives
 -- exactly its list for c: the same count, addresses, words and marks."
-unfoldable pub MovedIsAssembled : Type 0
-MovedIsAssembled =
-    (s : Text) (b c : ℕ) (lb lc : List Place) → assemble b s ≡ accepted lb → assemble c s ≡ accepted lc
+abbrev pub MovedIsAssembledBy : Sizes → Encoder → Type 0
+MovedIsAssembledBy z e =
+    (s : Text) (b c : ℕ) (lb lc : List Place) → assembleBy z e b s ≡ accepted lb → assembleBy z e c s ≡ accepted lc
     → (x : Slices) → held (length lb) x ≡ lb
     → (length lb ≡ length lc)
     × (moveAnswer x (length lb) (pos c -ℤ pos b) ≡ accepted (length lc))
@@ -26,26 +28,50 @@ MovedIsAssembled =
 
 -- "If c − b is not a multiple of 65,536, a word differs between the two exactly when its mark is 1."
 -- p and q are the places at index i of the two lists; their marks agree, so "its mark" is either's.
-unfoldable pub WordsDiffer : Type 0
-WordsDiffer =
-    (s : Text) (b c : ℕ) (lb lc : List Place) → assemble b s ≡ accepted lb → assemble c s ≡ accepted lc
+abbrev pub WordsDifferBy : Sizes → Encoder → Type 0
+WordsDifferBy z e =
+    (s : Text) (b c : ℕ) (lb lc : List Place) → assembleBy z e b s ≡ accepted lb → assembleBy z e c s ≡ accepted lc
     → modulo 65536 (pos c -ℤ pos b) ≢ 0
     → (i : ℕ) (p q : Place) → getElem? lb i ≡ some p → getElem? lc i ≡ some q
     → (p .mark ≡ q .mark) × ((p .word ≢ q .word) ↔ (p .mark ≡ 1))
 
 -- "And for every list of distances, let its moves be made one after another from the list for b, refused ones included.
 -- Then each answer, and the list after each move, is that of 01's tally."
-unfoldable pub MovesFollowTally : Type 0
-MovesFollowTally =
-    (s : Text) (b : ℕ) (l : List Place) → assemble b s ≡ accepted l
+abbrev pub MovesFollowTallyBy : Sizes → Encoder → Type 0
+MovesFollowTallyBy z e =
+    (s : Text) (b : ℕ) (l : List Place) → assembleBy z e b s ≡ accepted l
     → (x : Slices) → held (length l) x ≡ l
     → (ds : List ℤ) → moves (length l) x ds ≡ tally l (pos 0) ds
 
 -- "If the tally's last total is within ±(2^30 − 1), one move by it from the list for b is accepted and gives the tally's last list."
-unfoldable pub OneMoveForAll : Type 0
-OneMoveForAll =
-    (s : Text) (b : ℕ) (l : List Place) → assemble b s ≡ accepted l
+abbrev pub OneMoveForAllBy : Sizes → Encoder → Type 0
+OneMoveForAllBy z e =
+    (s : Text) (b : ℕ) (l : List Place) → assembleBy z e b s ≡ accepted l
     → (x : Slices) → held (length l) x ≡ l
     → (ds : List ℤ) → far (lastTotal l (pos 0) ds) ≡ false
     → (moveAnswer x (length l) (lastTotal l (pos 0) ds) ≡ accepted (length l))
     × (held (length l) (moveSlices x (length l) (lastTotal l (pos 0) ds)) ≡ tallyList (lastTotal l (pos 0) ds) l)
+
+-- demand 3 for a size and an encoder
+pub record Demand3By (z : Sizes) (e : Encoder) : Type 0 where
+  pub moved : MovedIsAssembledBy z e
+  pub differ : WordsDifferBy z e
+  pub follow : MovesFollowTallyBy z e
+  pub one : OneMoveForAllBy z e
+
+-- every lawful pair has it
+unfoldable pub LawfulMoves : Type 0
+LawfulMoves = (z : Sizes) (e : Encoder) (most : ℕ) → Lawful z e most → Demand3By z e
+
+-- and so has 01's
+unfoldable pub MovedIsAssembled : Type 0
+MovedIsAssembled = MovedIsAssembledBy size wordsOf
+
+unfoldable pub WordsDiffer : Type 0
+WordsDiffer = WordsDifferBy size wordsOf
+
+unfoldable pub MovesFollowTally : Type 0
+MovesFollowTally = MovesFollowTallyBy size wordsOf
+
+unfoldable pub OneMoveForAll : Type 0
+OneMoveForAll = OneMoveForAllBy size wordsOf

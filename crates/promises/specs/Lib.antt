@@ -1,9 +1,10 @@
 pub mod Examples
+pub mod Stages
 pub mod Demand1
-pub mod Manual
 pub mod Demand2Manual
 pub mod RustStr
 pub mod RustAssembler
 pub mod Demand2Rust
+pub mod Lawful
 pub mod Demand3
 pub mod Longest

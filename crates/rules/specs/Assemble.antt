@@ -1,4 +1,5 @@
--- The two passes, refusals 1 to 7, the list, and the lent slices after a call, by paper 01. Assumes nothing.
+-- The two passes, refusals 1 to 7, the list, and the lent slices after a call, by paper 01. The passes are said over a size and an
+-- encoder, `..By`; 01's own size and words have the plain names. A call goes in stages: `checks`, `passAt`, `encoded`, `room`. Assumes nothing.
 use Prim.Native.Nat.{ℕ, zero, suc, _+_, _/_, _%_}
 use mathlib.Core.Bool.{Bool, true, false, _||_}
 use mathlib.Core.Option.{Option, none, some, Option·getD}
@@ -42,33 +43,47 @@ pub data Step : Type 0 where
   full : Step
   next : ℕ → Table → Body → Step
 
-unfoldable pub advance : ℕ → Body → Option Table → Step
-advance a b none = full
-advance a b (some t) = next (a + size b) t b
+-- by how many bytes a body advances the address
+abbrev pub Sizes : Type 0
+Sizes = Body → ℕ
+
+unfoldable pub advanceBy : Sizes → ℕ → Body → Option Table → Step
+advanceBy z a b none = full
+advanceBy z a b (some t) = next (a + z b) t b
 
 -- the line that starts at i, read at address a with the labels t; ORG: "the address becomes base plus it"
-unfoldable pub step : ℕ → ℕ → ℕ → Table → Line → Step
-step base i a t skipped = next a t bare
-step base i a t end = halt
-step base i a t (org none) = next a t bare
-step base i a t (org (some v)) = next (base + v) t bare
-step base i a t (item ns b) = advance a b (recordAll i a ns t)
+unfoldable pub stepBy : Sizes → ℕ → ℕ → ℕ → Table → Line → Step
+stepBy z base i a t skipped = next a t bare
+stepBy z base i a t end = halt
+stepBy z base i a t (org none) = next a t bare
+stepBy z base i a t (org (some v)) = next (base + v) t bare
+stepBy z base i a t (item ns b) = advanceBy z a b (recordAll i a ns t)
 
 unfoldable pub putting : ℕ → Body → Pass → Answer Pass
 putting a b p = accepted (record { labels = p .labels; puts = record { address = a; body = b } ∷ p .puts })
 
 -- the first pass, line by line refusal 6 before 5
-unfoldable pub firstPass : ℕ → ℕ → Table → List SourceLine → Answer Pass
-firstPass base a t [] = accepted (record { labels = t; puts = [] })
-firstPass base a t (l ∷ ls) =
-    elim (step base (l .start) a t (lineOf (l .text))) [
+unfoldable pub firstPassBy : Sizes → ℕ → ℕ → Table → List SourceLine → Answer Pass
+firstPassBy z base a t [] = accepted (record { labels = t; puts = [] })
+firstPassBy z base a t (l ∷ ls) =
+    elim (stepBy z base (l .start) a t (lineOf (l .text))) [
       | halt ↦ accepted (record { labels = t; puts = [] })
       | full ↦ refused 6 (l .number)
       | next a′ t′ b ↦ elim (ltb a′ addressLimit) [
-        | true ↦ andThen (firstPass base a′ t′ ls) (putting a b)
+        | true ↦ andThen (firstPassBy z base a′ t′ ls) (putting a b)
         | false ↦ refused 5 (l .number)
       ]
     ]
+
+-- with 01's sizes
+abbrev pub advance : ℕ → Body → Option Table → Step
+advance a b o = advanceBy size a b o
+
+abbrev pub step : ℕ → ℕ → ℕ → Table → Line → Step
+step base i a t l = stepBy size base i a t l
+
+abbrev pub firstPass : ℕ → ℕ → Table → List SourceLine → Answer Pass
+firstPass base a t ls = firstPassBy size base a t ls
 
 -- a place of the list: an address, a word, and a mark, which is 1 on a label's address (a relocation flag)
 pub record Place : Type 0 where
@@ -96,34 +111,68 @@ dataCells bare = []
 dataCells (directive n v) = valueCells v
 dataCells (instruction m f ps) = []
 
-unfoldable pub codeCells : Table → ℕ → Body → List Cell
-codeCells t a bare = []
-codeCells t a (directive n v) = []
-codeCells t a (instruction m f ps) = Option·getD (encode t a m ps) []
+-- the words of a body as code, by the labels, at an address; none where it "yields no word"
+abbrev pub Encoder : Type 0
+Encoder = Table → ℕ → Body → Option (List Cell)
+
+-- 01's: those of an instruction
+unfoldable pub wordsOf : Encoder
+wordsOf t a bare = none
+wordsOf t a (directive n v) = none
+wordsOf t a (instruction m f ps) = encode t a m ps
+
+abbrev pub codeCellsBy : Encoder → Table → ℕ → Body → List Cell
+codeCellsBy e t a b = Option·getD (e t a b) []
 
 unfoldable pub dataPlaces : Put → List Place
 dataPlaces p = placesAt (p .address) (dataCells (p .body))
 
-unfoldable pub codePlaces : Table → Put → List Place
-codePlaces t p = placesAt (p .address) (codeCells t (p .address) (p .body))
+unfoldable pub codePlacesBy : Encoder → Table → Put → List Place
+codePlacesBy e t p = placesAt (p .address) (codeCellsBy e t (p .address) (p .body))
 
 -- "Data words come first in source order, and instruction words go in behind the data words."
-unfoldable pub secondPass : Pass → List Place
-secondPass p = flatMap dataPlaces (p .puts) ++ flatMap (codePlaces (p .labels)) (p .puts)
+unfoldable pub secondPassBy : Encoder → Pass → List Place
+secondPassBy e p = flatMap dataPlaces (p .puts) ++ flatMap (codePlacesBy e (p .labels)) (p .puts)
+
+-- with 01's words
+abbrev pub codeCells : Table → ℕ → Body → List Cell
+codeCells t a b = codeCellsBy wordsOf t a b
+
+abbrev pub codePlaces : Table → Put → List Place
+codePlaces t p = codePlacesBy wordsOf t p
+
+abbrev pub secondPass : Pass → List Place
+secondPass p = secondPassBy wordsOf p
 
 -- the index of the first byte over 127, counted from i
 unfoldable pub firstHigh : ℕ → Text → Option ℕ
 firstHigh i [] = none
 firstHigh i (b ∷ s) = elim (ltb 127 b) [ true ↦ some i | false ↦ firstHigh (suc i) s ]
 
--- "Assembling checks 1, 2, 3, 4, then line by line 6 before 5": the list of a source at a base
-unfoldable pub assemble : ℕ → Text → Answer (List Place)
-assemble base s =
+-- refusals 1 to 3, of a source alone, else what comes next
+unfoldable pub checks : {A : Type 0} → Text → Answer A → Answer A
+checks s a =
     refuseIf (ltb maxSource (length s)) 1 (length s)
     (refuseAt (firstHigh 0 s) 2
-    (refuseIf (ltb maxLines (length (cutAt 10 s))) 3 (length (cutAt 10 s))
-    (refuseIf (leb addressLimit base) 4 0
-    (andThen (firstPass base base [] (linesOf s)) (λ p. accepted (secondPass p))))))
+    (refuseIf (ltb maxLines (length (cutAt 10 s))) 3 (length (cutAt 10 s)) a))
+
+-- "Assembling checks 1, 2, 3, 4, then line by line 6 before 5": what the first pass over a source at a base comes to
+unfoldable pub passAtBy : Sizes → ℕ → Text → Answer Pass
+passAtBy z base s = checks s (refuseIf (leb addressLimit base) 4 0 (firstPassBy z base base [] (linesOf s)))
+
+abbrev pub passAt : ℕ → Text → Answer Pass
+passAt base s = passAtBy size base s
+
+-- the list of what the first pass came to
+abbrev pub encoded : Encoder → Pass → Answer (List Place)
+encoded e p = accepted (secondPassBy e p)
+
+-- the list of a source at a base
+unfoldable pub assembleBy : Sizes → Encoder → ℕ → Text → Answer (List Place)
+assembleBy z e base s = andThen (passAtBy z base s) (encoded e)
+
+abbrev pub assemble : ℕ → Text → Answer (List Place)
+assemble base s = assembleBy size wordsOf base s
 
 -- the three lent slices
 pub record Slices : Type 0 where
@@ -138,9 +187,13 @@ slices xs ws ms = record { addresses = xs; words = ws; marks = ms }
 unfoldable pub short : Slices → ℕ → Bool
 short x n = ltb (length (x .addresses)) n || ltb (length (x .words)) n || ltb (length (x .marks)) n
 
--- "then 7": the answer of a call, the count or a refusal
+-- "then 7": the count of a list that the slices have room for
+unfoldable pub room : Slices → List Place → Answer ℕ
+room x l = refuseIf (short x (length l)) 7 (length l) (accepted (length l))
+
+-- the answer of a call, the count or a refusal
 unfoldable pub assembleAnswer : ℕ → Text → Slices → Answer ℕ
-assembleAnswer base s x = andThen (assemble base s) (λ l. refuseIf (short x (length l)) 7 (length l) (accepted (length l)))
+assembleAnswer base s x = andThen (assemble base s) (room x)
 
 -- numbers put over the first places of a slice
 unfoldable pub over : List ℕ → List ℕ → List ℕ

@@ -10,7 +10,7 @@ use Rattle.rules.specs.Limits.{addressLimit}
 use Rattle.rules.specs.Line.{Name, Body, bare, size, Line, skipped, end, org, item, lineOf}
 use Rattle.rules.specs.Label.{Table, recordAll}
 use Rattle.rules.specs.Answer.{Answer, accepted, refused, andThen}
-use Rattle.rules.specs.Assemble.{SourceLine, Put, Pass, Step, halt, full, next, advance, step, putting, firstPass}
+use Rattle.rules.specs.Assemble.{SourceLine, Put, Pass, Step, halt, full, next, advance, step, putting, firstPass, advanceBy, firstPassBy, stepBy}
 use Rattle.scan.specs.Walk.{addressAfter, bodyOf, isEnd, putAt, walk, low}
 
 module _ (base a : ℕ) (l : SourceLine) (ls : List SourceLine) where
@@ -49,12 +49,12 @@ record Goes (base a a′ : ℕ) (b : Body) (l : Line) : Type 0 where
   body : b ≡ bodyOf l
 
 advance-goes : (base a a′ : ℕ) (o : Option Table) (t′ : Table) (b c : Body) (ns : List Name) → advance a c o ≡ next a′ t′ b → Goes base a a′ b (item ns c)
-unfolding advance addressAfter bodyOf isEnd
+unfolding advanceBy addressAfter bodyOf isEnd
 advance-goes base a a′ none t′ b c ns e = absurd (false≢true cc)
 advance-goes base a a′ (some t) t′ b c ns e = record { read = refl; after = cc; body = cc }
 
 step-goes : (base i a a′ : ℕ) (t t′ : Table) (b : Body) (l : Line) → step base i a t l ≡ next a′ t′ b → Goes base a a′ b l
-unfolding step addressAfter bodyOf isEnd
+unfolding stepBy addressAfter bodyOf isEnd
 step-goes base i a a′ t t′ b skipped e = record { read = refl; after = cc; body = cc }
 step-goes base i a a′ t t′ b end e = absurd (false≢true cc)
 step-goes base i a a′ t t′ b (org none) e = record { read = refl; after = cc; body = cc }
@@ -62,12 +62,12 @@ step-goes base i a a′ t t′ b (org (some v)) e = record { read = refl; after 
 step-goes base i a a′ t t′ b (item ns c) e = advance-goes base a a′ (recordAll i a ns t) t′ b c ns e
 
 advance-halts : (a : ℕ) (c : Body) (o : Option Table) → advance a c o ≡ halt → ⊥
-unfolding advance
+unfolding advanceBy
 advance-halts a c none e = false≢true cc
 advance-halts a c (some t) e = false≢true cc
 
 step-halts : (base i a : ℕ) (t : Table) (l : Line) → step base i a t l ≡ halt → isEnd l ≡ true
-unfolding step isEnd
+unfolding stepBy isEnd
 step-halts base i a t skipped e = absurd (false≢true cc)
 step-halts base i a t end e = refl
 step-halts base i a t (org none) e = absurd (false≢true cc)
@@ -87,21 +87,21 @@ then-accepted (refused n k) f y e = absurd (false≢true cc)
 
 module _ (base a : ℕ) (t : Table) (l : SourceLine) (ls : List SourceLine) where
   pub pass-halts : step base (l .start) a t (lineOf (l .text)) ≡ halt → firstPass base a t (l ∷ ls) ≡ accepted (record { labels = t; puts = [] })
-  unfolding firstPass
-  pass-halts e = rw (e, firstPass)
+  unfolding firstPassBy
+  pass-halts e = rw (e, firstPassBy)
 
   pub pass-full : step base (l .start) a t (lineOf (l .text)) ≡ full → firstPass base a t (l ∷ ls) ≡ refused 6 (l .number)
-  unfolding firstPass
-  pass-full e = rw (e, firstPass)
+  unfolding firstPassBy
+  pass-full e = rw (e, firstPassBy)
 
   module _ (a′ : ℕ) (t′ : Table) (b : Body) (e : step base (l .start) a t (lineOf (l .text)) ≡ next a′ t′ b) where
     pub pass-out : ltb a′ addressLimit ≡ false → firstPass base a t (l ∷ ls) ≡ refused 5 (l .number)
-    unfolding firstPass
-    pass-out f = rw (e, f, firstPass)
+    unfolding firstPassBy
+    pass-out f = rw (e, f, firstPassBy)
 
     pub pass-more : ltb a′ addressLimit ≡ true → firstPass base a t (l ∷ ls) ≡ andThen (firstPass base a′ t′ ls) (putting a b)
-    unfolding firstPass
-    pass-more f = rw (e, f, firstPass)
+    unfolding firstPassBy
+    pass-more f = rw (e, f, firstPassBy)
 
 -- one line in front of a walked pass
 walked-more : (base a a′ : ℕ) (b : Body) (l : SourceLine) (ls : List SourceLine) (p q : Pass) → Goes base a a′ b (lineOf (l .text))
@@ -116,7 +116,7 @@ walked-more base a a′ b l ls p q g f e w =
     }
 
 pub pass-walked : (base a : ℕ) (t : Table) (ls : List SourceLine) (p : Pass) → firstPass base a t ls ≡ accepted p → Walked base a ls p
-unfolding firstPass walk low
+unfolding firstPassBy walk low
 pass-walked base a t [] p e = record { puts = sym (ap (λ (x : Answer Pass). elim x [ accepted y ↦ y .puts | refused n k ↦ [] ]) e); stays = refl }
 pass-walked base a t (l ∷ ls) p e = go (step base (l .start) a t (lineOf (l .text))) refl (λ a′ t′ q. pass-walked base a′ t′ ls q)
   where

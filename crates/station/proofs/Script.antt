@@ -10,7 +10,7 @@ use lib.Seq.{take-all}
 use borrow.Author.Tests.{lt-ltb, le-ltb, ltb-true, ltb-false}
 use Rattle.rules.specs.Text.{Text}
 use Rattle.rules.specs.Answer.{Answer as Ruled, accepted, refused, refuseIf, andThen}
-use Rattle.rules.specs.Assemble.{Place, Slices, slices, short, assemble, assembleAnswer, writeList, assembleSlices}
+use Rattle.rules.specs.Assemble.{Place, Slices, slices, short, assemble, assembleAnswer, writeList, assembleSlices, assembleBy, checks, passAtBy, room}
 use Rattle.promises.specs.Longest.{AtMostTwoALine}
 use Rattle.promises.proofs.Longest.{at-most-two-a-line}
 use Rattle.promises.proofs.Demand1.{written}
@@ -27,7 +27,7 @@ longest t l e = at-most-two-a-line t 0 l e .1
 
 listed : (t : Text) (x : Slices) → 8192 ≤ length (x .addresses) → 8192 ≤ length (x .words) → 8192 ≤ length (x .marks)
     → answerText (answerOf (assembleAnswer 0 t x)) (assembleSlices 0 t x) ≡ scriptText t
-unfolding answerText listedText scriptText assembleAnswer assembleSlices andThen refuseIf writeList
+unfolding answerText listedText scriptText assembleAnswer room assembleSlices andThen refuseIf writeList
 listed t x a b c = go (assemble 0 t) refl
   where
     go : (d : Ruled (List Place)) → assemble 0 t ≡ d
@@ -49,7 +49,7 @@ unfolding inputText
 assembled n t h x a b c r y d = rw (d .answer, d .slices, le-ltb 32768 n h) (listed t x a b c)
 
 refused-long : (t : Text) → 32768 < length t → refusedText 1 (length t) ≡ scriptText t
-unfolding scriptText listedText assemble refuseIf
+unfolding scriptText listedText checks passAtBy assembleBy andThen refuseIf
 refused-long t h = rw (lt-ltb 32768 (length t) h)
 
 pub front-is-enough : FrontIsEnough
