@@ -2,19 +2,21 @@
 use Prim.Native.Nat.{ℕ, zero, suc}
 use mathlib.Core.Path.{_≡_, refl, ap, _∙_}
 use mathlib.Core.Bool.{Bool, true, false}
-use mathlib.Core.Option.{Option, none, some}
 use mathlib.Core.List.{List, [], _∷_, map, _++_}
 use lib.ListN.{length, drop, length-map}
 use lib.Seq.{drop-at}
-use lib.IntN.{ℤ}
+use lib.IntN.{ℤ, pos, _+ℤ_}
 use Rattle.rules.specs.Text.{Text}
-use Rattle.rules.specs.Answer.{Answer, accepted, refused, refuseIf, refuseAt, andThen}
+use Rattle.rules.specs.Answer.{Answer, accepted, refused, refuseIf, andThen}
 use Rattle.rules.specs.Assemble.{checks, passAtBy, assemble, Place, Slices, short, room, assembleAnswer, over, holding, writeList, assembleSlices}
-use Rattle.rules.specs.Relocate.{moveAddresses, moveWords, moveAnswer, moveBy, moveSlices}
-use Rattle.rules.specs.Tally.{listIn, held, movedPlace}
+use Rattle.rules.specs.Relocate.{far, outside, firstIndex, moveAddresses, moveWords, moveAnswer, moveBy, moveSlices}
+use Rattle.rules.specs.Tally.{listIn, held}
 use Rattle.promises.specs.Demand1.{SourceCondition, PassCondition, AssembleCondition, MoveCondition, checking, passing, assembling, moving, ChecksRefuseExactly, PassRefusesExactly, AssembleRefusesExactly, MoveRefusesExactly, RefusalChangesNothing, SamePast, Assembled, Moved, AcceptedWrites}
 use Rattle.promises.proofs.Compared.{clash}
 use Rattle.promises.proofs.Stages.{apart, are-apart, none-holds, refuses-exactly}
+use Rattle.promises.proofs.Accepted.{not-refused, not-refused-at}
+use Rattle.promises.proofs.Demand1Short.{long-enough}
+use Rattle.promises.proofs.Demand1Written.{moved-at, addresses-long, words-long}
 use Rattle.promises.proofs.Demand1Assemble as A
 use Rattle.promises.proofs.Demand1Move as M
 
@@ -80,17 +82,8 @@ written l x = (
   },
 )
 
--- a move writes the moved places, and nothing behind them
+-- a move writes nothing behind the moved places
 module _ (d : ℤ) where
-  held-moved : (n : ℕ) (xs ws ms : List ℕ) → listIn n (moveAddresses d n xs) (moveWords d n ms ws) ms ≡ map (movedPlace d) (listIn n xs ws ms)
-  unfolding listIn moveAddresses moveWords movedPlace
-  held-moved zero xs ws ms = refl
-  held-moved (suc n) [] ws ms = refl
-  held-moved (suc n) (a ∷ xs) [] [] = refl
-  held-moved (suc n) (a ∷ xs) [] (m ∷ ms) = refl
-  held-moved (suc n) (a ∷ xs) (w ∷ ws) [] = refl
-  held-moved (suc n) (a ∷ xs) (w ∷ ws) (m ∷ ms) = ap (λ r. movedPlace d (record { address = a; word = w; mark = m }) ∷ r) (held-moved n xs ws ms)
-
   past-addresses : (n : ℕ) (xs : List ℕ) → drop n (moveAddresses d n xs) ≡ drop n xs
   unfolding moveAddresses
   past-addresses zero xs = refl
@@ -124,34 +117,25 @@ accepted-list base s x n e = go (assemble base s) refl
     go (refused m q) f = let z : refused m q ≡ accepted n = rw f at e in clash cc
     go (accepted l) f = rw f (listed l f (short x (length l)) refl (rw f at e))
 
--- an answer that no check refuses is the last one
-if-accepted : (y : Bool) (m p : ℕ) (r : Answer ℕ) (n : ℕ) → refuseIf y m p r ≡ accepted n → r ≡ accepted n
-unfolding refuseIf
-if-accepted true m p r n e = clash cc
-if-accepted false m p r n e = e
-
-at-accepted : (o : Option ℕ) (m : ℕ) (r : Answer ℕ) (n : ℕ) → refuseAt o m r ≡ accepted n → r ≡ accepted n
-unfolding refuseAt
-at-accepted (some p) m r n e = clash cc
-at-accepted none m r n e = e
-
-moved-count : (x : Slices) (count : ℕ) (d : ℤ) (n : ℕ) → moveAnswer x count d ≡ accepted n → n ≡ count
-unfolding moveAnswer
-moved-count x count d n e =
-    let f = at-accepted _ _ _ n (at-accepted _ _ _ n (if-accepted _ _ _ _ n (if-accepted _ _ _ _ n e))) in
-    let g : accepted count ≡ accepted n = f in
-    cc
-
+-- an answer that no check refuses
 accepted-move : (x : Slices) (count : ℕ) (d : ℤ) (n : ℕ) → moveAnswer x count d ≡ accepted n → Moved count d n x (moveSlices x count d)
-unfolding moveSlices moveBy held apart
+unfolding moveAnswer moveSlices moveBy apart
 accepted-move x count d n e =
-    rw e
+    let k8 = not-refused (far d) 8 0 _ n e in
+    let k9 = not-refused (short x count) 9 count _ n (k8 .1) in
+    let k10 = not-refused-at _ 10 _ n (k9 .1) in
+    let k11 = not-refused-at (firstIndex (λ a. outside (pos a +ℤ d)) 0 count (x .addresses)) 11 (accepted count) n (k10 .1) in
+    let same : count ≡ n = let f = k11 .1 in cc in
+    let long = long-enough x count (k9 .0) in
+    rw (e, ← same)
     (record {
       clear = none-holds (MoveCondition x count d) moving (are-apart moving refl) (M.known x count d) n (moveAnswer x count d) e (M.answered x count d);
-      counted = moved-count x count d n e;
-      written = held-moved d n (x .addresses) (x .words) (x .marks);
-      past = record { addresses = past-addresses d n (x .addresses); words = past-words d n (x .marks) (x .words); marks = refl };
+      counted = refl;
+      moved = moved-at d count x (long .0) (long .1) (long .2) (k11 .0);
+      past = record { addresses = past-addresses d count (x .addresses); words = past-words d count (x .marks) (x .words); marks = refl };
       kept = refl;
+      addresses = addresses-long d count (x .addresses);
+      words = words-long d count (x .marks) (x .words);
     })
 
 pub accepted-writes : AcceptedWrites

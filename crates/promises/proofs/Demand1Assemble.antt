@@ -28,7 +28,7 @@ first-length b [] h = absurd (omega arith)
 first-length b (p ∷ ps) h = refl
 
 -- as many lines as the cut at byte 10 gives, and at least one
-counted : (s : Text) → (length (cutAt 10 s) ≡ lineCount s) × (0 < lineCount s)
+pub counted : (s : Text) → (length (cutAt 10 s) ≡ lineCount s) × (0 < lineCount s)
 unfolding cutAt cutWhere lineCount
 counted [] = (refl, omega arith)
 counted (b ∷ s) = go (eqb 10 b) refl (counted s)
@@ -50,7 +50,7 @@ high-first i (b ∷ s) = go (ltb 127 b) refl (high-first (suc i) s)
     go false e h = rw (e, firstHigh, firstIndex) h
 
 -- condition 2 by that search
-high-found : (s : Text) → Found (λ i. 127 < getD s i 0) (length s) (firstHigh 0 s)
+pub high-found : (s : Text) → Found (λ i. 127 < getD s i 0) (length s) (firstHigh 0 s)
 high-found s = rw (high-first 0 s) (search-finds (λ b. ltb 127 b) (λ b. 127 < b) (λ b. ltb-true 127 b) (λ b e h. let k = ltb-false 127 b e in omega arith) (length s) s (omega arith))
 
 -- the number that a condition has is one of its stages'

@@ -52,7 +52,7 @@ find-recorded n x (l ∷ t) = go (same (x .name) (l .name)) refl (same n (x .nam
     go false e y f false g ih = rw (e, recorded, g, find) ih
 
 -- a name that the table knows takes no room
-length-recorded : (x : Label) (t : Table) → length (recorded x t) ≡ cond (isSome (find (x .name) t)) (length t) (suc (length t))
+pub length-recorded : (x : Label) (t : Table) → length (recorded x t) ≡ cond (isSome (find (x .name) t)) (length t) (suc (length t))
 unfolding find recorded isSome
 length-recorded x [] = refl
 length-recorded x (l ∷ t) = go (same (x .name) (l .name)) refl (isSome (find (x .name) t)) refl (length-recorded x t)
@@ -88,12 +88,12 @@ pub data Recorded (ms ns : List Text) : Option Table → Type 0 where
   fits : {t : Table} → ¬ TooMany ms ns → Holds t (onTop ms ns) → Recorded ms ns (some t)
 
 -- what the test for room says of a label: it is new and the table is full, or a new one has room
-full-new : (o : Option ℕ) (t : Table) → hasRoom o t ≡ false → (isSome o ≡ false) × (maxLabels ≤ length t)
+pub full-new : (o : Option ℕ) (t : Table) → hasRoom o t ≡ false → (isSome o ≡ false) × (maxLabels ≤ length t)
 unfolding hasRoom isSome
 full-new none t e = (refl, ltb-false (length t) maxLabels e)
 full-new (some a) t e = clash cc
 
-new-room : (o : Option ℕ) (t : Table) → hasRoom o t ≡ true → isSome o ≡ false → length t < maxLabels
+pub new-room : (o : Option ℕ) (t : Table) → hasRoom o t ≡ true → isSome o ≡ false → length t < maxLabels
 unfolding hasRoom isSome
 new-room none t e f = ltb-true (length t) maxLabels e
 new-room (some a) t e f = clash cc

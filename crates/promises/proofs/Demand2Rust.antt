@@ -15,13 +15,12 @@ use Rattle.rules.specs.Assemble.{numbered, linesOf, Put, Pass, firstPass, Place
 use Rattle.promises.specs.RustStr.{split, HashMap, look-up, push, add-u32}
 use Rattle.promises.specs.RustAssembler.{AssemblyInstruction, Code, encode-instruction-with-ext, State, first-pass, push-data, push-ext, push-code, push-instruction}
 use Rattle.promises.specs.RustAssembler as Rust
-use Rattle.promises.specs.Demand2Rust.{unmarked, ListIsTheRusts}
+use Rattle.promises.specs.Demand2Rust.{instAt, unmarked, ListIsTheRusts}
 use Rattle.promises.proofs.Accepted.{accepts}
 use Rattle.promises.proofs.RustText.{split-is}
 use Rattle.promises.proofs.RustOperand.{Agrees}
 use Rattle.promises.proofs.RustEncode.{plain, extWords, codeWords, encode-same}
 use Rattle.promises.proofs.RustValue.{BodyLow}
-use Rattle.promises.proofs.RustLine.{instAt}
 use Rattle.promises.proofs.RustPass.{codeOf, valueAt, valueOf, PutLow, AllLow, nil, cons, Ended, texts, accepted-inj, never, pass-ends}
 
 -- words at an address, each two further on
@@ -106,7 +105,7 @@ data-put : (a : ℕ) (b : Body) → a < 2 ^ 30 → BodyLow b
 unfolding valueOf valueAt dataPlaces dataCells valueCells placesAt flatMap
 data-put a bare h k = refl
 data-put a (directive n none) h k = refl
-data-put a (directive n (some v)) h k = append-nil (dataWords (a, v)) ∙ data-words a v h k
+data-put a (directive n (some v)) h k = append-nil (dataWords (a, v)) ∙ data-words a v h (k .0)
 data-put a (instruction m f ps) h k = refl
 
 code-put : {m : HashMap} {t : Table} → Agrees m t → (a : ℕ) (b : Body) → a < 2 ^ 30
@@ -151,7 +150,7 @@ lines-texts n i [] = refl
 lines-texts n i (l ∷ ls) = ap (λ (r : List Text). l ∷ r) (lines-texts (suc n) _ ls)
 
 -- at first no label is known to either
-empty-agrees : Agrees [] []
+pub empty-agrees : Agrees [] []
 unfolding look-up find
 empty-agrees = record { finds = λ n. refl; low = λ n. tt }
 

@@ -17,16 +17,16 @@ use Rattle.rules.specs.Answer.{accepted}
 use Rattle.rules.specs.Line.{size}
 use Rattle.rules.specs.Assemble.{Sizes, Encoder, Place, wordsOf, assembleBy}
 use Rattle.rules.specs.Relocate.{far, movedWord}
-use Rattle.rules.specs.Tally.{firstOutside, movedPlace, tallyList, lastTotal}
+use Rattle.rules.specs.Tally.{firstOutside, movedPlace, tallyList, tallied}
 use Rattle.promises.specs.Lawful.{Lawful, RulesAreLawful}
-use Rattle.promises.specs.Demand3.{MovedIsAssembledBy, WordsDifferBy, MovesFollowTallyBy, OneMoveForAllBy, Demand3By, LawfulMoves, MovedIsAssembled, WordsDiffer, MovesFollowTally, OneMoveForAll}
+use Rattle.promises.specs.Demand3.{lastTotal, MovedIsAssembledBy, WordsDifferBy, MovesFollowTallyBy, OneMoveForAllBy, Demand3By, LawfulMoves, MovedIsAssembled, WordsDiffer, MovesFollowTally, OneMoveForAll}
 use Rattle.promises.proofs.Lists.{all-at, getElem?-map}
 use Rattle.promises.proofs.Accepted.{accepts}
 use Rattle.promises.proofs.Places.{list-at}
 use Rattle.promises.proofs.Fit.{Fit, listed}
 use Rattle.promises.proofs.Twice.{residue-lt, list-twice, outside-twice, inside-none, fit-inside, length-moved}
 use Rattle.promises.proofs.Lawful.{rules-are-lawful}
-use Rattle.promises.proofs.Moves.{follow-from-zero, last-total-inside, move-accepted, move-gives}
+use Rattle.promises.proofs.Moves.{follow-from-zero, last-total-inside, last-list-is, move-accepted, move-gives}
 
 -- two bases are less than 2^30 apart
 apart-sub : (b c : ℕ) → suc b < addressLimit → c < addressLimit → natAbs (subℕ c (suc b)) < distanceLimit
@@ -95,10 +95,13 @@ module _ {z : Sizes} {e : Encoder} {most : ℕ} (law : Lawful z e most) where
   moves-follow-tally-by s b l f x h ds = follow-from-zero l (listed law b s l f .fit) x h ds
 
   one-move-for-all-by : OneMoveForAllBy z e
+  unfolding far
   one-move-for-all-by s b l f x h ds ok =
       let fit = listed law b s l f .fit in
-      let ins = inside-none (lastTotal l (pos 0) ds) 0 l (last-total-inside l fit ds) in
-      (move-accepted l fit x h (lastTotal l (pos 0) ds) ok ins, move-gives l fit x h (lastTotal l (pos 0) ds) ok ins)
+      let total : ℤ = lastTotal (pos 0) (tallied l (pos 0) ds) in
+      let near : far total ≡ false = lt-leb distanceLimit (natAbs total) ok in
+      let ins = inside-none total 0 l (last-total-inside l fit ds) in
+      (move-accepted l fit x h total near ins, move-gives l fit x h total near ins ∙ sym (last-list-is l fit ds))
 
   demand-3-by : Demand3By z e
   demand-3-by = record { moved = moved-is-assembled-by; differ = words-differ-by; follow = moves-follow-tally-by; one = one-move-for-all-by }

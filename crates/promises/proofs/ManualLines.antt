@@ -30,7 +30,7 @@ branch-operation GT = refl
 branch-operation LE = refl
 
 -- 01 encodes a listed form as the manual's words, none of them a label's address
-encoded : {ls : Table} {a : ℕ} {m : Text} {f : Option Text} {ps : List Text} {i : Instruction} → Written ls a m f ps i
+pub encoded : {ls : Table} {a : ℕ} {m : Text} {f : Option Text} {ps : List Text} {i : Instruction} → Written ls a m f ps i
     → encode ls a m ps ≡ some (map literal (manualWords i))
 unfolding encode operationIn mnemonics same bytes bind orElse encodeOperation encodeMove two one oneOrMore R branchName manualWords layout join extensions extension mode register moveSize sizeField opmode condition
 encoded (moveq {s} {z} {n} e h) =
@@ -52,7 +52,7 @@ encoded (branch c {s} {z} d h) =
     rw (branch-operation c, displaced d, byte-modulo z (displaced-byte d), no-word z h) (one-word (omega arith))
 
 -- cells that are no label's address get mark 0
-unmarked-places : (a : ℕ) (ws : List ℕ) → placesAt a (map literal ws) ≡ unmarked a ws
+pub unmarked-places : (a : ℕ) (ws : List ℕ) → placesAt a (map literal ws) ≡ unmarked a ws
 unfolding placesAt placeOf unmarked
 unmarked-places a [] = refl
 unmarked-places a (w ∷ ws) = rw (unmarked-places (a + 2) ws)

@@ -9,7 +9,8 @@ use lib.IntN.{ℤ, pos, _+ℤ_, +ℤ-idl}
 use Rattle.rules.specs.Answer.{Answer, accepted, refused, refuseIf, refuseAt}
 use Rattle.rules.specs.Assemble.{Place, Slices}
 use Rattle.rules.specs.Relocate.{far, moveAnswer, moveBy, moveSlices}
-use Rattle.rules.specs.Tally.{held, moves, firstOutside, tallyAnswer, addIf, newTotal, tallyList, tally, lastTotal}
+use Rattle.rules.specs.Tally.{held, moves, firstOutside, tallyAnswer, addIf, newTotal, tallyList, tallied, seen, tally}
+use Rattle.promises.specs.Demand3.{lastTotal, lastList, Totalled, no-more, left-alone, added, TotalsAddUp}
 use Rattle.promises.proofs.Lists.{All}
 use Rattle.promises.proofs.Accepted.{not-refused, not-refused-at}
 use Rattle.promises.proofs.Fit.{Fit}
@@ -34,10 +35,30 @@ total-inside l t d h = go (tallyAnswer l t d) refl
     go (refused n i) e = h
     go (accepted n) e = tally-accepts l t d n e .1
 
-last-inside : (l : List Place) (t : ℤ) (ds : List ℤ) → Inside t l → Inside (lastTotal l t ds) l
-unfolding lastTotal
+last-inside : (l : List Place) (t : ℤ) (ds : List ℤ) → Inside t l → Inside (lastTotal t (tallied l t ds)) l
+unfolding lastTotal tallied
 last-inside l t [] ins = ins
 last-inside l t (d ∷ ds) ins = last-inside l (newTotal l t d) ds (total-inside l t d ins)
+
+-- the list held last is that of the total held last
+last-list : (l : List Place) (t : ℤ) (ds : List ℤ) → lastList (tallyList t l) (tallied l t ds) ≡ tallyList (lastTotal t (tallied l t ds)) l
+unfolding lastTotal lastList tallied
+last-list l t [] = refl
+last-list l t (d ∷ ds) = last-list l (newTotal l t d) ds
+
+-- the totals are those that the answers leave
+totalled : (l : List Place) (t : ℤ) (ds : List ℤ) → Totalled t ds (tallied l t ds)
+unfolding tallied newTotal addIf
+totalled l t [] = no-more
+totalled l t (d ∷ ds) = go (tallyAnswer l t d) refl (totalled l (newTotal l t d) ds)
+  where
+    go : (r : Answer ℕ) → tallyAnswer l t d ≡ r → Totalled (newTotal l t d) ds (tallied l (newTotal l t d) ds) → Totalled t (d ∷ ds) (tallied l t (d ∷ ds))
+    go (refused n p) e rest = let q : newTotal l t d ≡ t = rw e in left-alone n p e q rest
+    go (accepted n) e rest = let q : newTotal l t d ≡ t +ℤ d = rw e in added n e q rest
+
+pub totals-add-up : TotalsAddUp
+unfolding TotalsAddUp
+totals-add-up l ds = totalled l (pos 0) ds
 
 -- one call on slices that hold the tally's list at t: the tally's answer, and its next list
 module _ (l : List Place) (fit : All Fit l) (x : Slices) (t d : ℤ) (h : held (length l) x ≡ tallyList t l) (ins : Inside t l) where
@@ -57,7 +78,7 @@ module _ (l : List Place) (fit : All Fit l) (x : Slices) (t d : ℤ) (h : held (
 
 -- the moves follow the tally from any total that is inside
 follow : (l : List Place) → All Fit l → (x : Slices) (t : ℤ) (ds : List ℤ) → held (length l) x ≡ tallyList t l → Inside t l → moves (length l) x ds ≡ tally l t ds
-unfolding moves tally
+unfolding moves tally tallied seen
 follow l fit x t [] h ins = refl
 follow l fit x t (d ∷ ds) h ins =
     let k = same-list l fit x t d h ins in
@@ -68,8 +89,11 @@ module _ (l : List Place) (fit : All Fit l) where
   inside-zero : Inside (pos 0) l
   inside-zero = fit-inside 0 l (rw (list-zero l fit) fit)
 
-  pub last-total-inside : (ds : List ℤ) → Inside (lastTotal l (pos 0) ds) l
+  pub last-total-inside : (ds : List ℤ) → Inside (lastTotal (pos 0) (tallied l (pos 0) ds)) l
   last-total-inside ds = last-inside l (pos 0) ds inside-zero
+
+  pub last-list-is : (ds : List ℤ) → lastList l (tallied l (pos 0) ds) ≡ tallyList (lastTotal (pos 0) (tallied l (pos 0) ds)) l
+  last-list-is ds = rw (list-zero l fit) at (last-list l (pos 0) ds)
 
   module _ (x : Slices) (h : held (length l) x ≡ l) where
     at-zero : held (length l) x ≡ tallyList (pos 0) l

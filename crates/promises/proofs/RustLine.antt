@@ -10,10 +10,11 @@ use lib.Dec.{leb, ltb, eqb}
 use borrow.Author.Tests.{lt-ltb, le-leb}
 use Rattle.rules.specs.Text.{Text, bytes, uppers, leading, trim, trimStart, trimEnd, cutWhere, cutAt, dropEmpty, pieces, joined, Cut, uncut, around, firstCut, same, starts, contains, nth, firstText, otherTexts, lastText}
 use Rattle.rules.specs.Number.{number32}
-use Rattle.rules.specs.Line.{Name, name, Body, bare, directive, instruction, Line, skipped, end, org, item, numberIn, operandsOf, instructionOf, dataSize, dataValue, dataBody, isDirective, dataPieces, nonempty, dataLine, isData, restLine, afterLabel, labelLine, trimmedLine, lineOf, isL, isPlain, isLong, instructionSize}
-use Rattle.promises.specs.RustStr.{at, filter, is-empty, split, split-whitespace, splitn-2, to-uppercase, starts-with, join, add-u32}
+use Rattle.rules.specs.Line.{Name, name, directive, item, numberIn, operandsOf, instructionOf, dataSize, dataValue, dataBody, isDirective, dataPieces, nonempty, dataLine, isData, restLine, afterLabel, labelLine, trimmedLine, lineOf, isL, isPlain, isLong, instructionSize}
+use Rattle.promises.specs.RustStr.{at, filter, is-empty, split, split-whitespace, splitn-2, to-uppercase, starts-with, join}
 use Rattle.promises.specs.RustStr as Rust
-use Rattle.promises.specs.RustAssembler.{AssemblyInstruction, parse-org-directive, Parts, label-and-directive, directive-size, directive-value, parse-data-directive-with-value, is-l, instruction-size, parse-instruction, State, Flow, continue, break, set-address, insert-label, push-value, handle-directive, handle-instruction, handle-rest, handle-label, handle-org, body}
+use Rattle.promises.specs.RustAssembler.{AssemblyInstruction, parse-org-directive, Parts, label-and-directive, directive-size, directive-value, parse-data-directive-with-value, is-l, instruction-size, parse-instruction, State, continue, break, insert-label, handle-directive, handle-instruction, handle-rest, handle-label, handle-org, body}
+use Rattle.promises.specs.Demand2Rust.{instAt, put, insertAll, perform, LinesAreTheRusts}
 use Rattle.promises.proofs.RustText.{eqb-comm, starts-is, equals-is, contains-is, uppercase-is, trim-is, split-is, nonempty-is, pieces-is, join-is, cutTexts, isCut, splitn-is, contains-one, second-is, second-trimmed, get-is, AllFull, nil, cons, full-pieces, solid-pieces}
 use Rattle.promises.proofs.RustNumber.{clash, number32-is}
 
@@ -91,26 +92,6 @@ sizes-is m parts (s ∷ t ∷ ps) =
   where
     less : suc (suc (length ps)) - 1 ≡ suc (length ps)
     less = omega arith
-
--- what a body puts, at the current address
-abbrev pub instAt : ℕ → Text → Option Text → List Text → AssemblyInstruction
-instAt a m f ps = record { address = a; mnemonic = m; operands = ps; size = instructionSize m f ps }
-
-unfoldable pub put : Body → State → State
-put bare s = s
-put (directive n v) s = let s₂ = push-value v s in set-address (add-u32 (s₂ .current-address) n) s₂
-put (instruction m f ps) s = handle-instruction (instAt (s .current-address) m f ps) s
-
-unfoldable pub insertAll : List Name → State → State
-insertAll [] s = s
-insertAll (n ∷ ns) s = insertAll ns (insert-label (n .text) s)
-
--- what a line does to the loop
-unfoldable pub perform : Line → State → Flow
-perform skipped s = continue s
-perform end s = break s
-perform (org v) s = continue (handle-org v s)
-perform (item ns b) s = continue (put b (insertAll ns s))
 
 -- step 6
 first-is : (ps : List Text) → at ps 0 ≡ firstText ps
@@ -310,3 +291,7 @@ body-is s st = rw (trim-is s) (go (leading s) (trim s))
         on false e true f z g = rw (trimmedLine, e, f)
         on false e false f true g = rw (trimmedLine, e, f, g)
         on false e false f false g = rw (trimmedLine, e, f, g)
+
+pub lines-are-the-rusts : LinesAreTheRusts
+unfolding LinesAreTheRusts
+lines-are-the-rusts = body-is

@@ -20,7 +20,8 @@ use Rattle.promises.proofs.RustText.{same-eq, equals-is}
 use Rattle.promises.proofs.RustNumber.{All}
 use Rattle.promises.proofs.RustOperand.{Agrees}
 use Rattle.promises.proofs.RustValue.{BodyLow, item-low}
-use Rattle.promises.proofs.RustLine.{instAt, put, insertAll, perform, body-is}
+use Rattle.promises.specs.Demand2Rust.{instAt, put, insertAll, perform}
+use Rattle.promises.proofs.RustLine.{body-is}
 
 -- the label recorded last is found
 find-recorded : (q : Text) (x : Label) (t : Table) → find q (recorded x t) ≡ cond (same q (x .name)) (some (x .address)) (find q t)
@@ -43,7 +44,7 @@ find-recorded q x (l ∷ t) = go (same q (x .name)) refl (same (x .name) (l .nam
     go false e false f true g ih = rw (recorded, f, find, g, e)
     go false e false f false g ih = rw (recorded, f, find, g, e) (rw e at ih)
 
-insert-agrees : {m : HashMap} {t : Table} (x : Label) → x .address < 2 ^ 30 → Agrees m t → Agrees (insert m (x .name) (x .address)) (recorded x t)
+pub insert-agrees : {m : HashMap} {t : Table} (x : Label) → x .address < 2 ^ 30 → Agrees m t → Agrees (insert m (x .name) (x .address)) (recorded x t)
 unfolding insert look-up
 insert-agrees {m} {t} x h g = record { finds = λ q. go q (same q (x .name)) refl; low = λ q. below q (same q (x .name)) refl }
   where
@@ -94,7 +95,7 @@ module _ (a : ℕ) (s : State) (c : s .current-address ≡ a) (t : Table) (g : A
   abbrev putAt : Body → Put
   putAt b = record { address = a; body = b }
 
-  put-is : (b : Body) → a + size b < 2 ^ 32 → Putting s (put b s) (a + size b) t (putAt b)
+  pub put-is : (b : Body) → a + size b < 2 ^ 32 → Putting s (put b s) (a + size b) t (putAt b)
   unfolding put size codeOf valueOf valueAt push-value set-address handle-instruction
   put-is bare h =
       record { current = c ∙ sym (add-zero a); agrees = g; instructions = sym (append-nil (s .instructions)); values = sym (append-nil (s .data-values)) }
@@ -106,12 +107,12 @@ module _ (a : ℕ) (s : State) (c : s .current-address ≡ a) (t : Table) (g : A
       record { current = rw c (mod-eq-of-lt h); agrees = g; instructions = rw c; values = sym (append-nil (s .data-values)) }
 
 -- labels leave the rest of a state alone
-record Kept (s s′ : State) : Type 0 where
-  current : s′ .current-address ≡ s .current-address
-  instructions : s′ .instructions ≡ s .instructions
-  values : s′ .data-values ≡ s .data-values
+pub record Kept (s s′ : State) : Type 0 where
+  pub current : s′ .current-address ≡ s .current-address
+  pub instructions : s′ .instructions ≡ s .instructions
+  pub values : s′ .data-values ≡ s .data-values
 
-insertAll-keeps : (ns : List Name) (s : State) → Kept s (insertAll ns s)
+pub insertAll-keeps : (ns : List Name) (s : State) → Kept s (insertAll ns s)
 unfolding insertAll insert-label
 insertAll-keeps [] s = record { current = refl; instructions = refl; values = refl }
 insertAll-keeps (n ∷ ns) s = let k = insertAll-keeps ns (insert-label (n .text) s) in record { current = k .current; instructions = k .instructions; values = k .values }

@@ -1,15 +1,16 @@
--- A value that a line of data has is below 2^32, by paper 01's reading of a line. Assumes nothing.
-use Prim.Native.Nat.{ℕ, _+_, _^_, _<_}
+-- A value that a line of data has is below 2^32, and no line takes more than 4 bytes, by paper 01's reading of a line. Assumes nothing.
+use Prim.Native.Nat.{ℕ, _+_, _^_, _≤_, _<_}
 use mathlib.Core.Path.{_≡_, refl}
-use mathlib.Core.Bool.{Bool, true, false, cond}
+use mathlib.Core.Bool.{Bool, true, false, _||_, cond}
 use mathlib.Core.Option.{Option, none, some}
 use mathlib.Core.List.{List, [], _∷_, _++_}
+use native.Mathlib.Omega.{arith}
 use lib.ListN.{length}
 use lib.Dec.{ltb, eqb}
 use borrow.Author.Tests.{ltb-true}
-use Rattle.rules.specs.Text.{Text, bytes, uppers, leading, trim, pieces, joined, Cut, uncut, around, firstCut, starts, contains, nth}
+use Rattle.rules.specs.Text.{Text, bytes, uppers, leading, trim, pieces, joined, Cut, uncut, around, firstCut, starts, contains, nth, lastText}
 use Rattle.rules.specs.Number.{below, number, someDigits, without, hexTail, byPrefix, number32}
-use Rattle.rules.specs.Line.{Name, name, Body, bare, directive, instruction, Line, skipped, end, org, item, numberIn, instructionOf, dataValue, dataBody, isDirective, dataPieces, dataLine, isData, restLine, afterLabel, labelLine, trimmedLine, lineOf}
+use Rattle.rules.specs.Line.{Name, name, Body, bare, directive, instruction, Line, skipped, end, org, item, numberIn, instructionOf, dataValue, dataBody, isDirective, dataPieces, dataLine, isData, restLine, afterLabel, labelLine, trimmedLine, lineOf, isLong, instructionSize, size, dataSize}
 use Rattle.promises.proofs.RustNumber.{All}
 
 abbrev pub Value : ℕ → Type 0
@@ -18,7 +19,7 @@ Value v = v < 2 ^ 32
 -- of a body's value, and of a line's body
 abbrev pub BodyLow : Body → Type 0
 BodyLow bare = Unit {0}
-BodyLow (directive n v) = All Value v
+BodyLow (directive n v) = All Value v × (n ≤ 4)
 BodyLow (instruction m f ps) = Unit {0}
 
 abbrev LineLow : Line → Type 0
@@ -44,9 +45,22 @@ number-low s = go (hexTail s) refl
     go none e = rw (byPrefix, e) (below-low (someDigits 10 (without 43 s)))
     go (some t) e = rw (byPrefix, e) (below-low (someDigits 16 (without 43 t)))
 
+-- a size is 4 or less
+size-low : (x y z : Bool) → cond x 4 (cond y 2 (cond z 1 2)) ≤ 4
+size-low true y z = omega arith
+size-low false true z = omega arith
+size-low false false true = omega arith
+size-low false false false = omega arith
+
+sized : (u : Text) → dataSize u ≤ 4
+unfolding dataSize
+sized u =
+    size-low (contains (bytes "DC.L") u || contains (bytes "DS.L") u) (contains (bytes "DC.W") u || contains (bytes "DS.W") u)
+    (contains (bytes "DC.B") u || contains (bytes "DS.B") u)
+
 data-low : (s d : Text) → BodyLow (dataBody s d)
 unfolding dataBody dataValue numberIn
-data-low s d = go (contains (bytes "DC.") (uppers s))
+data-low s d = (go (contains (bytes "DC.") (uppers s)), sized (uppers s))
   where
     piece : (o : Option Text) → All Value (numberIn o)
     piece none = tt
@@ -108,3 +122,16 @@ line-low s = go (leading s) (trim s)
 -- the body of a line that is read as an item
 pub item-low : (s : Text) (ns : List Name) (b : Body) → lineOf s ≡ item ns b → BodyLow b
 item-low s ns b e = rw e at (line-low s)
+
+-- takes at most 4 bytes
+pub body-size : (b : Body) → BodyLow b → size b ≤ 4
+unfolding size instructionSize
+body-size bare h = omega arith
+body-size (directive n v) h = h .1
+body-size (instruction m f []) h = omega arith
+body-size (instruction m f (s ∷ [])) h = omega arith
+body-size (instruction m f (s ∷ t ∷ ps)) h = go (isLong m f s (lastText t ps))
+  where
+    go : (x : Bool) → cond x 4 2 ≤ 4
+    go true = omega arith
+    go false = omega arith

@@ -1,7 +1,7 @@
 -- Demand 1 on paper 01's definitions: which calls are refused, with which number and place, and what a call writes.
 -- The eleven conditions are said from 01's text, apart from the tests by which the definitions decide them; 7 speaks of the
--- list that the definitions give. Assumes nothing.
-use Prim.Native.Nat.{ℕ, suc, _+_, _<_, _≤_}
+-- list that the definitions give, 5 and 6 of what they read in a line (at base 0 Demand2Rust says both of the Rust's states). Assumes nothing.
+use Prim.Native.Nat.{ℕ, suc, _+_, _*_, _<_, _≤_}
 use mathlib.Core.Path.{_≡_}
 use mathlib.Core.Logic.{_≢_}
 use mathlib.Core.Bool.{Bool, false, _||_, cond}
@@ -16,7 +16,7 @@ use Rattle.rules.specs.Line.{Line, skipped, end, org, item, lineOf, size}
 use Rattle.rules.specs.Answer.{accepted, refused}
 use Rattle.rules.specs.Assemble.{Sizes, Place, Slices, checks, passAtBy, assemble, assembleAnswer, assembleSlices}
 use Rattle.rules.specs.Relocate.{moveAnswer, moveSlices}
-use Rattle.rules.specs.Tally.{held, movedPlace}
+use Rattle.rules.specs.Tally.{held}
 use Rattle.promises.specs.Stages.{Stage, all, byLine, RefusesExactly}
 
 -- p is the lowest index below n at which P holds
@@ -172,13 +172,31 @@ pub record Assembled (base : ℕ) (s : Text) (n : ℕ) (x y : Slices) : Type 0 w
   pub written : held n y ≡ list
   pub past : SamePast n y x
 
+-- a and b differ by a multiple of m
+pub record Congruent (m : ℕ) (a b : ℤ) : Type 0 where
+  pub up : ℕ
+  pub down : ℕ
+  pub meet : a +ℤ pos (m * up) ≡ b +ℤ pos (m * down)
+
+-- place i of x, moved by the distance d, is that of y, in plain integers
+pub record MovedAt (d : ℤ) (x y : Slices) (i : ℕ) : Type 0 where
+  -- "it adds the distance to each address"
+  pub address : pos (getD (y .addresses) i 0) ≡ pos (getD (x .addresses) i 0) +ℤ d
+  -- "a marked word becomes (word + distance) modulo 65,536"
+  pub reduced : getD (x .marks) i 0 ≡ 1 → getD (y .words) i 0 < 65536
+  pub congruent : getD (x .marks) i 0 ≡ 1 → Congruent 65536 (pos (getD (y .words) i 0)) (pos (getD (x .words) i 0) +ℤ d)
+  -- any other word stays
+  pub stays : getD (x .marks) i 0 ≢ 1 → getD (y .words) i 0 ≡ getD (x .words) i 0
+
 -- a move accepted with the count n: no condition holds, each of the first n places is moved, the rest and all marks are those of x
 pub record Moved (count : ℕ) (d : ℤ) (n : ℕ) (x y : Slices) : Type 0 where
   pub clear : (m q : ℕ) → ¬ MoveCondition x count d m q
   pub counted : n ≡ count
-  pub written : held n y ≡ map (movedPlace d) (held n x)
+  pub moved : (i : ℕ) → i < n → MovedAt d x y i
   pub past : SamePast n y x
   pub kept : y .marks ≡ x .marks
+  pub addresses : length (y .addresses) ≡ length (x .addresses)
+  pub words : length (y .words) ≡ length (x .words)
 
 -- what an accepted call writes
 pub record AcceptedWrites : Type 0 where

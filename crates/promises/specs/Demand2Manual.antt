@@ -1,16 +1,19 @@
 -- Demand 2, the manual: "In the forms that 01 lists as those of the M68000 Programmer's Reference Manual, each word
 -- is proved to be the manual's". The forms as lines are written, and the statement about lines. Assumes nothing.
-use Prim.Native.Nat.{ℕ, _+_, _≤_, _<_, _^_}
+use Prim.Native.Nat.{ℕ, suc, _+_, _≤_, _<_, _^_}
 use mathlib.Core.Path.{_≡_}
 use mathlib.Core.Option.{Option, none, some}
-use mathlib.Core.List.{List, [], _∷_, _++_}
+use mathlib.Core.List.{List, [], _∷_, _++_, flatMap}
+use lib.ListN.{take, drop}
 use lib.IntN.{ℤ, pos, negsuc, _+ℤ_}
 use Rattle.rules.specs.Text.{Text, bytes}
 use Rattle.rules.specs.Number.{imm8, imm16}
-use Rattle.rules.specs.Line.{Name, Body, bare, instruction, Line, skipped, end, org, item, lineOf}
+use Rattle.rules.specs.Line.{Name, Body, bare, instruction, size, Line, skipped, end, org, item, lineOf}
 use Rattle.rules.specs.Label.{Table, find}
 use Rattle.rules.specs.Encode.{writtenSigned}
-use Rattle.rules.specs.Assemble.{Place, secondPass}
+use Rattle.rules.specs.Answer.{accepted}
+use Rattle.rules.specs.Assemble.{Pass, Place, dataPlaces, codePlaces, secondPass, passAt, assemble}
+use Rattle.promises.specs.Demand1.{Reached, LineIs as IsLine}
 use Rattle.manual.specs.Manual.{InByte, byte, signOf, word, long, direct, indirect, immediate, Condition, T, CC, CS, NE, EQ, GE, LT, GT, LE, quick, quickOf, Instruction, MOVEQ, MOVE, MULS, ADD, SUB, CMP, TST, SUBQ, ASL, NOP, Bcc, Layout, layout, extensions, manualWords}
 
 -- the operands Dn and (An) as texts: the digit of n is byte 48 + n
@@ -104,6 +107,23 @@ unmarked a (w ∷ ws) = record { address = a; word = w; mark = 0 } ∷ unmarked 
 abbrev pub LinesAreTheManuals : Type 0
 LinesAreTheManuals =
     (ls : Table) (a : ℕ) (l : Text) (i : Instruction) → LineIs ls a l i → emitted ls a l ≡ unmarked a (manualWords i)
+
+-- what stands before and behind the words of the line behind the first j ones, in the list of what the first pass came to: all data
+-- words and the earlier lines' words; the later lines' words
+unfoldable pub wordsBefore : Pass → ℕ → List Place
+wordsBefore p j = flatMap dataPlaces (p .puts) ++ flatMap (codePlaces (p .labels)) (take j (p .puts))
+
+unfoldable pub wordsBehind : Pass → ℕ → List Place
+wordsBehind p j = flatMap (codePlaces (p .labels)) (drop (suc j) (p .puts))
+
+-- on the list: for an accepted source and base, and each of its lines that is read and is an instruction of the manual, at the line's
+-- address and with the source's labels, the manual's words stand there with mark 0, from that address on, in their place
+unfoldable pub ListHoldsTheManuals : Type 0
+ListHoldsTheManuals =
+    (base : ℕ) (s : Text) (p : Pass) → passAt base s ≡ accepted p
+    → (j a : ℕ) (ns : List Text) (l : Text) → Reached size base s j a ns → IsLine s j l
+    → (i : Instruction) → LineIs (p .labels) a l i
+    → assemble base s ≡ accepted (wordsBefore p j ++ (unmarked a (manualWords i) ++ wordsBehind p j))
 
 -- every word of the extension has sixteen bits
 abbrev pub Words : List ℕ → Type 0

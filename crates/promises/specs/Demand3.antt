@@ -1,19 +1,19 @@
 -- Demand 3, sentence by sentence, over a size z and an encoder e: paper 01's, and whatever others are lawful. Assumes nothing.
-use Prim.Native.Nat.{ℕ}
+use Prim.Native.Nat.{ℕ, _<_}
 use mathlib.Core.Path.{_≡_}
 use mathlib.Core.Logic.{_≢_, _↔_}
-use mathlib.Core.Bool.{false}
 use mathlib.Core.Option.{some}
-use mathlib.Core.List.{List}
+use mathlib.Core.List.{List, [], _∷_}
 use lib.ListN.{length, getElem?}
-use lib.IntN.{ℤ, pos, _-ℤ_}
+use lib.IntN.{ℤ, pos, _+ℤ_, _-ℤ_, natAbs}
+use Rattle.rules.specs.Limits.{distanceLimit}
 use Rattle.rules.specs.Text.{Text}
 use Rattle.rules.specs.Number.{modulo}
-use Rattle.rules.specs.Answer.{accepted}
+use Rattle.rules.specs.Answer.{accepted, refused}
 use Rattle.rules.specs.Line.{size}
 use Rattle.rules.specs.Assemble.{Sizes, Encoder, Place, Slices, wordsOf, assembleBy}
-use Rattle.rules.specs.Relocate.{far, moveAnswer, moveSlices}
-use Rattle.rules.specs.Tally.{held, moves, tally, tallyList, lastTotal}
+use Rattle.rules.specs.Relocate.{moveAnswer, moveSlices}
+use Rattle.rules.specs.Tally.{held, moves, Tallied, tallied, tally}
 use Rattle.promises.specs.Lawful.{Lawful}
 
 -- "Let one source be accepted at base b and at base c. Then moving its list for b by c − b is accepted and gives
@@ -43,14 +43,35 @@ MovesFollowTallyBy z e =
     → (x : Slices) → held (length l) x ≡ l
     → (ds : List ℤ) → moves (length l) x ds ≡ tally l (pos 0) ds
 
+-- the total and the list that the tally holds last, from those that it holds at first
+unfoldable pub lastTotal : ℤ → List Tallied → ℤ
+lastTotal total [] = total
+lastTotal total (t ∷ ts) = lastTotal (t .total) ts
+
+unfoldable pub lastList : List Place → List Tallied → List Place
+lastList l [] = l
+lastList l (t ∷ ts) = lastList (t .list) ts
+
 -- "If the tally's last total is within ±(2^30 − 1), one move by it from the list for b is accepted and gives the tally's last list."
 abbrev pub OneMoveForAllBy : Sizes → Encoder → Type 0
 OneMoveForAllBy z e =
     (s : Text) (b : ℕ) (l : List Place) → assembleBy z e b s ≡ accepted l
     → (x : Slices) → held (length l) x ≡ l
-    → (ds : List ℤ) → far (lastTotal l (pos 0) ds) ≡ false
-    → (moveAnswer x (length l) (lastTotal l (pos 0) ds) ≡ accepted (length l))
-    × (held (length l) (moveSlices x (length l) (lastTotal l (pos 0) ds)) ≡ tallyList (lastTotal l (pos 0) ds) l)
+    → (ds : List ℤ) → natAbs (lastTotal (pos 0) (tallied l (pos 0) ds)) < distanceLimit
+    → (moveAnswer x (length l) (lastTotal (pos 0) (tallied l (pos 0) ds)) ≡ accepted (length l))
+    × (held (length l) (moveSlices x (length l) (lastTotal (pos 0) (tallied l (pos 0) ds))) ≡ lastList l (tallied l (pos 0) ds))
+
+-- the totals held one after another, from a first one: "A refused distance leaves the total alone; any other is accepted and added to it."
+pub data Totalled : ℤ → List ℤ → List Tallied → Type 0 where
+  no-more : {total : ℤ} → Totalled total [] []
+  left-alone : {total d : ℤ} {ds : List ℤ} {t : Tallied} {ts : List Tallied} (n p : ℕ) → t .answer ≡ refused n p → t .total ≡ total
+      → Totalled (t .total) ds ts → Totalled total (d ∷ ds) (t ∷ ts)
+  added : {total d : ℤ} {ds : List ℤ} {t : Tallied} {ts : List Tallied} (n : ℕ) → t .answer ≡ accepted n → t .total ≡ total +ℤ d
+      → Totalled (t .total) ds ts → Totalled total (d ∷ ds) (t ∷ ts)
+
+-- "It holds a total, at first 0.", and what is said of it there holds of each of the tally's totals, by its answers
+unfoldable pub TotalsAddUp : Type 0
+TotalsAddUp = (l : List Place) (ds : List ℤ) → Totalled (pos 0) ds (tallied l (pos 0) ds)
 
 -- demand 3 for a size and an encoder
 pub record Demand3By (z : Sizes) (e : Encoder) : Type 0 where

@@ -6,7 +6,7 @@ use lib.ListN.{length}
 use lib.IntN.{ℤ, pos}
 use Rattle.rules.specs.Assemble.{Place, Slices}
 use Rattle.rules.specs.Relocate.{moveSlices}
-use Rattle.rules.specs.Tally.{held, moves, tally, tallyList, newTotal, lastTotal}
+use Rattle.rules.specs.Tally.{held, moves, tally, tallyList, newTotal}
 use Rattle.rules.specs.Assemble.{slices}
 use Rattle.relocate.specs.Moves.{slicesAfter, MovedAll}
 use Rattle.relocate.specs.Tallied.{lastList, Tallied}
@@ -22,11 +22,6 @@ unfolding slicesAfter lastList moves
 holds-last n x [] = refl
 holds-last n x (d ∷ ds) = holds-last n (moveSlices x n d) ds
 
--- from a total on, the tally's last list is its list at the last total
-pub last-at-total : (l : List Place) (total : ℤ) (ds : List ℤ) → lastList (tallyList total l) (tally l total ds) ≡ tallyList (lastTotal l total ds) l
-unfolding lastList tally lastTotal
-last-at-total l total [] = refl
-last-at-total l total (d ∷ ds) = last-at-total l (newTotal l total d) ds
 
 -- "resting on the promise": moves ≡ tally is what the promise gives for an accepted source's list
 pub tallied : (l : List Place) (x : Slices) (ds : List ℤ) → held (length l) x ≡ l → moves (length l) x ds ≡ tally l (pos 0) ds

@@ -56,13 +56,22 @@ movedPlace total p =
 unfoldable pub tallyList : ℤ → List Place → List Place
 tallyList total l = map (movedPlace total) l
 
--- the tally from a total on
-unfoldable pub tally : List Place → ℤ → List ℤ → List Seen
-tally l total [] = []
-tally l total (d ∷ ds) =
-    record { answer = tallyAnswer l total d; list = tallyList (newTotal l total d) l } ∷ tally l (newTotal l total d) ds
+-- what the tally gives for a distance: its answer, and the total and the list that it holds after it
+pub record Tallied : Type 0 where
+  pub answer : Answer ℕ
+  pub total : ℤ
+  pub list : List Place
 
--- "the tally's last total"
-unfoldable pub lastTotal : List Place → ℤ → List ℤ → ℤ
-lastTotal l total [] = total
-lastTotal l total (d ∷ ds) = lastTotal l (newTotal l total d) ds
+-- the tally from a total on
+unfoldable pub tallied : List Place → ℤ → List ℤ → List Tallied
+tallied l total [] = []
+tallied l total (d ∷ ds) =
+    record { answer = tallyAnswer l total d; total = newTotal l total d; list = tallyList (newTotal l total d) l }
+    ∷ tallied l (newTotal l total d) ds
+
+-- as moves are seen from outside
+unfoldable pub seen : Tallied → Seen
+seen t = record { answer = t .answer; list = t .list }
+
+unfoldable pub tally : List Place → ℤ → List ℤ → List Seen
+tally l total ds = map seen (tallied l total ds)
