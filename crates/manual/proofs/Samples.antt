@@ -1,6 +1,5 @@
 -- The samples hold, by computation. Assumes nothing.
 use mathlib.Core.Path.{refl}
-use mathlib.Core.List.{_++_}
 use Rattle.manual.specs.Manual.{join, byte, moveSize, sizeField, opmode, mode, register, extension, condition, quick, layout, displacementWord, extensions, manualWords}
 use Rattle.manual.specs.Samples.{Samples}
 

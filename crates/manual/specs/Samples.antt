@@ -1,7 +1,6 @@
 -- Words of the manual, worked out by hand field by field, one of each instruction: what a slip in a field would change. Assumes nothing.
-use Prim.Native.Nat.{ℕ}
 use mathlib.Core.Path.{_≡_}
-use mathlib.Core.List.{List, [], _∷_}
+use mathlib.Core.List.{[], _∷_}
 use lib.IntN.{pos, negsuc}
 use Rattle.manual.specs.Manual.{word, long, direct, indirect, immediate, NE, GE, MOVEQ, MOVE, MULS, ADD, SUB, CMP, TST, SUBQ, ASL, NOP, Bcc, manualWords}
 

@@ -11,7 +11,7 @@ use Rattle.rules.specs.Answer.{Answer, accepted, refused, refuseIf, andThen}
 use Rattle.rules.specs.Assemble.{checks, passAtBy, assemble, Place, Slices, short, room, assembleAnswer, over, holding, writeList, assembleSlices}
 use Rattle.rules.specs.Relocate.{far, outside, firstIndex, moveAddresses, moveWords, moveAnswer, moveBy, moveSlices}
 use Rattle.rules.specs.Tally.{listIn, held}
-use Rattle.promises.specs.Demand1.{SourceCondition, PassCondition, AssembleCondition, MoveCondition, checking, passing, assembling, moving, ChecksRefuseExactly, PassRefusesExactly, AssembleRefusesExactly, MoveRefusesExactly, RefusalChangesNothing, SamePast, Assembled, Moved, AcceptedWrites}
+use Rattle.promises.specs.Demand1.{SourceCondition, PassCondition, AssembleCondition, MoveCondition, checking, passing, assembling, moving, ChecksRefuseExactly, PassRefusesExactly, AssembleRefusesExactly, MoveRefusesExactly, RefusalChangesNothing, SamePast, AssembleWrites, MoveWrites, AcceptedWrites}
 use Rattle.promises.proofs.Compared.{clash}
 use Rattle.promises.proofs.Stages.{apart, are-apart, none-holds, refuses-exactly}
 use Rattle.promises.proofs.Accepted.{not-refused, not-refused-at}
@@ -98,7 +98,7 @@ module _ (d : ℤ) where
   past-words (suc n) (m ∷ ms) (w ∷ ws) = past-words n ms ws
 
 -- an accepted call
-accepted-list : (base : ℕ) (s : Text) (x : Slices) (n : ℕ) → assembleAnswer base s x ≡ accepted n → Assembled base s n x (assembleSlices base s x)
+accepted-list : (base : ℕ) (s : Text) (x : Slices) (n : ℕ) → assembleAnswer base s x ≡ accepted n → AssembleWrites base s n x (assembleSlices base s x)
 unfolding assembleAnswer room assembleSlices andThen writeList refuseIf apart
 accepted-list base s x n e = go (assemble base s) refl
   where
@@ -106,19 +106,19 @@ accepted-list base s x n e = go (assemble base s) refl
     clear = none-holds (AssembleCondition base s x) assembling (are-apart assembling refl) (A.known base s x) n (assembleAnswer base s x) e (A.answered base s x)
 
     listed : (l : List Place) → assemble base s ≡ accepted l → (y : Bool) → short x (length l) ≡ y
-        → refuseIf (short x (length l)) 7 (length l) (accepted (length l)) ≡ accepted n → Assembled base s n x (writeList (accepted l) x)
+        → refuseIf (short x (length l)) 7 (length l) (accepted (length l)) ≡ accepted n → AssembleWrites base s n x (writeList (accepted l) x)
     listed l f true g h = let z : refused 7 (length l) ≡ accepted n = rw g at h in clash cc
     listed l f false g h =
         let z : accepted (length l) ≡ accepted n = rw g at h in
         let k : n ≡ length l = cc in
         rw (g, writeList, k) (record { clear = clear; list = l; listed = f; counted = refl; written = written l x .0; past = written l x .1 })
 
-    go : (a : Answer (List Place)) → assemble base s ≡ a → Assembled base s n x (writeList (assemble base s) x)
+    go : (a : Answer (List Place)) → assemble base s ≡ a → AssembleWrites base s n x (writeList (assemble base s) x)
     go (refused m q) f = let z : refused m q ≡ accepted n = rw f at e in clash cc
     go (accepted l) f = rw f (listed l f (short x (length l)) refl (rw f at e))
 
 -- an answer that no check refuses
-accepted-move : (x : Slices) (count : ℕ) (d : ℤ) (n : ℕ) → moveAnswer x count d ≡ accepted n → Moved count d n x (moveSlices x count d)
+accepted-move : (x : Slices) (count : ℕ) (d : ℤ) (n : ℕ) → moveAnswer x count d ≡ accepted n → MoveWrites count d n x (moveSlices x count d)
 unfolding moveAnswer moveSlices moveBy apart
 accepted-move x count d n e =
     let k8 = not-refused (far d) 8 0 _ n e in

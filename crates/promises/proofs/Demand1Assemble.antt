@@ -11,8 +11,9 @@ use lib.Dec.{leb, ltb, eqb}
 use Rattle.rules.specs.Limits.{maxSource, maxLines, addressLimit}
 use Rattle.rules.specs.Text.{Text, onFirst, cutWhere, cutAt}
 use Rattle.rules.specs.Line.{size}
+use Rattle.rules.specs.Encode.{encode}
 use Rattle.rules.specs.Answer.{Answer, accepted}
-use Rattle.rules.specs.Assemble.{Sizes, wordsOf, firstHigh, checks, passAtBy, passAt, encoded, assembleBy, assemble, Place, Slices, short, room, assembleAnswer}
+use Rattle.rules.specs.Assemble.{Sizes, firstHigh, checks, passAtBy, passAt, encoded, assembleBy, assemble, Place, Slices, short, room, assembleAnswer}
 use Rattle.rules.specs.Relocate.{firstIndex}
 use Rattle.promises.specs.Stages.{Stage, all, Checked}
 use Rattle.promises.specs.Demand1.{lineCount, Lowest, SourceCondition, source-over, byte-over, lines-over, PassCondition, of-source, base-over, address-over, labels-over, AssembleCondition, of-pass, slice-short, checking, passing, assembling}
@@ -143,7 +144,7 @@ module _ (base : ℕ) (s : Text) (x : Slices) where
   listed : Runs C passing (assemble base s)
   unfolding assembleBy
   listed =
-      and-then C [] (passAt base s) (encoded wordsOf)
+      and-then C [] (passAt base s) (encoded encode)
       (runs-by (PassCondition size base s) C passing (passAt base s) (λ n p. of-pass) from-assemble (pass-answered size base s)) (λ p e. done)
 
   pub answered : Runs C assembling (assembleAnswer base s x)

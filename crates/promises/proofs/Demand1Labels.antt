@@ -2,7 +2,6 @@
 -- Assumes nothing.
 use Prim.Native.Nat.{ℕ, suc, _+_, _<_, _≤_}
 use mathlib.Core.Path.{_≡_, refl, sym, ap, _∙_}
-use mathlib.Core.Logic.{_≢_}
 use mathlib.Core.Bool.{Bool, true, false, _||_, cond}
 use mathlib.Core.Option.{Option, none, some}
 use mathlib.Core.List.{List, [], _∷_, map}
@@ -12,11 +11,10 @@ use lib.ListN.{length}
 use lib.Dec.{eqb}
 use Rattle.rules.specs.Limits.{maxLabels}
 use Rattle.rules.specs.Text.{Text, same}
-use Rattle.rules.specs.Line.{Name, Body, Line, skipped, end, org, item}
+use Rattle.rules.specs.Line.{SourceLine, Name}
 use Rattle.rules.specs.Label.{Label, Table, find, recorded, hasRoom, recordAll}
 use Rattle.rules.specs.Encode.{isSome}
-use Rattle.rules.specs.Assemble.{Sizes, Step, halt, full, next, advanceBy, stepBy}
-use Rattle.promises.specs.Demand1.{addressAfter, namesOf, onTop, isAmong, distinct, TooMany, now, later}
+use Rattle.promises.specs.Demand1.{onTop, isAmong, distinct, TooMany, now, later}
 use Rattle.promises.proofs.Compared.{clash}
 
 -- names that compare the same are equal
@@ -83,7 +81,7 @@ holds-more x t ns h =
     }
 
 -- the labels of a line: one too many, or all recorded
-pub data Recorded (ms ns : List Text) : Option Table → Type 0 where
+data Recorded (ms ns : List Text) : Option Table → Type 0 where
   overflow : TooMany ms ns → Recorded ms ns none
   fits : {t : Table} → ¬ TooMany ms ns → Holds t (onTop ms ns) → Recorded ms ns (some t)
 
@@ -98,7 +96,7 @@ unfolding hasRoom isSome
 new-room none t e f = ltb-true (length t) maxLabels e
 new-room (some a) t e f = clash cc
 
--- a name that has room: if one is too many, it is one behind it
+-- a name that has room: if one is too many, it is one after it
 later-only : (m : Text) (ms ns : List Text) (o : Option Table) → (isAmong m ns ≡ false → distinct ns < maxLabels)
     → Recorded ms (m ∷ ns) o → Recorded (m ∷ ms) ns o
 unfolding onTop
@@ -109,48 +107,38 @@ later-only m ms ns (some t) k (fits d h) = fits go h
     go (now e f) = let l = k e in omega arith
     go (later v) = d v
 
+-- a line without labels never holds one too many
+pub no-names : (ns : List Text) → ¬ TooMany [] ns
+no-names ns = elim [ ]
+
 -- the labels of a line, recorded by the definition
-pub records : (i a : ℕ) (ms : List Name) (t : Table) (ns : List Text) → Holds t ns → Recorded (map (λ n. n .text) ms) ns (recordAll i a ms t)
+records : (l : SourceLine) (a : ℕ) (ms : List Name) (t : Table) (ns : List Text) → Holds t ns → Recorded (map (λ n. n .text) ms) ns (recordAll l a ms t)
 unfolding recordAll onTop
-records i a [] t ns h = fits (λ v. none-left v) h
-  where
-    none-left : TooMany [] ns → ⊥
-    none-left = elim [ ]
-records i a (m ∷ ms) t ns h = go (hasRoom (find (m .text) t) t) refl (λ u. records i a ms u (m .text ∷ ns))
+records l a [] t ns h = fits (no-names ns) h
+records l a (m ∷ ms) t ns h = go (hasRoom (find (m .text) t) t) refl (λ u. records l a ms u (m .text ∷ ns))
   where
     x : Label
-    x = record { name = m .text; start = i + m .start; address = a }
+    x = record { name = m .text; start = l .start + m .start; address = a }
 
     go : (y : Bool) → hasRoom (find (m .text) t) t ≡ y
-        → ((u : Table) → Holds u (m .text ∷ ns) → Recorded (map (λ n. n .text) ms) (m .text ∷ ns) (recordAll i a ms u))
-        → Recorded (map (λ n. n .text) (m ∷ ms)) ns (recordAll i a (m ∷ ms) t)
-    go true e ih = rw (e, recordAll) (later-only (m .text) (map (λ n. n .text) ms) ns (recordAll i a ms (recorded x t)) spare (ih (recorded x t) (holds-more x t ns h)))
+        → ((u : Table) → Holds u (m .text ∷ ns) → Recorded (map (λ n. n .text) ms) (m .text ∷ ns) (recordAll l a ms u))
+        → Recorded (map (λ n. n .text) (m ∷ ms)) ns (recordAll l a (m ∷ ms) t)
+    go true e ih = rw (e, recordAll) (later-only (m .text) (map (λ n. n .text) ms) ns (recordAll l a ms (recorded x t)) spare (ih (recorded x t) (holds-more x t ns h)))
       where
         spare : isAmong (m .text) ns ≡ false → distinct ns < maxLabels
         spare f = rw (h .count) at (new-room (find (m .text) t) t e (h .knows (m .text) ∙ f))
     go false e ih = rw (e, recordAll) (overflow (now (sym (h .knows (m .text)) ∙ (full-new (find (m .text) t) t e .0)) (rw (h .count) at (full-new (find (m .text) t) t e .1))))
 
--- what a line does, by what it records and where it leaves the address
-pub data Stepped (z : Sizes) (base a : ℕ) (ns : List Text) (l : Line) : Step → Type 0 where
-  halted : l ≡ end → Stepped z base a ns l halt
-  filled : TooMany (namesOf l) ns → Stepped z base a ns l full
-  read : {t : Table} {b : Body} → l ≢ end → ¬ TooMany (namesOf l) ns → Holds t (onTop (namesOf l) ns) → Stepped z base a ns l (next (addressAfter z base a l) t b)
+-- so where they are not recorded one is too many, and else none is, and the table holds them
+module _ (l : SourceLine) (a : ℕ) (ms : List Name) (t : Table) (ns : List Text) (h : Holds t ns) where
+  pub not-recorded : recordAll l a ms t ≡ none → TooMany (map (λ n. n .text) ms) ns
+  not-recorded e = go (rw e at (records l a ms t ns h))
+    where
+      go : Recorded (map (λ n. n .text) ms) ns none → TooMany (map (λ n. n .text) ms) ns
+      go (overflow v) = v
 
--- a line without labels never holds one too many
-pub no-names : (ns : List Text) → ¬ TooMany [] ns
-no-names ns = elim [ ]
-
--- a line with labels and a body
-advanced : (z : Sizes) (base a : ℕ) (ns : List Text) (ms : List Name) (b : Body) (o : Option Table) → Recorded (map (λ n. n .text) ms) ns o → Stepped z base a ns (item ms b) (advanceBy z a b o)
-unfolding advanceBy namesOf addressAfter
-advanced z base a ns ms b none (overflow v) = filled v
-advanced z base a ns ms b (some t) (fits d h) = read (λ e. clash cc) d h
-
--- any line
-pub stepped : (z : Sizes) (base i a : ℕ) (t : Table) (ns : List Text) (l : Line) → Holds t ns → Stepped z base a ns l (stepBy z base i a t l)
-unfolding stepBy namesOf addressAfter onTop
-stepped z base i a t ns skipped h = read (λ e. clash cc) (no-names ns) h
-stepped z base i a t ns end h = halted refl
-stepped z base i a t ns (org none) h = read (λ e. clash cc) (no-names ns) h
-stepped z base i a t ns (org (some v)) h = read (λ e. clash cc) (no-names ns) h
-stepped z base i a t ns (item ms b) h = advanced z base a ns ms b (recordAll i a ms t) (records i a ms t ns h)
+  pub all-recorded : (t′ : Table) → recordAll l a ms t ≡ some t′ → (¬ TooMany (map (λ n. n .text) ms) ns) × Holds t′ (onTop (map (λ n. n .text) ms) ns)
+  all-recorded t′ e = go t′ (rw e at (records l a ms t ns h))
+    where
+      go : (u : Table) → Recorded (map (λ n. n .text) ms) ns (some u) → (¬ TooMany (map (λ n. n .text) ms) ns) × Holds u (onTop (map (λ n. n .text) ms) ns)
+      go u (fits d k) = (d, k)

@@ -1,20 +1,16 @@
 -- Conditions 6 and 5 over the lines of a pass: what is common to all ways to say them. Assumes nothing.
-use Prim.Native.Nat.{ℕ, zero, suc, _+_, _<_, _≤_}
+use Prim.Native.Nat.{ℕ, zero, suc, _≤_}
 use mathlib.Core.Path.{_≡_, refl}
 use mathlib.Core.Logic.{_≢_}
-use mathlib.Core.Bool.{Bool, true, false}
 use mathlib.Core.Option.{some}
 use mathlib.Core.List.{List, [], _∷_}
 use native.Mathlib.Omega.{arith}
-use borrow.Author.Tests.{ltb-true, ltb-false}
-use lib.ListN.{length, getElem?, drop}
-use lib.Dec.{ltb}
-use Rattle.rules.specs.Limits.{addressLimit}
+use lib.ListN.{getElem?, drop}
 use Rattle.rules.specs.Text.{Text}
-use Rattle.rules.specs.Line.{Body, lineOf}
+use Rattle.rules.specs.Line.{Task, numbered}
 use Rattle.rules.specs.Label.{Table}
 use Rattle.rules.specs.Answer.{Answer, accepted, refused, andThen}
-use Rattle.rules.specs.Assemble.{Sizes, Pass, next, stepBy, numbered, putting, firstPassBy}
+use Rattle.rules.specs.Assemble.{Sizes, Pass, putting, firstPassBy}
 use Rattle.promises.specs.Stages.{byLine, OneOf, here, there, Ahead, ahead, behind}
 use Rattle.promises.proofs.Compared.{clash, Compared, less, more, equal, compared}
 use Rattle.promises.proofs.Stages.{Runs, done, stop-line, pass-lines}
@@ -26,7 +22,7 @@ line-at [] (suc j) l rest e = clash cc
 line-at (k ∷ ls) zero l rest e = (cc, cc)
 line-at (k ∷ ls) (suc j) l rest e = line-at ls j l rest e
 
--- behind the last line there is none
+-- after the last line there is none
 pub no-line : (ls : List Text) (i j : ℕ) (l : Text) → drop j ls ≡ [] → j ≤ i → getElem? ls i ≢ some l
 no-line [] i j l e h f = clash cc
 no-line (k ∷ ls) i zero l e h f = clash cc
@@ -85,27 +81,16 @@ module _ (C : ℕ → ℕ → Type 0) where
           no-one : OneOf 5 [] → ¬ C m (suc j)
           no-one = elim [ ]
 
-  -- no condition at the first j lines, and none behind them
+  -- no condition at the first j lines, and none after them
   pub clear : (j : ℕ) → Fine j → ((m q : ℕ) → Lines m → C m q → q ≤ j) → (p : Pass) → Through (accepted p)
   clear j f g p = pass-lines (λ m q i c. f m q i (g m q i c) c) done
 
-  -- what a line puts changes no refusal
-  putting-through : (a : ℕ) (b : Body) (r : Answer Pass) → Through r → Through (andThen r (putting a b))
+  -- what a line asks changes no refusal
+  pub putting-through : (a : ℕ) (k : Task) (r : Answer Pass) → Through r → Through (andThen r (putting a k))
   unfolding andThen putting
-  putting-through a b (accepted p) (pass-lines h done) = pass-lines h done
-  putting-through a b (refused n p) k = k
+  putting-through a k (accepted p) (pass-lines h done) = pass-lines h done
+  putting-through a k (refused n p) h = h
 
-  module _ (z : Sizes) (base : ℕ) where
-    -- the first pass over the lines ls, behind j lines and i bytes
-    abbrev pub From : (j i a : ℕ) → Table → List Text → Type 0
-    From j i a t ls = Through (firstPassBy z base a t (numbered (suc j) i ls))
-
-    -- behind a line that is read, its address is too high or the pass goes on
-    pub onward : (j i a a′ : ℕ) (t t′ : Table) (b : Body) (l : Text) (ls : List Text) → stepBy z base i a t (lineOf l) ≡ next a′ t′ b
-        → (addressLimit ≤ a′ → Through (refused 5 (suc j))) → (a′ < addressLimit → From (suc j) (suc (i + length l)) a′ t′ ls) → From j i a t (l ∷ ls)
-    unfolding firstPassBy numbered
-    onward j i a a′ t t′ b l ls e f g = go (ltb a′ addressLimit) refl
-      where
-        go : (y : Bool) → ltb a′ addressLimit ≡ y → From j i a t (l ∷ ls)
-        go true h = rw (e, firstPassBy, h) (putting-through a b (firstPassBy z base a′ t′ (numbered (suc (suc j)) (suc (i + length l)) ls)) (g (ltb-true a′ addressLimit h)))
-        go false h = rw (e, firstPassBy, h) (f (ltb-false a′ addressLimit h))
+  -- the first pass over the lines ls, after j lines and i bytes
+  abbrev pub From : Sizes → (base j i a : ℕ) → Table → List Text → Type 0
+  From z base j i a t ls = Through (firstPassBy z base a t (numbered (suc j) i ls))

@@ -7,28 +7,29 @@ use native.Mathlib.Omega.{arith}
 use native.Mathlib.Nat.{mod-eq-of-lt, mod-mod, div-add-mod'}
 use lib.Bits.{and-mask}
 use Rattle.rules.specs.Text.{Text, cutAt}
-use Rattle.rules.specs.Line.{Body, bare, directive, instruction, instructionSize, size}
+use Rattle.rules.specs.Line.{numbered, linesOf, Instruction as Said, Task, size}
 use Rattle.rules.specs.Label.{Table, find}
 use Rattle.rules.specs.Encode.{Cell, literal, address, encode}
 use Rattle.rules.specs.Answer.{Answer, accepted, refused, andThen}
-use Rattle.rules.specs.Assemble.{numbered, linesOf, Put, Pass, firstPass, Place, placeOf, placesAt, valueCells, dataCells, dataPlaces, codePlaces, secondPass, assemble, secondPassBy, codePlacesBy, wordsOf}
+use Rattle.rules.specs.Assemble.{Put, Pass, firstPass, Place, placeOf, placesAt, dataCells, wordsBy, codeCells, codeCellsBy, dataPlaces, codePlaces, secondPass, assemble, secondPassBy, codePlacesBy}
 use Rattle.promises.specs.RustStr.{split, HashMap, look-up, push, add-u32}
 use Rattle.promises.specs.RustAssembler.{AssemblyInstruction, Code, encode-instruction-with-ext, State, first-pass, push-data, push-ext, push-code, push-instruction}
 use Rattle.promises.specs.RustAssembler as Rust
-use Rattle.promises.specs.Demand2Rust.{instAt, unmarked, ListIsTheRusts}
+use Rattle.promises.specs.Demand2Rust.{instAt, withoutMark, ListIsTheRusts}
 use Rattle.promises.proofs.Accepted.{accepts}
+use Rattle.promises.proofs.Tasks.{Worded, silent, codes, holds, worded}
 use Rattle.promises.proofs.RustText.{split-is}
 use Rattle.promises.proofs.RustOperand.{Agrees}
 use Rattle.promises.proofs.RustEncode.{plain, extWords, codeWords, encode-same}
-use Rattle.promises.proofs.RustValue.{BodyLow}
-use Rattle.promises.proofs.RustPass.{codeOf, valueAt, valueOf, PutLow, AllLow, nil, cons, Ended, texts, accepted-inj, never, pass-ends}
+use Rattle.promises.proofs.RustValue.{TaskLow}
+use Rattle.promises.proofs.RustPass.{codeAt, valueAt, codeOf, valueOf, PutLow, AllLow, nil, cons, Ended, texts, accepted-inj, never, pass-ends}
 
 -- words at an address, each two further on
 wordsAt : ℕ → List ℕ → List (ℕ × ℕ)
 wordsAt a [] = []
 wordsAt a (w ∷ ws) = (a, w) ∷ wordsAt (a + 2) ws
 
-places-words : (a : ℕ) (cs : List Cell) → map unmarked (placesAt a cs) ≡ wordsAt a (plain cs)
+places-words : (a : ℕ) (cs : List Cell) → map withoutMark (placesAt a cs) ≡ wordsAt a (plain cs)
 unfolding placesAt placeOf wordsAt
 places-words a [] = refl
 places-words a (literal w ∷ cs) = ap (λ (r : List (ℕ × ℕ)). (a, w) ∷ r) (places-words (a + 2) cs)
@@ -83,37 +84,34 @@ getD-map : (o : Option (List Cell)) → Option·getD (Option·map plain o) [] �
 getD-map none = refl
 getD-map (some cs) = refl
 
-module _ {m : HashMap} {t : Table} (g : Agrees m t) (a : ℕ) (low : a < 2 ^ 30) where
-  inst-words : (n : Text) (f : Option Text) (ps : List Text) → instWords m (instAt a n f ps) ≡ map unmarked (placesAt a (Option·getD (encode t a n ps) []))
-  unfolding instWords push-instruction
-  inst-words n f ps =
-      code-words a low (encode-instruction-with-ext m (instAt a n f ps))
-      ∙ ap (λ (o : Option (List ℕ)). wordsAt a (Option·getD o [])) (encode-same a low n (instructionSize n f ps) g ps .words)
-      ∙ ap (wordsAt a) (getD-map (encode t a n ps))
-      ∙ sym (places-words a (Option·getD (encode t a n ps) []))
+inst-words : {m : HashMap} {t : Table} → Agrees m t → (a : ℕ) → a < 2 ^ 30 → (i : Said) → instWords m (instAt a i) ≡ map withoutMark (placesAt a (wordsBy encode t a i))
+unfolding instWords push-instruction
+inst-words {m} {t} g a low i =
+    code-words a low (encode-instruction-with-ext m (instAt a i))
+    ∙ ap (λ (o : Option (List ℕ)). wordsAt a (Option·getD o [])) (encode-same a low i g .words)
+    ∙ ap (wordsAt a) (getD-map (encode t a i))
+    ∙ sym (places-words a (wordsBy encode t a i))
 
-data-words : (a v : ℕ) → a < 2 ^ 30 → v < 2 ^ 32 → dataWords (a, v) ≡ map unmarked (placesAt a (literal (v / 65536) ∷ literal (v % 65536) ∷ []))
+data-words : (a v : ℕ) → a < 2 ^ 30 → v < 2 ^ 32 → dataWords (a, v) ≡ map withoutMark (placesAt a (literal (v / 65536) ∷ literal (v % 65536) ∷ []))
 unfolding dataWords push-data placesAt placeOf
 data-words a v h k = rw (two-on a h, and-mask v 16, mod-mod v (2 ^ 16), mod-eq-of-lt {n = v / 65536} {m = 65536} high)
   where
     high : v / 65536 < 65536
     high = omega (arith, div-add-mod' v 65536)
 
--- a put's words
-data-put : (a : ℕ) (b : Body) → a < 2 ^ 30 → BodyLow b
-    → flatMap dataWords (valueOf (record { address = a; body = b })) ≡ map unmarked (dataPlaces (record { address = a; body = b }))
-unfolding valueOf valueAt dataPlaces dataCells valueCells placesAt flatMap
-data-put a bare h k = refl
-data-put a (directive n none) h k = refl
-data-put a (directive n (some v)) h k = append-nil (dataWords (a, v)) ∙ data-words a v h (k .0)
-data-put a (instruction m f ps) h k = refl
+-- a task's words
+data-put : (a : ℕ) → a < 2 ^ 30 → {k : Task} (w : Worded k) → TaskLow k → flatMap dataWords (valueAt a w) ≡ map withoutMark (placesAt a (dataCells k))
+unfolding valueAt dataCells placesAt flatMap
+data-put a h (silent e f) l = rw e
+data-put a h (codes i) l = refl
+data-put a h (holds n v) l = append-nil (dataWords (a, v)) ∙ data-words a v h (l .0)
 
-code-put : {m : HashMap} {t : Table} → Agrees m t → (a : ℕ) (b : Body) → a < 2 ^ 30
-    → flatMap (instWords m) (codeOf (record { address = a; body = b })) ≡ map unmarked (codePlaces t (record { address = a; body = b }))
-unfolding codeOf codePlacesBy wordsOf placesAt flatMap
-code-put g a bare h = refl
-code-put g a (directive n v) h = refl
-code-put {m = m} g a (instruction n f ps) h = append-nil (instWords m (instAt a n f ps)) ∙ inst-words g a h n f ps
+code-put : {m : HashMap} {t : Table} → Agrees m t → (a : ℕ) → a < 2 ^ 30 → {k : Task} (w : Worded k)
+    → flatMap (instWords m) (codeAt a w) ≡ map withoutMark (placesAt a (codeCells t a k))
+unfolding codeAt codeCellsBy placesAt flatMap
+code-put {t = t} g a h (silent e f) = rw (f encode t a)
+code-put {m = m} g a h (codes i) = append-nil (instWords m (instAt a i)) ∙ inst-words g a h i
+code-put g a h (holds n v) = refl
 
 -- all puts' words
 flat-append : {A B : Type 0} (f : A → List B) (xs ys : List A) → flatMap f (xs ++ ys) ≡ flatMap f xs ++ flatMap f ys
@@ -121,27 +119,27 @@ unfolding flatMap
 flat-append f [] ys = refl
 flat-append f (x ∷ xs) ys = rw (flat-append f xs ys) (sym (append-assoc (f x) (flatMap f xs) (flatMap f ys)))
 
-puts-words : {A : Type 0} (f : A → List (ℕ × ℕ)) (g : Put → List A) (h : Put → List Place) → ((p : Put) → PutLow p → flatMap f (g p) ≡ map unmarked (h p))
-    → {ps : List Put} → AllLow ps → flatMap f (flatMap g ps) ≡ map unmarked (flatMap h ps)
+puts-words : {A : Type 0} (f : A → List (ℕ × ℕ)) (g : Put → List A) (h : Put → List Place) → ((p : Put) → PutLow p → flatMap f (g p) ≡ map withoutMark (h p))
+    → {ps : List Put} → AllLow ps → flatMap f (flatMap g ps) ≡ map withoutMark (flatMap h ps)
 unfolding flatMap
 puts-words f g h e nil = refl
 puts-words f g h e (cons {p = p} {ps = ps} l ls) =
-    rw (flat-append f (g p) (flatMap g ps), map-append unmarked (h p) (flatMap h ps), e p l, puts-words f g h e ls)
+    rw (flat-append f (g p) (flatMap g ps), map-append withoutMark (h p) (flatMap h ps), e p l, puts-words f g h e ls)
 
 -- the two passes
 second-is : (s : State) (p : Pass) → Ended (record { labels = []; instructions = []; data-values = []; current-address = 0 }) s p
-    → foldl (push-instruction (s .labels)) (foldl push-data [] (s .data-values)) (s .instructions) ≡ map unmarked (secondPass p)
-unfolding secondPassBy
+    → foldl (push-instruction (s .labels)) (foldl push-data [] (s .data-values)) (s .instructions) ≡ map withoutMark (secondPass p)
+unfolding secondPassBy dataPlaces codePlacesBy
 second-is s p e =
     rw (
       e .instructions,
       e .values,
       pushes push-data dataWords data-pushes (flatMap valueOf (p .puts)) [],
       pushes (push-instruction (s .labels)) (instWords (s .labels)) (instruction-pushes (s .labels)) (flatMap codeOf (p .puts)) _,
-      puts-words dataWords valueOf dataPlaces (λ x l. data-put (x .address) (x .body) (l .address) (l .value)) (e .low),
-      puts-words (instWords (s .labels)) codeOf (codePlaces (p .labels)) (λ x l. code-put (e .agrees) (x .address) (x .body) (l .address)) (e .low),
+      puts-words dataWords valueOf dataPlaces (λ x l. data-put (x .address) (l .address) (worded (x .task)) (l .value)) (e .low),
+      puts-words (instWords (s .labels)) codeOf (codePlaces (p .labels)) (λ x l. code-put (e .agrees) (x .address) (l .address) (worded (x .task))) (e .low),
     )
-    (sym (map-append unmarked (flatMap dataPlaces (p .puts)) (flatMap (codePlaces (p .labels)) (p .puts))))
+    (sym (map-append withoutMark (flatMap dataPlaces (p .puts)) (flatMap (codePlaces (p .labels)) (p .puts))))
 
 -- the lines
 lines-texts : (n i : ℕ) (ls : List Text) → texts (numbered n i ls) ≡ ls
@@ -156,13 +154,13 @@ empty-agrees = record { finds = λ n. refl; low = λ n. tt }
 
 pub list-is-the-rusts : ListIsTheRusts
 unfolding ListIsTheRusts Rust.assemble linesOf andThen
-list-is-the-rusts s l e = go (firstPass 0 0 [] (linesOf s)) refl (accepts size wordsOf 0 s l e .passed)
+list-is-the-rusts s l e = go (firstPass 0 0 [] (linesOf s)) refl (accepts size encode 0 s l e .passed)
   where
     start : State
     start = record { labels = []; instructions = []; data-values = []; current-address = 0 }
 
     go : (r : Answer Pass) → firstPass 0 0 [] (linesOf s) ≡ r → andThen r (λ p. accepted (secondPass p)) ≡ accepted l
-        → map unmarked l ≡ Rust.assemble (split 10 s)
+        → map withoutMark l ≡ Rust.assemble (split 10 s)
     go (refused n q) f h = absurd (never n q l h)
     go (accepted p) f h =
         rw (← accepted-inj (secondPass p) l h, split-is 10 s, ← lines-texts 1 0 (cutAt 10 s))

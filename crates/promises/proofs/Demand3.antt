@@ -13,16 +13,17 @@ use lib.IntN.{ℤ, pos, negsuc, _+ℤ_, _-ℤ_, natAbs, subℕ, +ℤ-comm, -ℤ-
 use Rattle.rules.specs.Limits.{addressLimit, distanceLimit}
 use Rattle.rules.specs.Text.{Text}
 use Rattle.rules.specs.Number.{modulo}
-use Rattle.rules.specs.Answer.{accepted}
+use Rattle.rules.specs.Answer.{accepted, andThen}
 use Rattle.rules.specs.Line.{size}
-use Rattle.rules.specs.Assemble.{Sizes, Encoder, Place, wordsOf, assembleBy}
+use Rattle.rules.specs.Encode.{encode, mnemonics}
+use Rattle.rules.specs.Assemble.{Sizes, Encoder, Place, secondPassBy, assembleBy}
 use Rattle.rules.specs.Relocate.{far, movedWord}
-use Rattle.rules.specs.Tally.{firstOutside, movedPlace, tallyList, tallied}
+use Rattle.rules.specs.Tally.{firstOutside, movedPlace, tallyList, tallied, tally}
 use Rattle.promises.specs.Lawful.{Lawful, RulesAreLawful}
-use Rattle.promises.specs.Demand3.{lastTotal, MovedIsAssembledBy, WordsDifferBy, MovesFollowTallyBy, OneMoveForAllBy, Demand3By, LawfulMoves, MovedIsAssembled, WordsDiffer, MovesFollowTally, OneMoveForAll}
+use Rattle.promises.specs.Demand3.{lastTotal, MovedIsAssembledBy, WordsDifferBy, MarksSayWhatMovesBy, MovesFollowTallyBy, OneMoveForAllBy, Demand3By, LawfulMoves, MovedIsAssembled, WordsDiffer, MarksSayWhatMoves, MovesFollowTally, OneMoveForAll}
 use Rattle.promises.proofs.Lists.{all-at, getElem?-map}
 use Rattle.promises.proofs.Accepted.{accepts}
-use Rattle.promises.proofs.Places.{list-at}
+use Rattle.promises.proofs.Places.{second-shift, list-at}
 use Rattle.promises.proofs.Fit.{Fit, listed}
 use Rattle.promises.proofs.Twice.{residue-lt, list-twice, outside-twice, inside-none, fit-inside, length-moved}
 use Rattle.promises.proofs.Lawful.{rules-are-lawful}
@@ -91,7 +92,15 @@ module _ {z : Sizes} {e : Encoder} {most : ℕ} (law : Lawful z e most) where
       let m : movedPlace d p ≡ q = cc in
       rw (← m) (refl, word-differs d p (all-at Fit lb i p (listed law b s lb eb .fit) hp) k)
 
+  marks-say-what-moves-by : MarksSayWhatMovesBy z e
+  unfolding assembleBy andThen
+  marks-say-what-moves-by s b p l f g d =
+      let h : accepted (secondPassBy e p) ≡ accepted l = rw f at g in
+      let k : secondPassBy e p ≡ l = cc in
+      second-shift law d p ∙ ap (tallyList (pos d)) k
+
   moves-follow-tally-by : MovesFollowTallyBy z e
+  unfolding tally
   moves-follow-tally-by s b l f x h ds = follow-from-zero l (listed law b s l f .fit) x h ds
 
   one-move-for-all-by : OneMoveForAllBy z e
@@ -104,16 +113,16 @@ module _ {z : Sizes} {e : Encoder} {most : ℕ} (law : Lawful z e most) where
       (move-accepted l fit x h total near ins, move-gives l fit x h total near ins ∙ sym (last-list-is l fit ds))
 
   demand-3-by : Demand3By z e
-  demand-3-by = record { moved = moved-is-assembled-by; differ = words-differ-by; follow = moves-follow-tally-by; one = one-move-for-all-by }
+  demand-3-by = record { moved = moved-is-assembled-by; differ = words-differ-by; marks = marks-say-what-moves-by; follow = moves-follow-tally-by; one = one-move-for-all-by }
 
 pub lawful-moves : LawfulMoves
 unfolding LawfulMoves
 lawful-moves z e most law = demand-3-by law
 
 -- 01's pair
-demand-3 : Demand3By size wordsOf
+demand-3 : Demand3By size encode
 unfolding LawfulMoves RulesAreLawful
-demand-3 = lawful-moves size wordsOf 2 rules-are-lawful
+demand-3 = lawful-moves size encode 2 (rules-are-lawful mnemonics)
 
 pub moved-is-assembled : MovedIsAssembled
 unfolding MovedIsAssembled
@@ -122,6 +131,10 @@ moved-is-assembled = demand-3 .moved
 pub words-differ : WordsDiffer
 unfolding WordsDiffer
 words-differ = demand-3 .differ
+
+pub marks-say-what-moves : MarksSayWhatMoves
+unfolding MarksSayWhatMoves
+marks-say-what-moves = demand-3 .marks
 
 pub moves-follow-tally : MovesFollowTally
 unfolding MovesFollowTally

@@ -1,5 +1,7 @@
 pub mod Examples
 pub mod Compared
+pub mod Tasks
+pub mod Shapes
 pub mod Demand1Search
 pub mod Stages
 pub mod Demand1Labels

@@ -5,7 +5,7 @@ use lib.ListN.{length}
 use Rattle.rules.specs.Limits.{maxLines}
 use Rattle.rules.specs.Text.{cutAt}
 use Rattle.rules.specs.Line.{size}
-use Rattle.rules.specs.Assemble.{wordsOf}
+use Rattle.rules.specs.Encode.{encode, mnemonics}
 use Rattle.promises.specs.Lawful.{RulesAreLawful}
 use Rattle.promises.specs.Longest.{AtMostALine, AtMostTwoALine}
 use Rattle.promises.proofs.Accepted.{accepts}
@@ -20,5 +20,5 @@ at-most-a-line z e most law s b l f =
 pub at-most-two-a-line : AtMostTwoALine
 unfolding AtMostALine AtMostTwoALine RulesAreLawful
 at-most-two-a-line s b l f =
-    let h = at-most-a-line size wordsOf 2 rules-are-lawful s b l f in
+    let h = at-most-a-line size encode 2 (rules-are-lawful mnemonics) s b l f in
     (h .0, omega (arith, h .0, h .1))

@@ -7,16 +7,19 @@ use native.Mathlib.Omega.{arith}
 use lib.IntN.{ℤ, pos}
 use Rattle.rules.specs.Text.{Text, bytes, blank, upper, uppers, leading, trimStart, keepEnd, trimEnd, trim, onFirst, cutWhere, cutAt, dropEmpty, pieces, joinMore, joined, inFront, firstCut, same, starts, contains, after, nth, firstText, otherTexts}
 use Rattle.rules.specs.Number.{digitValue, digits, someDigits, below, without, number, number16, within, positive, negative, signed, hexTail, byPrefix, imm8, imm16}
-use Rattle.rules.specs.Line.{Name, instruction, item, instructionOf, operandsOf, isData, restLine, afterLabel, labelLine, trimmedLine, lineOf}
+use Rattle.rules.specs.Line.{Instruction as Said, instruction, instructionOf, operandsOf, isData, restLine, afterLabel, labelLine, trimmedLine, lineOf}
 use Rattle.rules.specs.Label.{Table, find}
 use Rattle.rules.specs.Encode.{writtenSigned}
 use Rattle.manual.specs.Manual.{Condition, T, CC, CS, NE, EQ, GE, LT, GT, LE, Instruction}
-use Rattle.promises.specs.Demand2Manual.{X, branchName, InReach, label, signedNumber, Written, moveq, load, store, copy, mulsData, muls, add, sub, cmp, tst, subq, asl, nop, branch, LineIs, EveryFormHasALine}
+use Rattle.promises.specs.Demand2Manual.{X, branchName, InReach, label, signedNumber, Written, moveq, load, store, copy, mulsData, muls, add, sub, cmp, tst, subq, asl, nop, branch, LineSays, EveryFormHasALine}
 
 -- a line from its form
-line : {ls : Table} {a : ℕ} {l m : Text} {f : Option Text} {ps : List Text} {i : Instruction} (ns : List Name)
-    → Written ls a m f ps i → lineOf l ≡ item ns (instruction m f ps) → LineIs ls a l i
-line {m = m} {f = f} {ps = ps} ns w e = record { names = ns; mnemonic = m; suffix = f; operands = ps; read = e; written = w }
+abbrev said : Text → Option Text → List Text → Said
+said m f ps = record { mnemonic = m; suffix = f; operands = ps }
+
+line : {ls : Table} {a : ℕ} {l m : Text} {f : Option Text} {ps : List Text} {i : Instruction}
+    → Written ls a m f ps i → lineOf l .task ≡ instruction (said m f ps) → LineSays ls a l i
+line {m = m} {f = f} {ps = ps} w e = record { said = said m f ps; read = e; written = w }
 
 -- X stands 14 bytes past the program counter
 x-in-reach : InReach X 0 (bytes "X") (pos 14)
@@ -34,7 +37,7 @@ not-in-reach y r = apart (cc (r .found))
 
 -- the line of a branch with one operand
 abbrev BranchLine : Condition → Text → Type 0
-BranchLine c s = lineOf (branchName c ++ (32 ∷ s)) ≡ item [] (instruction (branchName c) none (s ∷ []))
+BranchLine c s = lineOf (branchName c ++ (32 ∷ s)) .task ≡ instruction (said (branchName c) none (s ∷ []))
 
 -- the two lines of each branch
 branch-lines : (c : Condition) → BranchLine c (bytes "X") × BranchLine c (bytes "-2")
@@ -53,20 +56,20 @@ pub every-form-has-a-line : EveryFormHasALine
 unfolding bytes blank upper uppers leading trimStart keepEnd trimEnd trim onFirst cutWhere cutAt dropEmpty pieces joinMore joined inFront firstCut starts contains nth firstText otherTexts instructionOf operandsOf isData restLine afterLabel labelLine trimmedLine lineOf after digitValue digits someDigits below without number number16 within positive negative signed hexTail byPrefix imm8 imm16 writtenSigned
 every-form-has-a-line =
     record {
-      moveq = line [] (moveq {s = bytes "#3"} refl (omega arith)) refl;
-      labelled = line (record { start = 1; text = bytes "x" } ∷ []) (moveq {s = bytes "#$-80"} refl (omega arith)) refl;
-      load = line [] (load (omega arith) (omega arith)) refl;
-      store = line [] (store (omega arith) (omega arith)) refl;
-      copy = line [] (copy (omega arith) (omega arith)) refl;
-      mulsData = line [] (mulsData {s = bytes "#0xFFFF"} refl (omega arith)) refl;
-      muls = line [] (muls (omega arith) (omega arith)) refl;
-      add = line [] (add (omega arith) (omega arith)) refl;
-      sub = line [] (sub (omega arith) (omega arith)) refl;
-      cmp = line [] (cmp (omega arith) (omega arith)) refl;
-      tst = line [] (tst (omega arith)) refl;
-      subq = line [] (subq {s = bytes "#8"} refl (omega arith) (omega arith) (omega arith)) refl;
-      asl = line [] (asl {s = bytes "#1"} refl (omega arith) (omega arith) (omega arith)) refl;
-      nop = line [] nop refl;
-      branch = λ c. line [] (branch c (label x-in-reach) (λ e. apart cc)) (branch-lines c .0);
-      branchBack = λ c. line [] (branch c (signedNumber not-in-reach refl) (λ e. apart cc)) (branch-lines c .1);
+      moveq = line (moveq {s = bytes "#3"} refl (omega arith)) refl;
+      labelled = line (moveq {s = bytes "#$-80"} refl (omega arith)) refl;
+      load = line (load (omega arith) (omega arith)) refl;
+      store = line (store (omega arith) (omega arith)) refl;
+      copy = line (copy (omega arith) (omega arith)) refl;
+      mulsData = line (mulsData {s = bytes "#0xFFFF"} refl (omega arith)) refl;
+      muls = line (muls (omega arith) (omega arith)) refl;
+      add = line (add (omega arith) (omega arith)) refl;
+      sub = line (sub (omega arith) (omega arith)) refl;
+      cmp = line (cmp (omega arith) (omega arith)) refl;
+      tst = line (tst (omega arith)) refl;
+      subq = line (subq {s = bytes "#8"} refl (omega arith) (omega arith) (omega arith)) refl;
+      asl = line (asl {s = bytes "#1"} refl (omega arith) (omega arith) (omega arith)) refl;
+      nop = line nop refl;
+      branch = λ c. line (branch c (label x-in-reach) (λ e. apart cc)) (branch-lines c .0);
+      branchBack = λ c. line (branch c (signedNumber not-in-reach refl) (λ e. apart cc)) (branch-lines c .1);
     }

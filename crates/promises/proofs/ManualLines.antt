@@ -6,10 +6,10 @@ use mathlib.Core.List.{List, [], _∷_, map, flatMap, append-nil}
 use native.Mathlib.Omega.{arith}
 use Rattle.rules.specs.Text.{Text, bytes, same}
 use Rattle.rules.specs.Label.{Table}
-use Rattle.rules.specs.Encode.{literal, branch as branchOn, mnemonics, operationIn, R, two, one, oneOrMore, encodeMove, encodeOperation, encode}
-use Rattle.rules.specs.Assemble.{placeOf, placesAt, dataCells, dataPlaces, secondPassBy, codePlacesBy, wordsOf}
+use Rattle.rules.specs.Encode.{literal, branch as branchOn, branches, otherMnemonics, mnemonics, operationIn, R, two, one, oneOrMore, registersRow, highRow, lowRow, fromIndirect, toIndirect, moveRows, mulsRows, cmpRows, moveqRow, quickRow, tstRow, branchRow, encodeOperation, encodeBy, encode}
+use Rattle.rules.specs.Assemble.{placeOf, placesAt, dataCells, dataPlaces, secondPassBy, codeCellsBy, codePlacesBy}
 use Rattle.manual.specs.Manual.{InByte, join, moveSize, sizeField, opmode, mode, register, extension, Condition, T, CC, CS, NE, EQ, GE, LT, GT, LE, condition, Instruction, layout, extensions, manualWords}
-use Rattle.promises.specs.Demand2Manual.{branchName, Written, moveq, load, store, copy, mulsData, muls, add, sub, cmp, tst, subq, asl, nop, branch, bodyOf, emitted, unmarked, LinesAreTheManuals}
+use Rattle.promises.specs.Demand2Manual.{branchName, Written, moveq, load, store, copy, mulsData, muls, add, sub, cmp, tst, subq, asl, nop, branch, emitted, markedZero, LinesAreTheManuals}
 use Rattle.promises.proofs.ManualLaws.{data-register, operand, imm8-byte, all-some, byte-modulo, quick-modulo, displaced, displaced-byte, no-word}
 
 -- one word for another
@@ -18,7 +18,7 @@ one-word e = ap (λ w. some (literal w ∷ [])) e
 
 -- a branch's mnemonic has the manual's condition
 branch-operation : (c : Condition) → operationIn mnemonics (branchName c) ≡ some (branchOn (condition c))
-unfolding operationIn mnemonics same bytes branchName condition
+unfolding operationIn mnemonics otherMnemonics branches same bytes branchName condition
 branch-operation T = refl
 branch-operation CC = refl
 branch-operation CS = refl
@@ -31,8 +31,8 @@ branch-operation LE = refl
 
 -- 01 encodes a listed form as the manual's words, none of them a label's address
 pub encoded : {ls : Table} {a : ℕ} {m : Text} {f : Option Text} {ps : List Text} {i : Instruction} → Written ls a m f ps i
-    → encode ls a m ps ≡ some (map literal (manualWords i))
-unfolding encode operationIn mnemonics same bytes bind orElse encodeOperation encodeMove two one oneOrMore R branchName manualWords layout join extensions extension mode register moveSize sizeField opmode condition
+    → encode ls a (record { mnemonic = m; suffix = f; operands = ps }) ≡ some (map literal (manualWords i))
+unfolding encodeBy operationIn mnemonics otherMnemonics branches same bytes bind orElse encodeOperation registersRow highRow lowRow fromIndirect toIndirect moveRows mulsRows cmpRows moveqRow quickRow tstRow branchRow two one oneOrMore R branchName manualWords layout join extensions extension mode register moveSize sizeField opmode condition
 encoded (moveq {s} {z} {n} e h) =
     rw (e, data-register n h, byte-modulo z (all-some InByte (imm8-byte s) e)) (one-word (omega arith))
 encoded (load {n} {m} h k) = simp operand (one-word (omega arith))
@@ -52,11 +52,11 @@ encoded (branch c {s} {z} d h) =
     rw (branch-operation c, displaced d, byte-modulo z (displaced-byte d), no-word z h) (one-word (omega arith))
 
 -- cells that are no label's address get mark 0
-pub unmarked-places : (a : ℕ) (ws : List ℕ) → placesAt a (map literal ws) ≡ unmarked a ws
-unfolding placesAt placeOf unmarked
-unmarked-places a [] = refl
-unmarked-places a (w ∷ ws) = rw (unmarked-places (a + 2) ws)
+pub zero-places : (a : ℕ) (ws : List ℕ) → placesAt a (map literal ws) ≡ markedZero a ws
+unfolding placesAt placeOf markedZero
+zero-places a [] = refl
+zero-places a (w ∷ ws) = rw (zero-places (a + 2) ws)
 
 pub lines-are-the-manuals : LinesAreTheManuals
-unfolding emitted bodyOf secondPassBy flatMap dataPlaces dataCells codePlacesBy wordsOf placesAt
-lines-are-the-manuals ls a l i r = rw (r .read, encoded (r .written), unmarked-places a (manualWords i), append-nil)
+unfolding emitted secondPassBy flatMap dataPlaces dataCells codePlacesBy codeCellsBy placesAt
+lines-are-the-manuals ls a l i r = rw (r .read, encoded (r .written), zero-places a (manualWords i), append-nil)

@@ -10,12 +10,18 @@ use Rattle.rules.specs.Answer.{Answer, accepted, refused, refuseIf, refuseAt}
 use Rattle.rules.specs.Assemble.{Place, Slices}
 use Rattle.rules.specs.Relocate.{far, moveAnswer, moveBy, moveSlices}
 use Rattle.rules.specs.Tally.{held, moves, firstOutside, tallyAnswer, addIf, newTotal, tallyList, tallied, seen, tally}
-use Rattle.promises.specs.Demand3.{lastTotal, lastList, Totalled, no-more, left-alone, added, TotalsAddUp}
+use Rattle.promises.specs.Demand3.{no-move, one-move, MovesAreMade, lastTotal, lastList, Totalled, no-more, left-alone, added, TotalsAddUp}
 use Rattle.promises.proofs.Lists.{All}
 use Rattle.promises.proofs.Accepted.{not-refused, not-refused-at}
 use Rattle.promises.proofs.Fit.{Fit}
 use Rattle.promises.proofs.Twice.{Inside, list-twice, outside-twice, none-inside, fit-inside, list-zero, length-moved, marks-moved}
 use Rattle.promises.proofs.Call.{call-answers, call-writes}
+
+-- moves are made one after another
+pub moves-are-made : MovesAreMade
+unfolding MovesAreMade moves
+moves-are-made n x [] = no-move
+moves-are-made n x (d ∷ ds) = one-move refl refl (moves-are-made n (moveSlices x n d) ds)
 
 -- what the tally accepts has the list's count, and stays inside
 tally-accepts : (l : List Place) (t d : ℤ) (n : ℕ) → tallyAnswer l t d ≡ accepted n → (n ≡ length l) × Inside (t +ℤ d) l

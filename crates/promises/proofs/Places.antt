@@ -2,23 +2,23 @@
 use Prim.Native.Nat.{ℕ, _+_, _%_}
 use mathlib.Core.Path.{_≡_, refl, _∙_, ap}
 use mathlib.Core.Bool.{false≢true}
-use mathlib.Core.Option.{none, some}
 use mathlib.Core.List.{List, [], _∷_, map, map-append}
 use native.Mathlib.Nat.{add-assoc, add-comm, add-zero}
 use native.Mathlib.Omega.{arith}
 use lib.IntN.{pos}
 use Rattle.rules.specs.Text.{Text}
 use Rattle.rules.specs.Number.{modulo}
-use Rattle.rules.specs.Line.{Body, bare, directive, instruction}
+use Rattle.rules.specs.Line.{Task, linesOf}
 use Rattle.rules.specs.Label.{Table}
 use Rattle.rules.specs.Encode.{Cell, literal, address}
 use Rattle.rules.specs.Answer.{Answer, accepted, refused, andThen}
-use Rattle.rules.specs.Assemble.{Sizes, Encoder, Put, Pass, firstPassBy, linesOf, Place, placeOf, placesAt, valueCells, dataCells, codeCellsBy, dataPlaces, codePlacesBy, secondPassBy, encoded, assembleBy}
-use Rattle.promises.specs.Lawful.{shiftTable, shiftCell, shiftCells, Lawful}
+use Rattle.rules.specs.Assemble.{Sizes, Encoder, Put, Pass, firstPassBy, Place, placeOf, placesAt, dataCells, codeCellsBy, dataPlaces, codePlacesBy, secondPassBy, encoded, assembleBy}
+use Rattle.promises.specs.Lawful.{shiftPut, shiftPass, shiftTable, shiftCell, shiftCells, Lawful}
 use Rattle.rules.specs.Relocate.{movedAddress, movedWord}
 use Rattle.rules.specs.Tally.{movedPlace, tallyList}
 use Rattle.promises.proofs.Lists.{flatMap-by}
-use Rattle.promises.proofs.Shift.{shiftPut, shiftPass, pass-shift}
+use Rattle.promises.proofs.Tasks.{Worded, silent, codes, holds, worded}
+use Rattle.promises.proofs.Shift.{pass-shift}
 use Rattle.promises.proofs.Accepted.{passesBy, accepts, assembles}
 
 -- a place, and the places of one line
@@ -35,27 +35,32 @@ placesAt-shift b a [] = refl
 placesAt-shift b a (c ∷ cs) = rw (placeOf-shift b a c, add-assoc b a 2, placesAt-shift b (a + 2) cs)
 
 -- data words are numbers as they stand
-dataCells-shift : (b : ℕ) (x : Body) → dataCells x ≡ shiftCells b (dataCells x)
-unfolding dataCells valueCells shiftCell
-dataCells-shift b bare = refl
-dataCells-shift b (directive n none) = refl
-dataCells-shift b (directive n (some v)) = refl
-dataCells-shift b (instruction m f ps) = refl
+dataCells-shift : (b : ℕ) {k : Task} → Worded k → dataCells k ≡ shiftCells b (dataCells k)
+unfolding dataCells shiftCell
+dataCells-shift b (silent e f) = rw e
+dataCells-shift b (codes i) = refl
+dataCells-shift b (holds n v) = refl
 
--- what a line puts, as data and as code
+-- what a line asks, as data and as code
 dataPlaces-shift : (b : ℕ) (p : Put) → dataPlaces (shiftPut b p) ≡ map (movedPlace (pos b)) (dataPlaces p)
 unfolding dataPlaces shiftPut
-dataPlaces-shift b p = ap (placesAt (b + p .address)) (dataCells-shift b (p .body)) ∙ placesAt-shift b (p .address) (dataCells (p .body))
+dataPlaces-shift b p = ap (placesAt (b + p .address)) (dataCells-shift b (worded (p .task))) ∙ placesAt-shift b (p .address) (dataCells (p .task))
 
 -- by a lawful pair
 module _ {z : Sizes} {e : Encoder} {most : ℕ} (law : Lawful z e most) where
+  codeCells-shift : (b : ℕ) (t : Table) (a : ℕ) {k : Task} → Worded k → codeCellsBy e (shiftTable b t) (b + a) k ≡ shiftCells b (codeCellsBy e t a k)
+  unfolding codeCellsBy
+  codeCells-shift b t a (silent d f) = rw (f e t a, f e (shiftTable b t) (b + a))
+  codeCells-shift b t a (codes i) = law .shifts b t a i
+  codeCells-shift b t a (holds n v) = refl
+
   codePlaces-shift : (b : ℕ) (t : Table) (p : Put) → codePlacesBy e (shiftTable b t) (shiftPut b p) ≡ map (movedPlace (pos b)) (codePlacesBy e t p)
   unfolding codePlacesBy shiftPut
   codePlaces-shift b t p =
-      ap (placesAt (b + p .address)) (law .shifts b t (p .address) (p .body)) ∙ placesAt-shift b (p .address) (codeCellsBy e t (p .address) (p .body))
+      ap (placesAt (b + p .address)) (codeCells-shift b t (p .address) (worded (p .task))) ∙ placesAt-shift b (p .address) (codeCellsBy e t (p .address) (p .task))
 
   -- the second pass over a shifted first pass is the list, moved
-  second-shift : (b : ℕ) (p : Pass) → secondPassBy e (shiftPass b p) ≡ tallyList (pos b) (secondPassBy e p)
+  pub second-shift : (b : ℕ) (p : Pass) → secondPassBy e (shiftPass b p) ≡ tallyList (pos b) (secondPassBy e p)
   unfolding secondPassBy shiftPass tallyList
   second-shift b p =
       rw (

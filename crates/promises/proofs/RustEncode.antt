@@ -1,5 +1,5 @@
 -- Each encoder of the Rust gives the words of paper 01: labels as they are found, addresses modulo 65,536. Assumes nothing.
-use Prim.Native.Nat.{ℕ, suc, _+_, _%_, _^_, _<_}
+use Prim.Native.Nat.{ℕ, suc, _+_, _/_, _%_, _^_, _<_}
 use mathlib.Core.Path.{_≡_, refl, sym, ap, _∙_}
 use mathlib.Core.Bool.{Bool, true, false, not, _&&_, _||_, cond, false≢true}
 use mathlib.Core.Option.{Option, none, some, bind, orElse, Option·map, Option·none-ne-some, Option·some-ne-none}
@@ -11,10 +11,12 @@ use lib.IntN.{ℤ}
 use borrow.Author.Tests.{ne-eqb}
 use Rattle.rules.specs.Text.{Text, bytes, same, after}
 use Rattle.rules.specs.Number.{imm8, imm16}
+use Rattle.rules.specs.Line.{Instruction as Said}
 use Rattle.rules.specs.Label.{Table}
-use Rattle.rules.specs.Encode.{Cell, literal, address, moveq, move, movea, muls, tst, subq, asl, dbra, add, sub, cmp, jmp, branch, Mnemonic, mnemonics, operationIn, R, registerDigit, dataRegister, addressRegister, two, one, oneOrMore, displacement, jumps, withLabel, encodeMove, encodeOperation, encode}
-use Rattle.promises.specs.RustStr.{when, at, is-empty, equals, starts-with, as-u16, HashMap, look-up, Arm, match}
-use Rattle.promises.specs.RustAssembler.{AssemblyInstruction, Code, no-ext, parse-immediate, parse-immediate-u16, parse-data-register, parse-address-register, parse-branch-displacement, encode-moveq, encode-move-with-ext, encode-movea-with-ext, encode-muls-with-ext, encode-branch, encode-add, encode-sub, encode-cmp-with-ext, encode-jump, encode-tst, encode-subq, encode-asl, encode-dbra, encode-instruction-with-ext, _or_, _<<_}
+use Rattle.rules.specs.Encode.{Cell, literal, address, moveq, move, movea, muls, tst, subq, asl, dbra, add, sub, cmp, jmp, branch, Mnemonic, branches, otherMnemonics, mnemonics, operationIn, R, registerDigit, dataRegister, addressRegister, two, one, oneOrMore, displacement, jumps, withLabel, registersRow, highRow, lowRow, fromIndirect, toIndirect, fromLabel, toLabel, moveRows, moveaRow, mulsRows, cmpRows, moveqRow, quickRow, tstRow, jumpRow, dbraRow, branchRow, encodeOperation, encodeBy, encode}
+use Rattle.promises.specs.RustStr.{when, at, is-empty, equals, starts-with, as-u16, i8-as-u16, HashMap, look-up, Arm, match}
+use Rattle.promises.specs.RustAssembler.{AssemblyInstruction, Code, no-ext, parse-immediate, parse-immediate-u16, parse-data-register, parse-address-register, parse-branch-displacement, encode-moveq, encode-move-with-ext, encode-movea-with-ext, encode-muls-with-ext, encode-branch, encode-add, encode-sub, encode-cmp-with-ext, encode-jump, encode-tst, encode-subq, encode-asl, encode-dbra, encode-instruction-with-ext, _or_, _and_, _<<_}
+use Rattle.promises.specs.Demand2Rust.{instAt}
 use Rattle.promises.proofs.RustText.{same-eq, equals-is, after-is}
 use Rattle.promises.proofs.RustNumber.{All, Small, clash, imm8-is, imm8-small, imm16-is, imm16-none}
 use Rattle.promises.proofs.RustOperand.{Register, data-is, data-below, address-is, address-below, indirect-is, indirect-below, Agrees, displacement-is, displacement-small, jumps-is}
@@ -173,65 +175,84 @@ pull : (b : Bool) (o : Option ℕ) (k h : ℕ → Option Code) {y : Option (List
 pull true o k h e = e
 pull false o k h e = e
 
--- an immediate and a register, in the order of the rules
-value-row : (s t : Text) (g h : ℕ → ℕ) → ((n : ℕ) → n < 8 → g n ≡ h n)
-    → Same codeWords (bind (parse-data-register t) (λ n. bind (parse-immediate-u16 s) (λ v. some (g n, some v))))
-    (bind (imm16 s) (λ v. bind (dataRegister t) (λ n. some (literal (h n) ∷ literal v ∷ []))))
-value-row s t g h e =
-    swap (parse-immediate-u16 s) (parse-data-register t) (λ v n. some (g n, some v)) (value-on s (λ v. data-on t (λ n k. valued (e n k))))
+-- ---- the rows that several encoders have
+-- two registers; g makes an answer of one word
+registers-same : {A : Type 0} {f : A → List ℕ} (g : ℕ → A) → ((c : ℕ) → f (g c) ≡ oneWord c) → (w : ℕ) → w / 512 % 8 ≡ 0 → w % 8 ≡ 0 → (s u : Text)
+    → Same f (bind (parse-data-register s) (λ n. bind (parse-data-register u) (λ m. some (g (w or (as-u16 m << 9) or as-u16 n))))) (registersRow w s u)
+unfolding registersRow
+registers-same g p w d e s u = data-on s (λ n h. data-on u (λ m k. hit (p _ ∙ ap oneWord (registers w n m h k d e))))
 
--- two registers, taken in the other order
-registers-row : (s t : Text) (g h : ℕ → ℕ → ℕ) → ((n m : ℕ) → n < 8 → m < 8 → g n m ≡ h n m)
-    → Same codeWords (bind (parse-data-register t) (λ m. bind (parse-data-register s) (λ n. some (g n m, none))))
-    (bind (dataRegister s) (λ n. bind (dataRegister t) (λ m. some (literal (h n m) ∷ []))))
-registers-row s t g h e =
-    swap (parse-data-register s) (parse-data-register t) (λ n m. some (g n m, none)) (data-on s (λ n k. data-on t (λ m l. alone (e n m k l))))
+-- an immediate and a register in bits 9 to 11, taken in the other order
+high-same : (w : ℕ) → w / 512 % 8 ≡ 0 → (s u : Text)
+    → Same codeWords (bind (parse-data-register u) (λ n. bind (parse-immediate-u16 s) (λ v. some (w or (as-u16 n << 9), some v)))) (highRow w s u)
+unfolding highRow
+high-same w d s u =
+    swap (parse-immediate-u16 s) (parse-data-register u) (λ v n. some (w or (as-u16 n << 9), some v)) (value-on s (λ v. data-on u (λ n k. valued (at-high w n k d))))
+
+-- a signed byte's low three bits in bits 9 to 11, and a register
+quick-same : (w : ℕ) → w / 512 % 8 ≡ 0 → w % 8 ≡ 0 → (s u : Text)
+    → Same oneWord
+    (bind (parse-immediate s) (λ z. bind (parse-data-register u) (λ n.
+    let c = i8-as-u16 z in some (w or (cond (eqb c 8) 0 (c and 7) << 9) or as-u16 n))))
+    (quickRow w s u)
+unfolding quickRow
+quick-same w d e s u = quick-on s (λ z k. data-on u (λ n h. opcode (quick-word w n z h k d e)))
+
+-- without a `#` no row of an immediate is taken, with one no row of two registers
+no-high : (w : ℕ) (s u : Text) → starts-with s (bytes "#") ≡ false → highRow w s u ≡ none
+unfolding highRow
+no-high w s u e = bind-none _ (imm16-none s e)
+
+no-registers : (w : ℕ) (s u : Text) → starts-with s (bytes "#") ≡ true → registersRow w s u ≡ none
+unfolding registersRow
+no-registers w s u e = bind-none _ (hash-none s e)
 
 -- the encoders, on an instruction's operands
-module _ (a : ℕ) (name : Text) (size : ℕ) where
+module _ (x : AssemblyInstruction) where
   abbrev inst : List Text → AssemblyInstruction
-  inst ps = record { address = a; mnemonic = name; operands = ps; size = size }
+  inst ps = record { address = x .address; mnemonic = x .mnemonic; operands = ps; size = x .size }
 
   module _ (t : Table) where
-    add-same : (ps : List Text) → Same oneWord (encode-add (inst ps)) (encodeOperation t a add ps)
+    add-same : (ps : List Text) → Same oneWord (encode-add (inst ps)) (encodeOperation t (x .address) add ps)
     unfolding encode-add encodeOperation
-    add-same = count-two _ _ (λ s u. data-on s (λ n h. data-on u (λ k l. opcode (registers 0xD040 n k h l refl refl))))
+    add-same = count-two _ _ (registers-same (λ c. c) (λ c. refl) 0xD040 refl refl)
 
-    sub-same : (ps : List Text) → Same oneWord (encode-sub (inst ps)) (encodeOperation t a sub ps)
+    sub-same : (ps : List Text) → Same oneWord (encode-sub (inst ps)) (encodeOperation t (x .address) sub ps)
     unfolding encode-sub encodeOperation
-    sub-same = count-two _ _ (λ s u. data-on s (λ n h. data-on u (λ k l. opcode (registers 0x9040 n k h l refl refl))))
+    sub-same = count-two _ _ (registers-same (λ c. c) (λ c. refl) 0x9040 refl refl)
 
-    moveq-same : (ps : List Text) → Same oneWord (encode-moveq (inst ps)) (encodeOperation t a moveq ps)
-    unfolding encode-moveq encodeOperation
+    moveq-same : (ps : List Text) → Same oneWord (encode-moveq (inst ps)) (encodeOperation t (x .address) moveq ps)
+    unfolding encode-moveq encodeOperation moveqRow
     moveq-same = count-two _ _ (λ s u. quick-on s (λ z k. data-on u (λ n h. opcode (moveq-word n z h k))))
 
-    subq-same : (ps : List Text) → Same oneWord (encode-subq (inst ps)) (encodeOperation t a subq ps)
+    subq-same : (ps : List Text) → Same oneWord (encode-subq (inst ps)) (encodeOperation t (x .address) subq ps)
     unfolding encode-subq encodeOperation
-    subq-same = count-two _ _ (λ s u. quick-on s (λ z k. data-on u (λ n h. opcode (quick-word 0x5180 n z h k refl refl))))
+    subq-same = count-two _ _ (quick-same 0x5180 refl refl)
 
-    asl-same : (ps : List Text) → Same oneWord (encode-asl (inst ps)) (encodeOperation t a asl ps)
+    asl-same : (ps : List Text) → Same oneWord (encode-asl (inst ps)) (encodeOperation t (x .address) asl ps)
     unfolding encode-asl encodeOperation
-    asl-same = count-two _ _ (λ s u. quick-on s (λ z k. data-on u (λ n h. opcode (quick-word 0xE180 n z h k refl refl))))
+    asl-same = count-two _ _ (quick-same 0xE180 refl refl)
 
-    tst-same : (ps : List Text) → Same oneWord (encode-tst (inst ps)) (encodeOperation t a tst ps)
-    unfolding encode-tst encodeOperation
+    tst-same : (ps : List Text) → Same oneWord (encode-tst (inst ps)) (encodeOperation t (x .address) tst ps)
+    unfolding encode-tst encodeOperation tstRow
     tst-same = count-one _ _ (λ s. data-on s (λ n h. opcode (at-low 0x4A80 n h refl)))
 
-    cmp-same : (ps : List Text) → Same codeWords (encode-cmp-with-ext (inst ps)) (encodeOperation t a cmp ps)
-    unfolding encode-cmp-with-ext encodeOperation
+    cmp-same : (ps : List Text) → Same codeWords (encode-cmp-with-ext (inst ps)) (encodeOperation t (x .address) cmp ps)
+    unfolding encode-cmp-with-ext encodeOperation cmpRows lowRow
     cmp-same = count-two _ _ (λ s u. either s
-        (λ e. bind-none _ (hash-none s e))
+        (no-registers 0xB040 s u)
         (λ e. bind-none _ (imm16-none s e))
         (value-on s (λ v. data-on u (λ n h. valued (at-low 0x0C80 n h refl))))
-        (data-on s (λ n h. data-on u (λ k l. alone (registers 0xB040 n k h l refl refl)))))
+        (registers-same (λ c. (c, none)) (λ c. refl) 0xB040 refl refl s u))
 
-    muls-same : (ps : List Text) → Same codeWords (encode-muls-with-ext (inst ps)) (encodeOperation t a muls ps)
-    unfolding encode-muls-with-ext encodeOperation
+    muls-same : (ps : List Text) → Same codeWords (encode-muls-with-ext (inst ps)) (encodeOperation t (x .address) muls ps)
+    unfolding encode-muls-with-ext encodeOperation mulsRows
     muls-same = count-two _ _ (λ s u. last (pull (starts-with s (bytes "#")) (parse-data-register u) _ _ (either s
-        (λ e. bind-none _ (hash-none s e))
-        (λ e. bind-none _ (imm16-none s e))
-        (value-row s u _ _ (λ n h. at-high 0xC1FC n h refl))
-        (registers-row s u _ _ (λ n k h l. registers 0xC1C0 n k h l refl refl)))))
+        (no-registers 0xC1C0 s u)
+        (no-high 0xC1FC s u)
+        (high-same 0xC1FC refl s u)
+        (swap (parse-data-register s) (parse-data-register u) (λ n m. some (0xC1C0 or (as-u16 m << 9) or as-u16 n, none))
+        (registers-same (λ c. (c, none)) (λ c. refl) 0xC1C0 refl refl s u)))))
 
   -- those that look labels up
   module _ {m : HashMap} {t : Table} (g : Agrees m t) where
@@ -239,18 +260,18 @@ module _ (a : ℕ) (name : Text) (size : ℕ) where
     unfolding withLabel
     label-on s e = on (λ x. x < 2 ^ 30) (g .finds s) (g .low s) (λ x h. hit (ap (λ (y : ℕ). y ∷ x % 65536 ∷ []) e))
 
-    move-same : (ps : List Text) → Same codeWords (encode-move-with-ext m (inst ps)) (encodeOperation t a move ps)
-    unfolding encode-move-with-ext encodeOperation encodeMove
+    move-same : (ps : List Text) → Same codeWords (encode-move-with-ext m (inst ps)) (encodeOperation t (x .address) move ps)
+    unfolding encode-move-with-ext encodeOperation moveRows fromIndirect toIndirect fromLabel toLabel
     move-same = count-two _ _ (λ s u. or-else
-        (hashed s (λ e. bind-none _ (imm16-none s e)) (value-row s u _ _ (λ n h. at-high 0x21FC n h refl)))
+        (hashed s (no-high 0x21FC s u) (high-same 0x21FC refl s u))
         (or-else (on Register (indirect-is s) (indirect-below s) (λ n h. data-on u (λ k l. alone (registers 0x2010 n k h l refl refl))))
         (or-else (data-on s (λ n h. on Register (indirect-is u) (indirect-below u) (λ k l. alone (registers 0x2080 n k h l refl refl))))
-        (or-else (data-on s (λ n h. data-on u (λ k l. alone (registers 0x3000 n k h l refl refl))))
+        (or-else (registers-same (λ c. (c, none)) (λ c. refl) 0x3000 refl refl s u)
         (or-else (data-on u (λ n h. label-on s (at-high 0x2078 n h refl)))
         (last (data-on s (λ n h. label-on u (at-low 0x23C0 n h refl)))))))))
 
-    movea-same : (ps : List Text) → Same codeWords (encode-movea-with-ext m (inst ps)) (encodeOperation t a movea ps)
-    unfolding encode-movea-with-ext encodeOperation bind bytes
+    movea-same : (ps : List Text) → Same codeWords (encode-movea-with-ext m (inst ps)) (encodeOperation t (x .address) movea ps)
+    unfolding encode-movea-with-ext encodeOperation moveaRow bind bytes
     movea-same = count-two _ _ (λ s u. last (go s u (starts-with s (35 ∷ [])) refl))
       where
         go : (s u : Text) (x : Bool) → starts-with s (35 ∷ []) ≡ x
@@ -261,25 +282,25 @@ module _ (a : ℕ) (name : Text) (size : ℕ) where
         go s u true e = rw (after-is (35 ∷ []) s, e) (on Register (address-is u) (address-below u) (λ n h. label-on (drop 1 s) (at-high 0x207C n h refl)))
         go s u false e = rw (after-is (35 ∷ []) s, e) nothing
 
-    jump-same : (ps : List Text) → Same oneWord (encode-jump m (inst ps)) (encodeOperation t a jmp ps)
-    unfolding encode-jump encodeOperation
+    jump-same : (ps : List Text) → Same oneWord (encode-jump m (inst ps)) (encodeOperation t (x .address) jmp ps)
+    unfolding encode-jump encodeOperation jumpRow
     jump-same = count-one _ _ (λ s. rw (jumps-is g s) (go (jumps t s)))
       where
         go : (x : Bool) → Same oneWord (cond x (some 0x4EF8) none) (cond x (some (literal 0x4EF8 ∷ [])) none)
         go true = opcode refl
         go false = nothing
 
-    module _ (low : a < 2 ^ 30) where
+    module _ (low : x .address < 2 ^ 30) where
       displaced-on : {A : Type 0} {f : A → List ℕ} (s : Text) {k : ℤ → Option A} {h : ℤ → Option (List Cell)}
-          → ((z : ℤ) → Small z → Same f (k z) (h z)) → Same f (bind (parse-branch-displacement m s a) k) (bind (displacement t a s) h)
-      displaced-on s k = on Small (displacement-is g s a low) (displacement-small t a s) k
+          → ((z : ℤ) → Small z → Same f (k z) (h z)) → Same f (bind (parse-branch-displacement m s (x .address)) k) (bind (displacement t (x .address) s) h)
+      displaced-on s k = on Small (displacement-is g s (x .address) low) (displacement-small t (x .address) s) k
 
-      dbra-same : (ps : List Text) → Same oneWord (encode-dbra m (inst ps)) (encodeOperation t a dbra ps)
-      unfolding encode-dbra encodeOperation
+      dbra-same : (ps : List Text) → Same oneWord (encode-dbra m (inst ps)) (encodeOperation t (x .address) dbra ps)
+      unfolding encode-dbra encodeOperation dbraRow
       dbra-same = count-two _ _ (λ s u. data-on s (λ n h. displaced-on u (λ z k. opcode (at-low 0x51C8 n h refl))))
 
-      branch-same : (c : ℕ) → c < 16 → (ps : List Text) → Same oneWord (encode-branch m (inst ps) c) (encodeOperation t a (branch c) ps)
-      unfolding encode-branch encodeOperation
+      branch-same : (c : ℕ) → c < 16 → (ps : List Text) → Same oneWord (encode-branch m (inst ps) c) (encodeOperation t (x .address) (branch c) ps)
+      unfolding encode-branch encodeOperation branchRow
       branch-same c l = count-more _ _ (λ s ps. displaced-on s (λ z k. opcode (branch-word c z l k)))
 
 -- `match`: the arms, and the rules' list of mnemonics
@@ -341,21 +362,27 @@ no-ext-same {x} {y} e = go x e
     go (some c) e = record { words = e .words }
 
 -- an instruction's words
-module _ (a : ℕ) (low : a < 2 ^ 30) (n : Text) (size : ℕ) {m : HashMap} {t : Table} (g : Agrees m t) (ps : List Text) where
-  by : (c : ℕ) → c < 16 → Same codeWords (no-ext (encode-branch m (inst a n size ps) c)) (encodeOperation t a (branch c) ps)
-  by c h = no-ext-same (branch-same a n size g low c h ps)
+module _ (a : ℕ) (low : a < 2 ^ 30) (i : Said) {m : HashMap} {t : Table} (g : Agrees m t) where
+  abbrev x : AssemblyInstruction
+  x = instAt a i
 
-  pub encode-same : Same codeWords (encode-instruction-with-ext m (inst a n size ps)) (encode t a n ps)
-  unfolding encode-instruction-with-ext encode bind covered has equals bytes operationIn mnemonics same encodeOperation
-  encode-same = match-same (λ q. encode t a q ps) n
-      (no-ext-same (moveq-same a n size t ps)
-      then-arm move-same a n size g ps
-      then-arm movea-same a n size g ps
-      then-arm muls-same a n size t ps
-      then-arm no-ext-same (tst-same a n size t ps)
-      then-arm no-ext-same (subq-same a n size t ps)
-      then-arm no-ext-same (asl-same a n size t ps)
-      then-arm no-ext-same (dbra-same a n size g low ps)
+  abbrev ps : List Text
+  ps = i .operands
+
+  by : (c : ℕ) → c < 16 → Same codeWords (no-ext (encode-branch m x c)) (encodeOperation t a (branch c) ps)
+  by c h = no-ext-same (branch-same x g low c h ps)
+
+  pub encode-same : Same codeWords (encode-instruction-with-ext m x) (encode t a i)
+  unfolding encode-instruction-with-ext encodeBy bind covered has equals bytes operationIn mnemonics otherMnemonics branches same encodeOperation
+  encode-same = match-same (λ q. encode t a (record { mnemonic = q; suffix = i .suffix; operands = ps })) (i .mnemonic)
+      (no-ext-same (moveq-same x t ps)
+      then-arm move-same x g ps
+      then-arm movea-same x g ps
+      then-arm muls-same x t ps
+      then-arm no-ext-same (tst-same x t ps)
+      then-arm no-ext-same (subq-same x t ps)
+      then-arm no-ext-same (asl-same x t ps)
+      then-arm no-ext-same (dbra-same x g low ps)
       then-arm by 0 (omega arith)
       then-arm by 7 (omega arith)
       then-arm by 6 (omega arith)
@@ -369,10 +396,10 @@ module _ (a : ℕ) (low : a < 2 ^ 30) (n : Text) (size : ℕ) {m : HashMap} {t :
       then-arm by 15 (omega arith)
       then-arm alone refl
       then-arm alone refl
-      then-arm no-ext-same (add-same a n size t ps)
-      then-arm no-ext-same (sub-same a n size t ps)
-      then-arm cmp-same a n size t ps
-      then-arm no-ext-same (jump-same a n size g ps)
-      then-arm no-ext-same (jump-same a n size g ps)
+      then-arm no-ext-same (add-same x t ps)
+      then-arm no-ext-same (sub-same x t ps)
+      then-arm cmp-same x t ps
+      then-arm no-ext-same (jump-same x g ps)
+      then-arm no-ext-same (jump-same x g ps)
       then-arm done)
-      (λ ms. bind-none _ (missing n _ ms mnemonics refl))
+      (λ ms. bind-none _ (missing (i .mnemonic) _ ms mnemonics refl))

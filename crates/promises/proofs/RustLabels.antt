@@ -8,7 +8,7 @@ use native.Mathlib.Omega.{arith}
 use lib.ListN.{length}
 use Rattle.rules.specs.Limits.{maxLabels}
 use Rattle.rules.specs.Text.{Text}
-use Rattle.rules.specs.Line.{Name}
+use Rattle.rules.specs.Line.{SourceLine, Name}
 use Rattle.rules.specs.Label.{Label, Table, find, recorded, hasRoom, recordAll}
 use Rattle.rules.specs.Encode.{isSome}
 use Rattle.promises.specs.RustStr.{is-some, HashMap, insert, look-up}
@@ -63,24 +63,24 @@ unfolding isSome
 recorded-room x t none e h r = rw (length-recorded x t, e) (new-room none t r refl)
 recorded-room x t (some a) e h r = rw (length-recorded x t, e) h
 
-pub inserted : (i a : ℕ) → a < 2 ^ 30 → (ns : List Name) (t : Table) (st : State) → st .current-address ≡ a → Level (st .labels) t
-    → Inserted (insertAll ns st .labels) (recordAll i a ns t)
+pub inserted : (l : SourceLine) (a : ℕ) → a < 2 ^ 30 → (ns : List Name) (t : Table) (st : State) → st .current-address ≡ a → Level (st .labels) t
+    → Inserted (insertAll ns st .labels) (recordAll l a ns t)
 unfolding recordAll insertAll insert-label
-inserted i a h [] t st c l = fits l
-inserted i a h (n ∷ ns) t st c l = go (hasRoom (find (n .text) t) t) refl (inserted i a h ns (recorded x t) (insert-label (n .text) st) c)
+inserted l a h [] t st c v = fits v
+inserted l a h (n ∷ ns) t st c v = go (hasRoom (find (n .text) t) t) refl (inserted l a h ns (recorded x t) (insert-label (n .text) st) c)
   where
     x : Label
-    x = record { name = n .text; start = i + n .start; address = a }
+    x = record { name = n .text; start = l .start + n .start; address = a }
 
     more : keys (insert (st .labels) (n .text) (st .current-address)) ≡ length (recorded x t)
-    more = rw c (count-insert (st .labels) t x (l .agrees) (l .count))
+    more = rw c (count-insert (st .labels) t x (v .agrees) (v .count))
 
     go : (y : Bool) → hasRoom (find (n .text) t) t ≡ y
-        → (Level (insert (st .labels) (n .text) (st .current-address)) (recorded x t) → Inserted (insertAll ns (insert-label (n .text) st) .labels) (recordAll i a ns (recorded x t)))
-        → Inserted (insertAll ns (insert-label (n .text) st) .labels) (recordAll i a (n ∷ ns) t)
+        → (Level (insert (st .labels) (n .text) (st .current-address)) (recorded x t) → Inserted (insertAll ns (insert-label (n .text) st) .labels) (recordAll l a ns (recorded x t)))
+        → Inserted (insertAll ns (insert-label (n .text) st) .labels) (recordAll l a (n ∷ ns) t)
     go true f ih =
         rw (recordAll, f)
-        (ih (record { agrees = rw c (insert-agrees x h (l .agrees)); count = more; room = recorded-room x t (find (n .text) t) refl (l .room) f }))
+        (ih (record { agrees = rw c (insert-agrees x h (v .agrees)); count = more; room = recorded-room x t (find (n .text) t) refl (v .room) f }))
     go false f ih =
         let new = full-new (find (n .text) t) t f in
         let one : length (recorded x t) ≡ suc (length t) = length-recorded x t ∙ rw (new .0) in

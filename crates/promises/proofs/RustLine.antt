@@ -10,11 +10,11 @@ use lib.Dec.{leb, ltb, eqb}
 use borrow.Author.Tests.{lt-ltb, le-leb}
 use Rattle.rules.specs.Text.{Text, bytes, uppers, leading, trim, trimStart, trimEnd, cutWhere, cutAt, dropEmpty, pieces, joined, Cut, uncut, around, firstCut, same, starts, contains, nth, firstText, otherTexts, lastText}
 use Rattle.rules.specs.Number.{number32}
-use Rattle.rules.specs.Line.{Name, name, directive, item, numberIn, operandsOf, instructionOf, dataSize, dataValue, dataBody, isDirective, dataPieces, nonempty, dataLine, isData, restLine, afterLabel, labelLine, trimmedLine, lineOf, isL, isPlain, isLong, instructionSize}
-use Rattle.promises.specs.RustStr.{at, filter, is-empty, split, split-whitespace, splitn-2, to-uppercase, starts-with, join}
+use Rattle.rules.specs.Line.{Name, name, instruction, line, numberIn, operandsOf, instructionOf, dataSize, dataValue, sized, dataTask, isDirective, dataPieces, nonempty, dataLine, isData, restLine, afterLabel, labelLine, orgTask, trimmedLine, lineOf, isL, isPlain, isLong, instructionSize, size}
+use Rattle.promises.specs.RustStr.{at, add-u32, filter, is-empty, split, split-whitespace, splitn-2, to-uppercase, starts-with, join}
 use Rattle.promises.specs.RustStr as Rust
-use Rattle.promises.specs.RustAssembler.{AssemblyInstruction, parse-org-directive, Parts, label-and-directive, directive-size, directive-value, parse-data-directive-with-value, is-l, instruction-size, parse-instruction, State, continue, break, insert-label, handle-directive, handle-instruction, handle-rest, handle-label, handle-org, body}
-use Rattle.promises.specs.Demand2Rust.{instAt, put, insertAll, perform, LinesAreTheRusts}
+use Rattle.promises.specs.RustAssembler.{AssemblyInstruction, parse-org-directive, Parts, label-and-directive, directive-size, directive-value, parse-data-directive-with-value, is-l, instruction-size, parse-instruction, State, continue, break, set-address, insert-label, push-value, handle-directive, handle-instruction, handle-rest, handle-label, handle-org, body}
+use Rattle.promises.specs.Demand2Rust.{instAt, performTask, insertAll, perform, LinesAreTheRusts}
 use Rattle.promises.proofs.RustText.{eqb-comm, starts-is, equals-is, contains-is, uppercase-is, trim-is, split-is, nonempty-is, pieces-is, join-is, cutTexts, isCut, splitn-is, contains-one, second-is, second-trimmed, get-is, AllFull, nil, cons, full-pieces, solid-pieces}
 use Rattle.promises.proofs.RustNumber.{clash, number32-is}
 
@@ -101,8 +101,12 @@ first-is (p ∷ ps) = refl
 
 parsed-is : (s : Text) (a : ℕ) (ps : List Text) → split-whitespace s ≡ ps
     → parse-instruction s a
-    ≡ instAt a (uppers (firstText (cutAt 46 (firstText ps)))) (nth 1 (cutAt 46 (firstText ps))) (dropEmpty (map trim (cutAt 44 (joined (otherTexts ps)))))
-unfolding parse-instruction is-empty firstText otherTexts joined cutAt cutWhere dropEmpty trim trimStart trimEnd uppers instructionSize
+    ≡ instAt a (record {
+      mnemonic = uppers (firstText (cutAt 46 (firstText ps)));
+      suffix = nth 1 (cutAt 46 (firstText ps));
+      operands = dropEmpty (map trim (cutAt 44 (joined (otherTexts ps))));
+    })
+unfolding parse-instruction is-empty firstText otherTexts joined cutAt cutWhere dropEmpty trim trimStart trimEnd uppers instructionSize size
 parsed-is s a [] e = rw e
 parsed-is s a (p ∷ ps) e =
     rw (
@@ -114,9 +118,9 @@ parsed-is s a (p ∷ ps) e =
       sizes-is (uppers (firstText (cutAt 46 p))) (cutAt 46 p) (dropEmpty (map trim (cutAt 44 (joined ps)))),
     )
 
-instruction-is : (s : Text) (st : State) → handle-instruction (parse-instruction s (st .current-address)) st ≡ put (instructionOf s) st
-unfolding put instructionOf operandsOf
-instruction-is s st = ap (λ (i : AssemblyInstruction). handle-instruction i st) (parsed-is s (st .current-address) (pieces s) (pieces-is s))
+instruction-is : (s : Text) (st : State) → continue (handle-instruction (parse-instruction s (st .current-address)) st) ≡ performTask (instruction (instructionOf s)) st
+unfolding performTask instructionOf operandsOf
+instruction-is s st = ap (λ (i : AssemblyInstruction). continue (handle-instruction i st)) (parsed-is s (st .current-address) (pieces s) (pieces-is s))
 
 -- step 5: the label and the directive
 cut-parts : Text → Text → Parts
@@ -175,9 +179,20 @@ value-of s d =
       numberIn-is (nth 1 (pieces d)),
     )
 
-org-is : (s : Text) → parse-org-directive s ≡ numberIn (nth 1 (pieces s))
+-- the tasks that a number decides
+sized-is : (n : ℕ) (o : Option ℕ) (st : State) → continue (let s₂ = push-value o st in set-address (add-u32 (s₂ .current-address) n) s₂) ≡ performTask (sized n o) st
+unfolding performTask sized
+sized-is n none st = refl
+sized-is n (some v) st = refl
+
+org-is : (o : Option ℕ) (st : State) → continue (handle-org o st) ≡ performTask (orgTask o) st
+unfolding performTask orgTask
+org-is none st = refl
+org-is (some v) st = refl
+
+org-number : (s : Text) → parse-org-directive s ≡ numberIn (nth 1 (pieces s))
 unfolding parse-org-directive
-org-is s = rw (number32-is (at (split-whitespace s) 1), pieces-is s, second-is number32 (pieces s)) (numberIn-is (nth 1 (pieces s)))
+org-number s = rw (number32-is (at (split-whitespace s) 1), pieces-is s, second-is number32 (pieces s)) (numberIn-is (nth 1 (pieces s)))
 
 -- step 5
 inserted : (ns ms : List Name) (st : State) → insertAll (ns ++ ms) st ≡ insertAll ms (insertAll ns st)
@@ -191,15 +206,16 @@ label-is i [] st = refl
 label-is i (b ∷ l) st = refl
 
 -- a line whose label and directive are known
-module _ (s : Text) (st : State) where
-  put-parts : (i : ℕ) (p : Parts) → label-and-directive s ≡ p
-      → handle-directive (parse-data-directive-with-value s) st ≡ put (dataBody s (p .directive-str)) (insertAll (nonempty i (p .label)) st)
-  unfolding handle-directive parse-data-directive-with-value put dataBody
-  put-parts i p e = rw (e, size-of s, value-of s (p .directive-str), label-is i (p .label) st)
+put-parts : (s : Text) (st : State) (i : ℕ) (p : Parts) → label-and-directive s ≡ p
+    → continue (handle-directive (parse-data-directive-with-value s) st) ≡ performTask (dataTask s (p .directive-str)) (insertAll (nonempty i (p .label)) st)
+unfolding handle-directive parse-data-directive-with-value dataTask
+put-parts s st i p e =
+    rw (e, size-of s, value-of s (p .directive-str), label-is i (p .label) st)
+    (sized-is (dataSize (uppers s)) (dataValue (uppers s) (p .directive-str)) (insertAll (nonempty i (p .label)) st))
 
 module _ (ns : List Name) (i : ℕ) (s : Text) (st : State) where
   pieces-put : {ps : List Text} → AllFull ps
-      → continue (put (dataBody s (piece-parts s ps .directive-str)) (insertAll (nonempty i (piece-parts s ps .label)) (insertAll ns st)))
+      → performTask (dataTask s (piece-parts s ps .directive-str)) (insertAll (nonempty i (piece-parts s ps .label)) (insertAll ns st))
       ≡ perform (dataPieces ns i s ps) st
   unfolding piece-parts nonempty insertAll perform dataPieces
   pieces-put nil = refl
@@ -213,8 +229,8 @@ module _ (ns : List Name) (i : ℕ) (s : Text) (st : State) where
       labelled = record { label = b ∷ p; directive-str = joined ((c ∷ q) ∷ ps) }
 
       go : (x : Bool)
-          → continue (put (dataBody s (cond x bared labelled .directive-str)) (insertAll (nonempty i (cond x bared labelled .label)) (insertAll ns st)))
-          ≡ perform (cond x (item ns (dataBody s s)) (item (ns ++ (name i (b ∷ p) ∷ [])) (dataBody s (joined ((c ∷ q) ∷ ps))))) st
+          → performTask (dataTask s (cond x bared labelled .directive-str)) (insertAll (nonempty i (cond x bared labelled .label)) (insertAll ns st))
+          ≡ perform (cond x (line ns (dataTask s s)) (line (ns ++ (name i (b ∷ p) ∷ [])) (dataTask s (joined ((c ∷ q) ∷ ps))))) st
       go true = refl
       go false = rw (inserted ns (name i (b ∷ p) ∷ []) st)
 
@@ -239,22 +255,22 @@ module _ (ns : List Name) (i : ℕ) (s : Text) (st : State) where
           (handle-instruction (parse-instruction s (insertAll ns st .current-address)) (insertAll ns st)))
           ≡ perform (restLine ns i s) st
       go true e = rw (e, restLine) data-is
-      go false e = rw (e, restLine) (ap continue (instruction-is s (insertAll ns st)))
+      go false e = rw (e, restLine) (instruction-is s (insertAll ns st))
 
 -- step 4
 label-line : (i : ℕ) (s : Text) (st : State)
     → cond (Rust.contains s (bytes ":")) (continue (handle-label (splitn-2 58 s) st)) (continue (handle-rest s st)) ≡ perform (labelLine i s) st
-unfolding labelLine handle-label bytes perform afterLabel put is-empty insertAll isCut cutTexts
+unfolding labelLine handle-label bytes perform performTask afterLabel is-empty insertAll isCut cutTexts
 label-line i s st = rw (contains-one 58 s, splitn-is 58 s) (go (firstCut 58 s) refl)
   where
-    behind : (l r : Text) (j : ℕ) (q : Text)
+    past : (l r : Text) (j : ℕ) (q : Text)
         → continue (cond (is-empty q) (insert-label (trim l) st) (handle-rest q (insert-label (trim l) st))) ≡ perform (afterLabel (name i (trim l)) j q) st
-    behind l r j [] = refl
-    behind l r j (b ∷ q) = rest-is (name i (trim l) ∷ []) j (b ∷ q) st
+    past l r j [] = refl
+    past l r j (b ∷ q) = rest-is (name i (trim l) ∷ []) j (b ∷ q) st
 
     go : (k : Cut) → firstCut 58 s ≡ k → cond (isCut k) (continue (handle-label (cutTexts k s) st)) (continue (handle-rest s st)) ≡ perform (labelLine i s) st
     go uncut e = rw (e, labelLine) (rest-is [] i s st)
-    go (around l r) e = rw (e, labelLine, trim-is l, trim-is r) (behind l r (i + length l + 1 + leading r) (trim r))
+    go (around l r) e = rw (e, labelLine, trim-is l, trim-is r) (past l r (i + length l + 1 + leading r) (trim r))
 
 -- steps 1 to 3, and so all of them
 semicolon : (b : ℕ) (t : Text) → starts-with (b ∷ t) (bytes ";") ≡ eqb b 59
@@ -262,7 +278,7 @@ unfolding starts-with bytes
 semicolon b t = and-true (eqb 59 b) ∙ eqb-comm 59 b
 
 pub body-is : (s : Text) (st : State) → body s st ≡ perform (lineOf s) st
-unfolding body lineOf perform is-empty trimmedLine
+unfolding body lineOf perform performTask insertAll is-empty trimmedLine
 body-is s st = rw (trim-is s) (go (leading s) (trim s))
   where
     go : (i : ℕ) (t : Text)
@@ -278,14 +294,15 @@ body-is s st = rw (trim-is s) (go (leading s) (trim s))
           uppercase-is (b ∷ t),
           starts-is (bytes "END") (uppers (b ∷ t)),
           starts-is (bytes "ORG") (uppers (b ∷ t)),
-          org-is (b ∷ t),
+          org-number (b ∷ t),
+          org-is (numberIn (nth 1 (pieces (b ∷ t)))) st,
           label-line i (b ∷ t) st,
         )
         (on (eqb b 59) refl (starts (bytes "END") (uppers (b ∷ t))) refl (starts (bytes "ORG") (uppers (b ∷ t))) refl)
       where
         on : (x : Bool) → eqb b 59 ≡ x → (y : Bool) → starts (bytes "END") (uppers (b ∷ t)) ≡ y → (z : Bool) → starts (bytes "ORG") (uppers (b ∷ t)) ≡ z
             → cond x (continue st)
-            (cond y (break st) (cond z (continue (handle-org (numberIn (nth 1 (pieces (b ∷ t)))) st)) (perform (labelLine i (b ∷ t)) st)))
+            (cond y (break st) (cond z (performTask (orgTask (numberIn (nth 1 (pieces (b ∷ t))))) st) (perform (labelLine i (b ∷ t)) st)))
             ≡ perform (trimmedLine i (b ∷ t)) st
         on true e y f z g = rw (trimmedLine, e)
         on false e true f z g = rw (trimmedLine, e, f)

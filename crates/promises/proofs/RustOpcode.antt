@@ -1,40 +1,20 @@
 -- Opcodes: fields put together by shifts, masks and `|` are the sums of paper 01. Assumes nothing.
-use Prim.Native.Nat.{ℕ, suc, _+_, _-_, _*_, _/_, _%_, _^_, _<_, _≤_}
-use mathlib.Core.Path.{_≡_, refl, sym, ap, ap₂, _∙_}
+use Prim.Native.Nat.{ℕ, suc, _+_, _-_, _*_, _/_, _%_, _^_, _<_}
+use mathlib.Core.Path.{_≡_, refl, ap, _∙_}
 use mathlib.Core.Bool.{Bool, true, false, cond}
 use native.Mathlib.Omega.{arith}
-use native.Mathlib.Nat.{add-zero, zero-mul, mod-lt, mod-eq-of-lt, div-add-mod', add-mul-mod-self-left, mul-add-mod-self-right}
+use native.Mathlib.Nat.{mod-lt, mod-eq-of-lt, div-add-mod', add-mul-mod-self-left, mul-add-mod-self-right}
 use lib.Dec.{eqb}
-use lib.Bits.{bitAnd, bitOr, and-block, and-shifted, and-zero-r, and-mask, or-disjoint}
-use lib.Pow.{pow-pos, split, shl-exact}
+use lib.Bits.{and-mask}
+use lib.Pow.{pow-pos}
 use lib.IntN.{ℤ, pos, negsuc}
 use borrow.Author.Tests.{eqb-true}
 use Rattle.rules.specs.Number.{modulo}
 use Rattle.rules.specs.Encode.{R}
+use Rattle.rules.proofs.Fields.{low, field}
 use Rattle.promises.specs.RustStr.{as-u16, as-unsigned, i8-as-u16}
 use Rattle.promises.specs.RustAssembler.{_or_, _and_, _<<_}
 use Rattle.promises.proofs.RustNumber.{Small}
-
--- a number whose w lowest digits are 0, against one of w digits
-apart : (x v w : ℕ) → v < 2 ^ w → x % 2 ^ w ≡ 0 → bitAnd x v ≡ 0
-apart x v w h e = ap (λ (y : ℕ). bitAnd y v) (sym (split x w) ∙ ap (λ (y : ℕ). x / 2 ^ w * 2 ^ w + y) e ∙ add-zero _) ∙ and-shifted (x / 2 ^ w) w v h
-
--- the k lowest digits
-low : (k hi lo : ℕ) → lo < 2 ^ k → hi % 2 ^ k ≡ 0 → bitOr hi lo ≡ hi + lo
-low k hi lo h e = or-disjoint hi lo (apart hi lo k h e)
-
--- the w digits from k on, at a word of n digits
-field : (n k w base v : ℕ) → v < 2 ^ w → w + k ≤ n → base / 2 ^ k % 2 ^ w ≡ 0 → bitOr base ((v * 2 ^ k) % 2 ^ n) ≡ base + v * 2 ^ k
-field n k w base v h l e =
-    ap (bitOr base) (shl-exact w k n h l)
-    ∙ or-disjoint base (v * 2 ^ k)
-    (ap₂ bitAnd (sym (split base k)) (sym (add-zero (v * 2 ^ k)))
-    ∙ and-block k (base / 2 ^ k) v (base % 2 ^ k) 0 (mod-lt base (pow-pos k)) (pow-pos k)
-    ∙ ap₂ (λ (x y : ℕ). x * 2 ^ k + y) (apart (base / 2 ^ k) v w h e) (and-zero-r (base % 2 ^ k))
-    ∙ zeros k)
-  where
-    zeros : (k : ℕ) → 0 * 2 ^ k + 0 ≡ 0
-    zeros k = add-zero (0 * 2 ^ k) ∙ zero-mul (2 ^ k)
 
 word-of : (n : ℕ) → n < 8 → as-u16 n ≡ n
 word-of n h = mod-eq-of-lt {n = n} {m = 2 ^ 16} (omega arith)

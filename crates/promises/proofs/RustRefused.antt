@@ -1,44 +1,38 @@
 -- At base 0 the rules refuse by the first line at which the Rust's own state is past a limit, or by none. Assumes nothing.
 use Prim.Native.Nat.{ℕ, suc, _+_, _≤_, _<_}
-use mathlib.Core.Path.{_≡_, refl, sym, ap, _∙_}
+use mathlib.Core.Path.{_≡_, refl, ap, _∙_}
+use mathlib.Core.Logic.{_≢_}
 use mathlib.Core.Option.{Option, none, some}
 use mathlib.Core.List.{List, [], _∷_, map}
 use native.Mathlib.Omega.{arith}
-use native.Mathlib.Nat.{zero-add}
 use lib.ListN.{length, getD, getElem?, drop}
 use borrow.Author.Tests.{ltb-false}
 use Rattle.rules.specs.Limits.{maxSource, maxLines, maxLabels, addressLimit}
 use Rattle.rules.specs.Text.{Text, cutAt}
-use Rattle.rules.specs.Line.{Name, Body, bare, directive, instruction, size, Line, skipped, end, org, item, lineOf}
+use Rattle.rules.specs.Line.{SourceLine, numbered, linesOf, end, lineOf, size}
 use Rattle.rules.specs.Label.{Table, recordAll}
+use Rattle.rules.specs.Encode.{encode}
 use Rattle.rules.specs.Answer.{Answer, accepted, refused, refuseIf}
-use Rattle.rules.specs.Assemble.{next, stepBy, advanceBy, numbered, linesOf, firstPassBy, firstHigh, passAtBy, passAt, wordsOf, encoded, assembleBy, assemble, Place}
+use Rattle.rules.specs.Assemble.{addressAfter, firstPassBy, firstHigh, passAtBy, passAt, encoded, assembleBy, assemble, Place}
 use Rattle.promises.specs.Stages.{Checked}
 use Rattle.promises.specs.Demand1.{SourceCondition, source-over, byte-over, lines-over, checking}
 use Rattle.promises.specs.RustStr.{split}
-use Rattle.promises.specs.RustAssembler.{State, continue, break, set-address, push-value, handle-instruction, handle-org, body}
+use Rattle.promises.specs.RustAssembler.{State, continue, break, body}
 use Rattle.promises.specs.RustAssembler as Rust
-use Rattle.promises.specs.Demand2Rust.{unmarked, put, insertAll, perform, initial, Looped, begun, further, keys, WithinLimits, WithinIsAccepted, AcceptedIsWithin, RustCondition, of-source, address-over, labels-over, atZero, RefusedByTheRust, ListIsTheRusts}
+use Rattle.promises.specs.Demand2Rust.{withoutMark, performTask, insertAll, perform, initial, Looped, begun, further, keys, WithinLimits, WithinIsAccepted, AcceptedIsWithin, RustCondition, of-source, address-over, labels-over, atZero, RefusedByTheRust, ListIsTheRusts}
 use Rattle.promises.proofs.Compared.{clash, Compared, less, more, equal, compared}
 use Rattle.promises.proofs.Stages.{isChecked, not-checked, checked-by, apart, are-apart, Runs, done, and-then, refuses-exactly, none-holds}
-use Rattle.promises.proofs.Demand1Lines.{line-at, no-line, Lines, Either, six, five, either, Fine, fine-next, Through, stop-labels, stop-address, clear, From, onward}
+use Rattle.promises.proofs.Demand1Lines.{line-at, no-line, Lines, Either, six, five, either, Fine, fine-next, Through, stop-labels, stop-address, clear, putting-through, From}
 use Rattle.promises.proofs.Demand1Assemble.{checks-run, counted, high-found}
 use Rattle.promises.proofs.Demand1Search.{Found, found, nowhere}
 use Rattle.promises.proofs.Accepted.{accepts}
+use Rattle.promises.proofs.Tasks.{pass-line}
 use Rattle.promises.proofs.RustText.{split-is}
-use Rattle.promises.proofs.RustValue.{item-low, body-size}
+use Rattle.promises.proofs.RustValue.{task-low}
 use Rattle.promises.proofs.RustLine.{body-is}
-use Rattle.promises.proofs.RustPass.{insertAll-keeps, put-is}
+use Rattle.promises.proofs.RustPass.{Performed, performed}
 use Rattle.promises.proofs.RustLabels.{Level, Inserted, overflow, fits, inserted}
 use Rattle.promises.proofs.Demand2Rust.{empty-agrees, list-is-the-rusts}
-
--- a body leaves the labels alone
-put-labels : (b : Body) (st : State) → put b st .labels ≡ st .labels
-unfolding put push-value set-address handle-instruction
-put-labels bare st = refl
-put-labels (directive n none) st = refl
-put-labels (directive n (some v)) st = refl
-put-labels (instruction m f ps) st = refl
 
 module _ (s : Text) where
   abbrev C : ℕ → ℕ → Type 0
@@ -47,7 +41,7 @@ module _ (s : Text) where
   abbrev IsLine : ℕ → Text → Type 0
   IsLine j l = getElem? (split 10 s) j ≡ some l
 
-  -- the loop's state behind j lines is one
+  -- the loop's state after j lines is one
   loop-once : {j : ℕ} {st su : State} → Looped s j st → Looped s j su → st ≡ su
   loop-once begun begun = refl
   loop-once (further {l = k} r e f) (further {l = l} q g h) =
@@ -55,7 +49,7 @@ module _ (s : Text) where
       let w : k ≡ l = cc in
       cc
 
-  -- 5 and 6 at a line behind which the state is known
+  -- 5 and 6 at a line after which the state is known
   address-at : {j : ℕ} {st : State} → Looped s (suc j) st → C 5 (suc j) → addressLimit ≤ st .current-address
   address-at r (address-over q h) = rw (loop-once r q) h
 
@@ -80,7 +74,7 @@ module _ (s : Text) where
       go (six e) = at-labels (rw e at c)
       go (five e) = at-address (rw e at c)
 
-  -- the lines are over behind j of them, or the loop breaks off at the line behind them
+  -- the lines are over after j of them, or the loop breaks off at the line after them
   over : {k : ℕ} {su : State} (j : ℕ) → drop j (split 10 s) ≡ [] → Looped s k su → k ≤ j
   over j e begun = omega arith
   over j e (further {j = k} {l = l} r f g) = go (compared k j)
@@ -103,60 +97,66 @@ module _ (s : Text) where
           let z : continue sw ≡ break sv = cc in
           clash cc
 
-  -- the rules' pass and the Rust's loop, side by side behind j lines
+  -- the rules' pass and the Rust's loop, side by side after j lines
   record Along (j a : ℕ) (t : Table) (st : State) : Type 0 where
     looped : Looped s j st
     current : st .current-address ≡ a
     level : Level (st .labels) t
     low : a < addressLimit
 
-  -- a line that is read: the address is too high, or the pass goes on
-  module _ (j i a : ℕ) (t : Table) (st : State) (al : Along j a t st) (f : Fine C j) (l : Text) (ls : List Text) (is : IsLine j l)
-      (ih : (a′ : ℕ) (t′ : Table) (st′ : State) → Along (suc j) a′ t′ st′ → Fine C (suc j) → From C size 0 (suc j) (suc (i + length l)) a′ t′ ls) where
-    goes-on : (a′ : ℕ) (t′ : Table) (b : Body) (st′ : State) → stepBy size 0 i a t (lineOf l) ≡ next a′ t′ b → perform (lineOf l) st ≡ continue st′
-        → st′ .current-address ≡ a′ → Level (st′ .labels) t′ → From C size 0 j i a t (l ∷ ls)
-    goes-on a′ t′ b st′ e p c v =
-        let u : Looped s (suc j) st′ = further (al .looped) is (body-is l st ∙ p) in
-        let few : ¬ C 6 (suc j) = λ d. omega (arith, labels-at u d, v .count, v .room) in
-        onward C size 0 j i a a′ t t′ b l ls e
-        (λ h. stop-address C j f few (address-over u (omega arith)))
-        (λ h. ih a′ t′ st′ (record { looped = u; current = c; level = v; low = h }) (fine-next C j f (λ d. omega (arith, address-at u d)) few))
+  -- a line: it breaks the loop off, holds a label too many, leaves too high an address, or the pass goes on
+  module _ (j i a : ℕ) (t : Table) (st : State) (al : Along j a t st) (l : Text) (is : IsLine j l) where
+    abbrev here : SourceLine
+    here = record { number = suc j; start = i; text = l }
 
-    an-item : (ns : List Name) (b : Body) → lineOf l ≡ item ns b → From C size 0 j i a t (l ∷ ls)
-    unfolding stepBy advanceBy firstPassBy numbered perform
-    an-item ns b e = go (recordAll i a ns t) refl (inserted i a (al .low) ns t st (al .current) (al .level))
+    -- the Rust's state after it, and its labels
+    there : lineOf l .task ≢ end → Performed (lineOf l) a st
+    there k = performed (lineOf l) a (al .low) st (al .current) k (task-low l)
+
+    looped-on : (d : Performed (lineOf l) a st) → Looped s (suc j) (d .state)
+    looped-on d = further (al .looped) is (body-is l st ∙ d .flows)
+
+    labels-of : (d : Performed (lineOf l) a st) → Inserted (d .state .labels) (recordAll here a (lineOf l .names) t)
+    labels-of d = rw (d .labels) (inserted here a (al .low) (lineOf l .names) t st (al .current) (al .level))
+
+    breaks : lineOf l .task ≡ end → body l st ≡ break (insertAll (lineOf l .names) st)
+    unfolding perform performTask
+    breaks k = body-is l st ∙ rw k
+
+    level-after : (d : Performed (lineOf l) a st) (t′ : Table) → recordAll here a (lineOf l .names) t ≡ some t′ → Level (d .state .labels) t′
+    level-after d t′ o = go t′ (rw o at (labels-of d))
       where
-        st′ : State
-        st′ = put b (insertAll ns st)
+        go : (u : Table) → Inserted (d .state .labels) (some u) → Level (d .state .labels) u
+        go u (fits v) = v
 
-        go : (o : Option Table) → recordAll i a ns t ≡ o → Inserted (insertAll ns st .labels) o → From C size 0 j i a t (l ∷ ls)
-        go none r (overflow h) =
-            let p : perform (lineOf l) st ≡ continue st′ = rw e in
-            let u : Looped s (suc j) st′ = further (al .looped) is (body-is l st ∙ p) in
-            rw (firstPassBy, e, r) (stop-labels C j f (labels-over u (rw (put-labels b (insertAll ns st)) h)))
-        go (some t′) r (fits v) =
-            let small = body-size b (item-low l ns b e) in
-            let there = put-is a (insertAll ns st) (insertAll-keeps ns st .current ∙ al .current) t′ (v .agrees) b (omega (arith, al .low)) in
-            goes-on (a + size b) t′ b st′ (rw (e, r)) (rw e) (there .current) (rw (put-labels b (insertAll ns st)) v)
-
-    line : From C size 0 j i a t (l ∷ ls)
-    unfolding stepBy firstPassBy numbered perform handle-org set-address
-    line = go (lineOf l) refl
+    too-many : (d : Performed (lineOf l) a st) → recordAll here a (lineOf l .names) t ≡ none → maxLabels < keys (d .state .labels)
+    too-many d o = go (rw o at (labels-of d))
       where
-        go : (x : Line) → lineOf l ≡ x → From C size 0 j i a t (l ∷ ls)
-        go skipped e = goes-on a t bare st (rw e) (rw e) (al .current) (al .level)
-        go end e =
-            let p : perform (lineOf l) st ≡ break st = rw e in
-            rw (firstPassBy, e) (clear C j f (λ m q k c. broken (al .looped) is (body-is l st ∙ p) (at-line m q k c .looped)) _)
-        go (org none) e = goes-on a t bare st (rw e) (rw e) (al .current) (al .level)
-        go (org (some v)) e = goes-on (0 + v) t bare (set-address v st) (rw e) (rw e) (sym (zero-add v)) (al .level)
-        go (item ns b) e = an-item ns b e
+        go : Inserted (d .state .labels) none → maxLabels < keys (d .state .labels)
+        go (overflow h) = h
+
+    few : (d : Performed (lineOf l) a st) (t′ : Table) → recordAll here a (lineOf l .names) t ≡ some t′ → ¬ C 6 (suc j)
+    few d t′ o v = let u = level-after d t′ o in omega (arith, labels-at (looped-on d) v, u .count, u .room)
+
+    line : (ls : List Text) → Fine C j
+        → ((a′ : ℕ) (t′ : Table) (st′ : State) → Along (suc j) a′ t′ st′ → Fine C (suc j) → From C size 0 (suc j) (suc (i + length l)) a′ t′ ls)
+        → From C size 0 j i a t (l ∷ ls)
+    unfolding numbered
+    line ls f ih =
+        pass-line size 0 a t here (numbered (suc (suc j)) (suc (i + length l)) ls) (Through C)
+        (λ k. clear C j f (λ m q u c. broken (al .looped) is (breaks k) (at-line m q u c .looped)) _)
+        (λ k o. stop-labels C j f (labels-over (looped-on (there k)) (too-many (there k) o)))
+        (λ t′ k o v. stop-address C j f (few (there k) t′ o) (address-over (looped-on (there k)) (rw (there k .current) v)))
+        (λ t′ k o v. putting-through C a (lineOf l .task) _
+        (ih (addressAfter size 0 a (lineOf l .task)) t′ (there k .state)
+        (record { looped = looped-on (there k); current = there k .current; level = level-after (there k) t′ o; low = v })
+        (fine-next C j f (λ u. omega (arith, address-at (looped-on (there k)) u, there k .current)) (few (there k) t′ o))))
 
   pass : (ls : List Text) (j i a : ℕ) (t : Table) (st : State) → drop j (split 10 s) ≡ ls → Along j a t st → Fine C j → From C size 0 j i a t ls
   unfolding firstPassBy numbered
   pass [] j i a t st e al f = clear C j f (λ m q k c. over j e (at-line m q k c .looped)) _
   pass (l ∷ ls) j i a t st e al f =
-      line j i a t st al f l ls (line-at (split 10 s) j l ls e .0)
+      line j i a t st al l (line-at (split 10 s) j l ls e .0) ls f
       (λ a′ t′ st′. pass ls (suc j) (suc (i + length l)) a′ t′ st′ (line-at (split 10 s) j l ls e .1))
 
   -- over the whole source
@@ -200,7 +200,7 @@ module _ (s : Text) where
 
   answered : Runs C atZero (assemble 0 s)
   unfolding assembleBy passAtBy refuseIf
-  answered = and-then C [] (passAt 0 s) (encoded wordsOf) (checks-run s C (λ n p. of-source) of-checks _ through) (λ p e. done)
+  answered = and-then C [] (passAt 0 s) (encoded encode) (checks-run s C (λ n p. of-source) of-checks _ through) (λ p e. done)
 
 pub refused-by-the-rust : RefusedByTheRust
 unfolding RefusedByTheRust apart
@@ -218,7 +218,7 @@ pub within-is-accepted : WithinIsAccepted
 unfolding WithinIsAccepted RefusedByTheRust ListIsTheRusts
 within-is-accepted s w = go (assemble 0 s) refl
   where
-    go : (r : Answer (List Place)) → assemble 0 s ≡ r → (l : List Place) × (assemble 0 s ≡ accepted l) × (map unmarked l ≡ Rust.assemble (split 10 s))
+    go : (r : Answer (List Place)) → assemble 0 s ≡ r → (l : List Place) × (assemble 0 s ≡ accepted l) × (map withoutMark l ≡ Rust.assemble (split 10 s))
     go (refused n p) e = absurd (none-within s w n p (refused-by-the-rust s n p .0 e .0))
     go (accepted l) e = (l, e, list-is-the-rusts s l e)
 
@@ -238,7 +238,7 @@ none-high s o (nowhere h) e i k = let g = not-above 127 (getD s i 0) (h i k) in 
 pub accepted-is-within : AcceptedIsWithin
 unfolding AcceptedIsWithin apart
 accepted-is-within s l e =
-    let c = accepts size wordsOf 0 s l e .through in
+    let c = accepts size encode 0 s l e .through in
     let clear = none-holds (RustCondition s) atZero (are-apart atZero refl) (known s) l (assemble 0 s) e (answered s) in
     record {
       size = ltb-false maxSource (length s) (c .size);

@@ -11,23 +11,17 @@ use lib.Dec.{ltb}
 use lib.ListN.{length-map}
 use Rattle.rules.specs.Limits.{addressLimit}
 use Rattle.rules.specs.Text.{Text, same}
-use Rattle.rules.specs.Line.{Name, Body, Line, skipped, end, org, item, lineOf}
+use Rattle.rules.specs.Line.{SourceLine, Name, Task, skipped, end, org, noOrg, labelOnly, instruction, value, space, Line, lineOf}
 use Rattle.rules.specs.Label.{Label, Table, find, recorded, hasRoom, recordAll}
 use Rattle.rules.specs.Answer.{Answer, accepted, refused, andThen}
-use Rattle.rules.specs.Assemble.{Sizes, SourceLine, Put, Pass, Step, halt, full, next, advanceBy, stepBy, putting, firstPassBy}
-use Rattle.promises.specs.Lawful.{shiftLabel, shiftTable}
+use Rattle.rules.specs.Assemble.{Sizes, Put, Pass, addressAfter, isEnd, Step, halt, full, next, leaving, stepBy, putting, firstPassBy}
+use Rattle.promises.specs.Lawful.{shiftPut, shiftPass, shiftLabel, shiftTable}
 
--- what a line puts, and what a pass comes to, each address b higher
-unfoldable pub shiftPut : ℕ → Put → Put
-shiftPut b p = record { address = b + p .address; body = p .body }
-
-unfoldable pub shiftPass : ℕ → Pass → Pass
-shiftPass b p = record { labels = shiftTable b (p .labels); puts = map (shiftPut b) (p .puts) }
-
+-- what a line does, each address b higher
 unfoldable pub shiftStep : ℕ → Step → Step
 shiftStep b halt = halt
 shiftStep b full = full
-shiftStep b (next a t x) = next (b + a) (shiftTable b t) x
+shiftStep b (next a t) = next (b + a) (shiftTable b t)
 
 -- a label is found b higher
 pub find-shift : (b : ℕ) (n : Text) (t : Table) → find n (shiftTable b t) ≡ Option·map (λ a. b + a) (find n t)
@@ -58,34 +52,47 @@ hasRoom-shift b none t = rw length-map
 hasRoom-shift b (some a) t = refl
 
 -- a line's labels are recorded b higher, and there are too many where there were
-recordAll-shift : (b i a : ℕ) (ns : List Name) (t : Table) → recordAll i (b + a) ns (shiftTable b t) ≡ Option·map (shiftTable b) (recordAll i a ns t)
+recordAll-shift : (b : ℕ) (l : SourceLine) (a : ℕ) (ns : List Name) (t : Table) → recordAll l (b + a) ns (shiftTable b t) ≡ Option·map (shiftTable b) (recordAll l a ns t)
 unfolding recordAll shiftLabel
-recordAll-shift b i a [] t = refl
-recordAll-shift b i a (n ∷ ns) t = go (hasRoom (find (n .text) t) t) refl (recordAll-shift b i a ns _)
+recordAll-shift b l a [] t = refl
+recordAll-shift b l a (n ∷ ns) t = go (hasRoom (find (n .text) t) t) refl (recordAll-shift b l a ns _)
   where
     x : Label
-    x = record { name = n .text; start = i + n .start; address = a }
+    x = record { name = n .text; start = l .start + n .start; address = a }
 
     go : (y : Bool) → hasRoom (find (n .text) t) t ≡ y
-        → recordAll i (b + a) ns (shiftTable b (recorded x t)) ≡ Option·map (shiftTable b) (recordAll i a ns (recorded x t))
-        → recordAll i (b + a) (n ∷ ns) (shiftTable b t) ≡ Option·map (shiftTable b) (recordAll i a (n ∷ ns) t)
+        → recordAll l (b + a) ns (shiftTable b (recorded x t)) ≡ Option·map (shiftTable b) (recordAll l a ns (recorded x t))
+        → recordAll l (b + a) (n ∷ ns) (shiftTable b t) ≡ Option·map (shiftTable b) (recordAll l a (n ∷ ns) t)
     go true e ih = rw (find-shift b (n .text) t, hasRoom-shift b (find (n .text) t) t, e, recorded-shift b x t, recordAll) ih
     go false e ih = rw (find-shift b (n .text) t, hasRoom-shift b (find (n .text) t) t, e, recordAll)
 
 -- the next address is b higher
-advance-shift : (z : Sizes) (b a : ℕ) (x : Body) (o : Option Table) → advanceBy z (b + a) x (Option·map (shiftTable b) o) ≡ shiftStep b (advanceBy z a x o)
-unfolding advanceBy shiftStep
-advance-shift z b a x none = refl
-advance-shift z b a x (some t) = rw add-assoc
+address-shift : (z : Sizes) (b a : ℕ) (k : Task) → addressAfter z b (b + a) k ≡ b + addressAfter z 0 a k
+unfolding addressAfter
+address-shift z b a skipped = refl
+address-shift z b a end = refl
+address-shift z b a (org v) = rw zero-add
+address-shift z b a noOrg = refl
+address-shift z b a labelOnly = refl
+address-shift z b a (instruction i) = add-assoc b a (z i)
+address-shift z b a (value n v) = add-assoc b a n
+address-shift z b a (space n) = add-assoc b a n
+
+leaving-shift : (b a : ℕ) (o : Option Table) → leaving (b + a) (Option·map (shiftTable b) o) ≡ shiftStep b (leaving a o)
+unfolding leaving shiftStep
+leaving-shift b a none = refl
+leaving-shift b a (some t) = refl
 
 -- a line does b higher what it does from base 0
-step-shift : (z : Sizes) (b i a : ℕ) (t : Table) (l : Line) → stepBy z b i (b + a) (shiftTable b t) l ≡ shiftStep b (stepBy z 0 i a t l)
+step-shift : (z : Sizes) (b a : ℕ) (t : Table) (l : SourceLine) (r : Line) → stepBy z b (b + a) (shiftTable b t) l r ≡ shiftStep b (stepBy z 0 a t l r)
 unfolding stepBy shiftStep
-step-shift z b i a t skipped = refl
-step-shift z b i a t end = refl
-step-shift z b i a t (org none) = refl
-step-shift z b i a t (org (some v)) = rw zero-add
-step-shift z b i a t (item ns x) = rw (recordAll-shift b i a ns t) (advance-shift z b a x (recordAll i a ns t))
+step-shift z b a t l r = go (isEnd (r .task)) refl
+  where
+    go : (x : Bool) → isEnd (r .task) ≡ x → stepBy z b (b + a) (shiftTable b t) l r ≡ shiftStep b (stepBy z 0 a t l r)
+    go true e = rw (stepBy, e)
+    go false e =
+        rw (stepBy, e, address-shift z b a (r .task), recordAll-shift b l a (r .names) t)
+        (leaving-shift b (addressAfter z 0 a (r .task)) (recordAll l a (r .names) t))
 
 -- `andThen` twice
 andThen-assoc : {A B C : Type 0} (m : Answer A) (f : A → Answer B) (g : B → Answer C) → andThen (andThen m f) g ≡ andThen m (λ a. andThen (f a) g)
@@ -102,17 +109,18 @@ module _ {A : Type 0} (z : Sizes) (b : ℕ) (y : A) where
   pub pass-shift : (a : ℕ) (t : Table) (ls : List SourceLine) (f : Pass → Answer A) → Shifts a t ls f
   unfolding firstPassBy andThen putting shiftPass shiftPut shiftStep
   pass-shift a t [] f h = h
-  pass-shift a t (l ∷ ls) f h = go (stepBy z 0 (l .start) a t (lineOf (l .text))) refl (λ a′ t′. pass-shift a′ t′ ls)
+  pass-shift a t (l ∷ ls) f h = go (stepBy z 0 a t l (lineOf (l .text))) refl (λ a′ t′. pass-shift a′ t′ ls)
     where
-      onward : (a′ : ℕ) (t′ : Table) (x : Body) → stepBy z 0 (l .start) a t (lineOf (l .text)) ≡ next a′ t′ x → ((g : Pass → Answer A) → Shifts a′ t′ ls g)
+      onward : (a′ : ℕ) (t′ : Table) → stepBy z 0 a t l (lineOf (l .text)) ≡ next a′ t′ → ((g : Pass → Answer A) → Shifts a′ t′ ls g)
           → (k : Bool) → ltb (b + a′) addressLimit ≡ k → andThen (firstPassBy z 0 a t (l ∷ ls)) (λ p. f (shiftPass b p)) ≡ accepted y
-      onward a′ t′ x e ih true i =
+      onward a′ t′ e ih true i =
           let j = lt-ltb a′ addressLimit (let k = ltb-true (b + a′) addressLimit i in omega arith) in
-          rw (e, j, firstPassBy, andThen-assoc) (ih (λ p. andThen (putting (b + a) x p) f) (rw (step-shift z, e, i, firstPassBy, andThen-assoc) at h))
-      onward a′ t′ x e ih false i = let c = rw (step-shift z, e, i, firstPassBy) at h in absurd (false≢true cc)
+          rw (e, j, firstPassBy, andThen-assoc)
+          (ih (λ p. andThen (putting (b + a) (lineOf (l .text) .task) p) f) (rw (step-shift z, e, i, firstPassBy, andThen-assoc) at h))
+      onward a′ t′ e ih false i = let c = rw (step-shift z, e, i, firstPassBy) at h in absurd (false≢true cc)
 
-      go : (s : Step) → stepBy z 0 (l .start) a t (lineOf (l .text)) ≡ s → ((a′ : ℕ) (t′ : Table) (g : Pass → Answer A) → Shifts a′ t′ ls g)
+      go : (s : Step) → stepBy z 0 a t l (lineOf (l .text)) ≡ s → ((a′ : ℕ) (t′ : Table) (g : Pass → Answer A) → Shifts a′ t′ ls g)
           → andThen (firstPassBy z 0 a t (l ∷ ls)) (λ p. f (shiftPass b p)) ≡ accepted y
       go halt e ih = rw (e, firstPassBy) (rw (step-shift z, e, firstPassBy) at h)
       go full e ih = let c = rw (step-shift z, e, firstPassBy) at h in absurd (false≢true cc)
-      go (next a′ t′ x) e ih = onward a′ t′ x e (ih a′ t′) (ltb (b + a′) addressLimit) refl
+      go (next a′ t′) e ih = onward a′ t′ e (ih a′ t′) (ltb (b + a′) addressLimit) refl

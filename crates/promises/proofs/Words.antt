@@ -10,8 +10,10 @@ use lib.Dec.{leb, ltb, leb·suc-suc}
 use lib.ListN.{length, take, length-take}
 use lib.IntN.{subℕ}
 use Rattle.rules.specs.Text.{Text}
+use Rattle.rules.specs.Line.{Instruction}
 use Rattle.rules.specs.Label.{Table}
-use Rattle.rules.specs.Encode.{Cell, literal, Operation, moveq, move, movea, muls, tst, subq, asl, dbra, nop, simhalt, add, sub, cmp, jmp, branch, two, one, oneOrMore, reach, displacement, isSome, jumps, withLabel, encodeMove, encodeOperation, encode}
+use Rattle.rules.specs.Encode.{Cell, literal, Operation, moveq, move, movea, muls, tst, subq, asl, dbra, nop, simhalt, add, sub, cmp, jmp, branch, two, one, oneOrMore, reach, displacement, isSome, jumps, withLabel, registersRow, highRow, lowRow, fromIndirect, toIndirect, fromLabel, toLabel, moveRows, moveaRow, mulsRows, cmpRows, moveqRow, quickRow, tstRow, jumpRow, dbraRow, branchRow, encodeOperation, Mnemonic, encodeBy}
+use Rattle.rules.specs.Assemble.{wordsBy}
 use Rattle.promises.specs.Lawful.{shiftTable, shiftCell, shiftCells}
 use Rattle.promises.proofs.Shift.{find-shift}
 
@@ -93,6 +95,15 @@ withLabel-shift : (b : ℕ) (ls : Table) (w : ℕ) (l : Text) → withLabel (shi
 unfolding withLabel shiftCell
 withLabel-shift b ls w l = simp (find-shift, bind-mapped, bind-map)
 
+-- its first two words are all its words
+withLabel-two : (ls : Table) (w : ℕ) (l : Text) → Option·map (take 2) (withLabel ls w l) ≡ withLabel ls w l
+unfolding withLabel
+withLabel-two ls w l = simp bind-map
+
+length-two : (o : Option (List Cell)) → length (Option·getD (Option·map (take 2) o) []) ≤ 2
+length-two none = omega arith
+length-two (some cs) = rw length-take (omega arith)
+
 -- the law of all encoders: what changes each row's words by g changes an instruction's words by g
 module _ (g : List Cell → List Cell) (ls ls′ : Table) (a a′ : ℕ)
     (word-by : (w : ℕ) → g (literal w ∷ []) ≡ literal w ∷ [])
@@ -101,7 +112,7 @@ module _ (g : List Cell → List Cell) (ls ls′ : Table) (a a′ : ℕ)
     (displacement-by : (s : Text) → displacement ls a s ≡ displacement ls′ a′ s)
     (jumps-by : (s : Text) → jumps ls s ≡ jumps ls′ s) where
   operation-by : (o : Operation) (ps : List Text) → Option·map g (encodeOperation ls a o ps) ≡ encodeOperation ls′ a′ o ps
-  unfolding encodeOperation encodeMove
+  unfolding encodeOperation registersRow highRow lowRow fromIndirect toIndirect fromLabel toLabel moveRows moveaRow mulsRows cmpRows moveqRow quickRow tstRow jumpRow dbraRow branchRow
   operation-by move ps = simp (into, word-by, value-by, label-by)
   operation-by movea ps = simp (into, label-by)
   operation-by muls ps = simp (into, word-by, value-by)
@@ -118,28 +129,31 @@ module _ (g : List Cell → List Cell) (ls ls′ : Table) (a a′ : ℕ)
   operation-by dbra ps = simp (into, word-by, displacement-by)
   operation-by (branch c) ps = simp (into, word-by, displacement-by)
 
-  encode-by : (m : Text) (ps : List Text) → Option·map g (encode ls a m ps) ≡ encode ls′ a′ m ps
-  unfolding encode
-  encode-by m ps = simp (bind-map, operation-by)
+  encode-by : (names : List Mnemonic) (i : Instruction) → Option·map g (encodeBy names ls a i) ≡ encodeBy names ls′ a′ i
+  unfolding encodeBy
+  encode-by names i = simp (bind-map, operation-by)
 
--- an instruction's words from base b are those from base 0, the label addresses b higher
-pub encode-shift : (b : ℕ) (ls : Table) (a : ℕ) (m : Text) (ps : List Text) → Option·map (shiftCells b) (encode ls a m ps) ≡ encode (shiftTable b ls) (b + a) m ps
-unfolding shiftCell
-encode-shift b ls a m ps =
-    encode-by (shiftCells b) ls (shiftTable b ls) a (b + a) (λ w. refl) (λ w v. refl) (λ w l. sym (withLabel-shift b ls w l))
-    (λ s. sym (displacement-shift b ls a s)) (λ s. sym (jumps-shift b ls s)) m ps
+-- whatever the mnemonics in use
+module _ (names : List Mnemonic) where
+  -- an instruction's words from base b are those from base 0, the label addresses b higher
+  encode-shift : (b : ℕ) (ls : Table) (a : ℕ) (i : Instruction) → Option·map (shiftCells b) (encodeBy names ls a i) ≡ encodeBy names (shiftTable b ls) (b + a) i
+  unfolding shiftCell
+  encode-shift b ls a i =
+      encode-by (shiftCells b) ls (shiftTable b ls) a (b + a) (λ w. refl) (λ w v. refl) (λ w l. sym (withLabel-shift b ls w l))
+      (λ s. sym (displacement-shift b ls a s)) (λ s. sym (jumps-shift b ls s)) names i
 
--- an instruction's first two words are all its words
-withLabel-two : (ls : Table) (w : ℕ) (l : Text) → Option·map (take 2) (withLabel ls w l) ≡ withLabel ls w l
-unfolding withLabel
-withLabel-two ls w l = simp bind-map
+  -- no words, shifted, are no words
+  pub words-shift : (b : ℕ) (ls : Table) (a : ℕ) (i : Instruction)
+      → wordsBy (encodeBy names) (shiftTable b ls) (b + a) i ≡ shiftCells b (wordsBy (encodeBy names) ls a i)
+  words-shift b ls a i = rw (← encode-shift b ls a i) (go (encodeBy names ls a i))
+    where
+      go : (o : Option (List Cell)) → Option·getD (Option·map (shiftCells b) o) [] ≡ shiftCells b (Option·getD o [])
+      go none = refl
+      go (some cs) = refl
 
-encode-two : (ls : Table) (a : ℕ) (m : Text) (ps : List Text) → Option·map (take 2) (encode ls a m ps) ≡ encode ls a m ps
-encode-two ls a m ps = encode-by (take 2) ls ls a a (λ w. refl) (λ w v. refl) (withLabel-two ls) (λ s. refl) (λ s. refl) m ps
+  -- an instruction's first two words are all its words
+  encode-two : (ls : Table) (a : ℕ) (i : Instruction) → Option·map (take 2) (encodeBy names ls a i) ≡ encodeBy names ls a i
+  encode-two ls a i = encode-by (take 2) ls ls a a (λ w. refl) (λ w v. refl) (withLabel-two ls) (λ s. refl) (λ s. refl) names i
 
-length-two : (o : Option (List Cell)) → length (Option·getD (Option·map (take 2) o) []) ≤ 2
-length-two none = omega arith
-length-two (some cs) = rw length-take (omega arith)
-
-pub at-most-two : (ls : Table) (a : ℕ) (m : Text) (ps : List Text) → length (Option·getD (encode ls a m ps) []) ≤ 2
-at-most-two ls a m ps = rw encode-two at (length-two (encode ls a m ps))
+  pub at-most-two : (ls : Table) (a : ℕ) (i : Instruction) → length (wordsBy (encodeBy names) ls a i) ≤ 2
+  at-most-two ls a i = rw (encode-two ls a i) at (length-two (encodeBy names ls a i))

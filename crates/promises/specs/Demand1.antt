@@ -5,14 +5,14 @@ use Prim.Native.Nat.{ℕ, suc, _+_, _*_, _<_, _≤_}
 use mathlib.Core.Path.{_≡_}
 use mathlib.Core.Logic.{_≢_}
 use mathlib.Core.Bool.{Bool, false, _||_, cond}
-use mathlib.Core.Option.{none, some}
+use mathlib.Core.Option.{some}
 use mathlib.Core.List.{List, [], _∷_, map}
 use lib.ListN.{length, getD, getElem?, drop}
 use lib.Dec.{eqb}
 use lib.IntN.{ℤ, pos, negsuc, _+ℤ_, natAbs}
 use Rattle.rules.specs.Limits.{maxSource, maxLines, maxLabels, addressLimit, lastAddress, distanceLimit}
 use Rattle.rules.specs.Text.{Text, cutAt, same}
-use Rattle.rules.specs.Line.{Line, skipped, end, org, item, lineOf, size}
+use Rattle.rules.specs.Line.{Task, skipped, end, org, noOrg, labelOnly, instruction, value, space, Line, lineOf, size}
 use Rattle.rules.specs.Answer.{accepted, refused}
 use Rattle.rules.specs.Assemble.{Sizes, Place, Slices, checks, passAtBy, assemble, assembleAnswer, assembleSlices}
 use Rattle.rules.specs.Relocate.{moveAnswer, moveSlices}
@@ -31,23 +31,23 @@ lineCount [] = 1
 lineCount (b ∷ s) = cond (eqb 10 b) (suc (lineCount s)) (lineCount s)
 
 -- the line behind the first j ones is l
-abbrev pub LineIs : Text → ℕ → Text → Type 0
-LineIs s j l = getElem? (cutAt 10 s) j ≡ some l
+abbrev pub IsLine : Text → ℕ → Text → Type 0
+IsLine s j l = getElem? (cutAt 10 s) j ≡ some l
 
 -- the address after a line that is read at address a
-unfoldable pub addressAfter : Sizes → ℕ → ℕ → Line → ℕ
-addressAfter z base a skipped = a
-addressAfter z base a end = a
-addressAfter z base a (org none) = a
-addressAfter z base a (org (some v)) = base + v
-addressAfter z base a (item ns b) = a + z b
+unfoldable pub nextAddress : Sizes → ℕ → ℕ → Task → ℕ
+nextAddress z base a skipped = a
+nextAddress z base a end = a
+nextAddress z base a (org v) = base + v
+nextAddress z base a noOrg = a
+nextAddress z base a labelOnly = a
+nextAddress z base a (instruction i) = a + z i
+nextAddress z base a (value n v) = a + n
+nextAddress z base a (space n) = a + n
 
 -- the names that a line records, in order
-unfoldable pub namesOf : Line → List Text
-namesOf skipped = []
-namesOf end = []
-namesOf (org v) = []
-namesOf (item ns b) = map (λ n. n .text) ns
+abbrev pub namesOf : Line → List Text
+namesOf r = map (λ n. n .text) (r .names)
 
 -- names recorded one after another on top of others: the latest comes first
 unfoldable pub onTop : List Text → List Text → List Text
@@ -67,8 +67,8 @@ distinct (n ∷ ns) = cond (isAmong n ns) (distinct ns) (suc (distinct ns))
 -- j lines are read, none of them END; the address is a, and ns are recorded. The limits are set aside here
 pub data Reached (z : Sizes) (base : ℕ) (s : Text) : ℕ → ℕ → List Text → Type 0 where
   start : Reached z base s 0 base []
-  further : {j a : ℕ} {ns : List Text} {l : Text} → Reached z base s j a ns → LineIs s j l → lineOf l ≢ end
-      → Reached z base s (suc j) (addressAfter z base a (lineOf l)) (onTop (namesOf (lineOf l)) ns)
+  further : {j a : ℕ} {ns : List Text} {l : Text} → Reached z base s j a ns → IsLine s j l → lineOf l .task ≢ end
+      → Reached z base s (suc j) (nextAddress z base a (lineOf l .task)) (onTop (namesOf (lineOf l)) ns)
 
 -- of names recorded on top of ns, one is "a new label when 1,024 are recorded"
 pub data TooMany : List Text → List Text → Type 0 where
@@ -101,10 +101,10 @@ pub data PassCondition (z : Sizes) (base : ℕ) (s : Text) : ℕ → ℕ → Typ
   -- "4 base 2^30 or more; place 0"
   base-over : addressLimit ≤ base → PassCondition z base s 4 0
   -- "5 address 2^30 or more after a line; place the line, from 1"
-  address-over : {j a : ℕ} {ns : List Text} {l : Text} → Reached z base s j a ns → LineIs s j l
-      → addressLimit ≤ addressAfter z base a (lineOf l) → PassCondition z base s 5 (suc j)
+  address-over : {j a : ℕ} {ns : List Text} {l : Text} → Reached z base s j a ns → IsLine s j l
+      → addressLimit ≤ nextAddress z base a (lineOf l .task) → PassCondition z base s 5 (suc j)
   -- "6 a new label when 1,024 are recorded; place the line"
-  labels-over : {j a : ℕ} {ns : List Text} {l : Text} → Reached z base s j a ns → LineIs s j l
+  labels-over : {j a : ℕ} {ns : List Text} {l : Text} → Reached z base s j a ns → IsLine s j l
       → TooMany (namesOf (lineOf l)) ns → PassCondition z base s 6 (suc j)
 
 -- refusals 1 to 7
@@ -164,7 +164,7 @@ pub record SamePast (n : ℕ) (x y : Slices) : Type 0 where
   pub marks : drop n (x .marks) ≡ drop n (y .marks)
 
 -- a call accepted with the count n: no condition holds, the source's list stands in the first n places of y, the rest is that of x
-pub record Assembled (base : ℕ) (s : Text) (n : ℕ) (x y : Slices) : Type 0 where
+pub record AssembleWrites (base : ℕ) (s : Text) (n : ℕ) (x y : Slices) : Type 0 where
   pub clear : (m q : ℕ) → ¬ AssembleCondition base s x m q
   pub list : List Place
   pub listed : assemble base s ≡ accepted list
@@ -189,7 +189,7 @@ pub record MovedAt (d : ℤ) (x y : Slices) (i : ℕ) : Type 0 where
   pub stays : getD (x .marks) i 0 ≢ 1 → getD (y .words) i 0 ≡ getD (x .words) i 0
 
 -- a move accepted with the count n: no condition holds, each of the first n places is moved, the rest and all marks are those of x
-pub record Moved (count : ℕ) (d : ℤ) (n : ℕ) (x y : Slices) : Type 0 where
+pub record MoveWrites (count : ℕ) (d : ℤ) (n : ℕ) (x y : Slices) : Type 0 where
   pub clear : (m q : ℕ) → ¬ MoveCondition x count d m q
   pub counted : n ≡ count
   pub moved : (i : ℕ) → i < n → MovedAt d x y i
@@ -200,5 +200,5 @@ pub record Moved (count : ℕ) (d : ℤ) (n : ℕ) (x y : Slices) : Type 0 where
 
 -- what an accepted call writes
 pub record AcceptedWrites : Type 0 where
-  pub assembling : (base : ℕ) (s : Text) (x : Slices) (n : ℕ) → assembleAnswer base s x ≡ accepted n → Assembled base s n x (assembleSlices base s x)
-  pub moving : (x : Slices) (count : ℕ) (d : ℤ) (n : ℕ) → moveAnswer x count d ≡ accepted n → Moved count d n x (moveSlices x count d)
+  pub assembling : (base : ℕ) (s : Text) (x : Slices) (n : ℕ) → assembleAnswer base s x ≡ accepted n → AssembleWrites base s n x (assembleSlices base s x)
+  pub moving : (x : Slices) (count : ℕ) (d : ℤ) (n : ℕ) → moveAnswer x count d ≡ accepted n → MoveWrites count d n x (moveSlices x count d)

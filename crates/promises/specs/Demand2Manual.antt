@@ -8,12 +8,12 @@ use lib.ListN.{take, drop}
 use lib.IntN.{ℤ, pos, negsuc, _+ℤ_}
 use Rattle.rules.specs.Text.{Text, bytes}
 use Rattle.rules.specs.Number.{imm8, imm16}
-use Rattle.rules.specs.Line.{Name, Body, bare, instruction, size, Line, skipped, end, org, item, lineOf}
+use Rattle.rules.specs.Line.{Instruction as Said, instruction, size, lineOf}
 use Rattle.rules.specs.Label.{Table, find}
 use Rattle.rules.specs.Encode.{writtenSigned}
 use Rattle.rules.specs.Answer.{accepted}
 use Rattle.rules.specs.Assemble.{Pass, Place, dataPlaces, codePlaces, secondPass, passAt, assemble}
-use Rattle.promises.specs.Demand1.{Reached, LineIs as IsLine}
+use Rattle.promises.specs.Demand1.{Reached, IsLine}
 use Rattle.manual.specs.Manual.{InByte, byte, signOf, word, long, direct, indirect, immediate, Condition, T, CC, CS, NE, EQ, GE, LT, GT, LE, quick, quickOf, Instruction, MOVEQ, MOVE, MULS, ADD, SUB, CMP, TST, SUBQ, ASL, NOP, Bcc, Layout, layout, extensions, manualWords}
 
 -- the operands Dn and (An) as texts: the digit of n is byte 48 + n
@@ -79,42 +79,32 @@ pub data Written (ls : Table) (a : ℕ) : Text → Option Text → List Text →
       → Written ls a (branchName c) none (s ∷ []) (Bcc c z)
 
 -- the line l, at address a with the labels ls, is an instruction of the manual
-pub record LineIs (ls : Table) (a : ℕ) (l : Text) (i : Instruction) : Type 0 where
-  pub names : List Name
-  pub mnemonic : Text
-  pub suffix : Option Text
-  pub operands : List Text
-  pub read : lineOf l ≡ item names (instruction mnemonic suffix operands)
-  pub written : Written ls a mnemonic suffix operands i
-
--- what a line puts
-unfoldable pub bodyOf : Line → Body
-bodyOf skipped = bare
-bodyOf end = bare
-bodyOf (org v) = bare
-bodyOf (item ns b) = b
+pub record LineSays (ls : Table) (a : ℕ) (l : Text) (i : Instruction) : Type 0 where
+  pub said : Said
+  pub read : lineOf l .task ≡ instruction said
+  pub written : Written ls a (said .mnemonic) (said .suffix) (said .operands) i
 
 -- all that the second pass emits for the line l at address a with the labels ls
 unfoldable pub emitted : Table → ℕ → Text → List Place
-emitted ls a l = secondPass (record { labels = ls; puts = record { address = a; body = bodyOf (lineOf l) } ∷ [] })
+emitted ls a l = secondPass (record { labels = ls; puts = record { address = a; task = lineOf l .task } ∷ [] })
 
 -- words at a, a + 2 and so on, each with mark 0
-unfoldable pub unmarked : ℕ → List ℕ → List Place
-unmarked a [] = []
-unmarked a (w ∷ ws) = record { address = a; word = w; mark = 0 } ∷ unmarked (a + 2) ws
+unfoldable pub markedZero : ℕ → List ℕ → List Place
+markedZero a [] = []
+markedZero a (w ∷ ws) = record { address = a; word = w; mark = 0 } ∷ markedZero (a + 2) ws
 
 -- the words emitted, their number and their marks are the manual's words with mark 0
 abbrev pub LinesAreTheManuals : Type 0
 LinesAreTheManuals =
-    (ls : Table) (a : ℕ) (l : Text) (i : Instruction) → LineIs ls a l i → emitted ls a l ≡ unmarked a (manualWords i)
+    (ls : Table) (a : ℕ) (l : Text) (i : Instruction) → LineSays ls a l i → emitted ls a l ≡ markedZero a (manualWords i)
 
--- what stands before and behind the words of the line behind the first j ones, in the list of what the first pass came to: all data
+-- what stands before and after the words of the line after the first j ones, in the list of what the first pass came to: all data
 -- words and the earlier lines' words; the later lines' words
 unfoldable pub wordsBefore : Pass → ℕ → List Place
 wordsBefore p j = flatMap dataPlaces (p .puts) ++ flatMap (codePlaces (p .labels)) (take j (p .puts))
 
-unfoldable pub wordsBehind : Pass → ℕ → List Place
-wordsBehind p j = flatMap (codePlaces (p .labels)) (drop (suc j) (p .puts))
+unfoldable pub wordsAfter : Pass → ℕ → List Place
+wordsAfter p j = flatMap (codePlaces (p .labels)) (drop (suc j) (p .puts))
 
 -- on the list: for an accepted source and base, and each of its lines that is read and is an instruction of the manual, at the line's
 -- address and with the source's labels, the manual's words stand there with mark 0, from that address on, in their place
@@ -122,8 +112,8 @@ unfoldable pub ListHoldsTheManuals : Type 0
 ListHoldsTheManuals =
     (base : ℕ) (s : Text) (p : Pass) → passAt base s ≡ accepted p
     → (j a : ℕ) (ns : List Text) (l : Text) → Reached size base s j a ns → IsLine s j l
-    → (i : Instruction) → LineIs (p .labels) a l i
-    → assemble base s ≡ accepted (wordsBefore p j ++ (unmarked a (manualWords i) ++ wordsBehind p j))
+    → (i : Instruction) → LineSays (p .labels) a l i
+    → assemble base s ≡ accepted (wordsBefore p j ++ (markedZero a (manualWords i) ++ wordsAfter p j))
 
 -- every word of the extension has sixteen bits
 abbrev pub Words : List ℕ → Type 0
@@ -133,7 +123,7 @@ Words (w ∷ ws) = (w < 2 ^ 16) × Words ws
 -- in the manual's words of a line no field runs over into another
 abbrev pub FieldsHold : Type 0
 FieldsHold =
-    (ls : Table) (a : ℕ) (l : Text) (i : Instruction) → LineIs ls a l i → Layout (layout i) × Words (extensions i)
+    (ls : Table) (a : ℕ) (l : Text) (i : Instruction) → LineSays ls a l i → Layout (layout i) × Words (extensions i)
 
 -- a displacement or a datum of eight bits is read back from its byte
 abbrev pub BytesReadBack : Type 0
@@ -149,19 +139,19 @@ X = record { name = bytes "X"; start = 0; address = 16 } ∷ []
 
 -- every form has a line; every branch one with a label and one with a signed number
 pub record EveryFormHasALine : Type 0 where
-  pub moveq : LineIs [] 0 (bytes "MOVEQ #3,D1") (MOVEQ (pos 3) 1)
-  pub labelled : LineIs [] 0 (bytes " x: moveq #$-80 , D7") (MOVEQ (negsuc 127) 7)
-  pub load : LineIs [] 0 (bytes "MOVE.L (A2),D3") (MOVE long (indirect 2) (direct 3))
-  pub store : LineIs [] 0 (bytes "MOVE.L D4,(A5)") (MOVE long (direct 4) (indirect 5))
-  pub copy : LineIs [] 0 (bytes "MOVE.W D6,D7") (MOVE word (direct 6) (direct 7))
-  pub mulsData : LineIs [] 0 (bytes "MULS.W #0xFFFF,D0") (MULS (immediate 65535) 0)
-  pub muls : LineIs [] 0 (bytes "MULS.W D1,D2") (MULS (direct 1) 2)
-  pub add : LineIs [] 0 (bytes "ADD.W D3,D4") (ADD word (direct 3) 4)
-  pub sub : LineIs [] 0 (bytes "SUB.W D5,D6") (SUB word (direct 5) 6)
-  pub cmp : LineIs [] 0 (bytes "CMP.W D7,D0") (CMP word (direct 7) 0)
-  pub tst : LineIs [] 0 (bytes "TST.L D1") (TST long (direct 1))
-  pub subq : LineIs [] 0 (bytes "SUBQ.L #8,D2") (SUBQ long 8 (direct 2))
-  pub asl : LineIs [] 0 (bytes "ASL.L #1,D3") (ASL long 1 3)
-  pub nop : LineIs [] 0 (bytes "NOP") NOP
-  pub branch : (c : Condition) → LineIs X 0 (branchName c ++ bytes " X") (Bcc c (pos 14))
-  pub branchBack : (c : Condition) → LineIs X 0 (branchName c ++ bytes " -2") (Bcc c (negsuc 1))
+  pub moveq : LineSays [] 0 (bytes "MOVEQ #3,D1") (MOVEQ (pos 3) 1)
+  pub labelled : LineSays [] 0 (bytes " x: moveq #$-80 , D7") (MOVEQ (negsuc 127) 7)
+  pub load : LineSays [] 0 (bytes "MOVE.L (A2),D3") (MOVE long (indirect 2) (direct 3))
+  pub store : LineSays [] 0 (bytes "MOVE.L D4,(A5)") (MOVE long (direct 4) (indirect 5))
+  pub copy : LineSays [] 0 (bytes "MOVE.W D6,D7") (MOVE word (direct 6) (direct 7))
+  pub mulsData : LineSays [] 0 (bytes "MULS.W #0xFFFF,D0") (MULS (immediate 65535) 0)
+  pub muls : LineSays [] 0 (bytes "MULS.W D1,D2") (MULS (direct 1) 2)
+  pub add : LineSays [] 0 (bytes "ADD.W D3,D4") (ADD word (direct 3) 4)
+  pub sub : LineSays [] 0 (bytes "SUB.W D5,D6") (SUB word (direct 5) 6)
+  pub cmp : LineSays [] 0 (bytes "CMP.W D7,D0") (CMP word (direct 7) 0)
+  pub tst : LineSays [] 0 (bytes "TST.L D1") (TST long (direct 1))
+  pub subq : LineSays [] 0 (bytes "SUBQ.L #8,D2") (SUBQ long 8 (direct 2))
+  pub asl : LineSays [] 0 (bytes "ASL.L #1,D3") (ASL long 1 3)
+  pub nop : LineSays [] 0 (bytes "NOP") NOP
+  pub branch : (c : Condition) → LineSays X 0 (branchName c ++ bytes " X") (Bcc c (pos 14))
+  pub branchBack : (c : Condition) → LineSays X 0 (branchName c ++ bytes " -2") (Bcc c (negsuc 1))

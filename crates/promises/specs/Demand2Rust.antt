@@ -3,12 +3,12 @@
 use Prim.Native.Nat.{ℕ, suc, _≤_, _<_}
 use mathlib.Core.Path.{_≡_}
 use mathlib.Core.Bool.{cond}
-use mathlib.Core.Option.{Option, some}
+use mathlib.Core.Option.{none, some}
 use mathlib.Core.List.{List, [], _∷_, map}
 use lib.ListN.{length, getD, getElem?}
 use Rattle.rules.specs.Limits.{maxSource, maxLines, maxLabels, addressLimit}
 use Rattle.rules.specs.Text.{Text}
-use Rattle.rules.specs.Line.{Name, Body, bare, directive, instruction, Line, skipped, end, org, item, instructionSize, lineOf}
+use Rattle.rules.specs.Line.{Name, Instruction as Said, Task, skipped, end, org, noOrg, labelOnly, instruction, value, space, Line, lineOf, size}
 use Rattle.rules.specs.Answer.{accepted}
 use Rattle.rules.specs.Assemble.{Place, assemble}
 use Rattle.promises.specs.Stages.{Stage, all, byLine, RefusesExactly}
@@ -17,24 +17,26 @@ use Rattle.promises.specs.RustStr.{is-some, split, add-u32, HashMap, loo
 use Rattle.promises.specs.RustAssembler.{AssemblyInstruction, State, Flow, continue, break, set-address, insert-label, push-value, handle-instruction, handle-org, body}
 use Rattle.promises.specs.RustAssembler as Rust
 
--- what the Rust's loop does with a line of which the rules read so much: a body, its labels, the line
-abbrev pub instAt : ℕ → Text → Option Text → List Text → AssemblyInstruction
-instAt a m f ps = record { address = a; mnemonic = m; operands = ps; size = instructionSize m f ps }
+-- what the Rust's loop does with a line of which the rules read so much: its task, its labels, the line
+abbrev pub instAt : ℕ → Said → AssemblyInstruction
+instAt a i = record { address = a; mnemonic = i .mnemonic; operands = i .operands; size = size i }
 
-unfoldable pub put : Body → State → State
-put bare s = s
-put (directive n v) s = let s₂ = push-value v s in set-address (add-u32 (s₂ .current-address) n) s₂
-put (instruction m f ps) s = handle-instruction (instAt (s .current-address) m f ps) s
+unfoldable pub performTask : Task → State → Flow
+performTask skipped s = continue s
+performTask end s = break s
+performTask (org v) s = continue (handle-org (some v) s)
+performTask noOrg s = continue (handle-org none s)
+performTask labelOnly s = continue s
+performTask (instruction i) s = continue (handle-instruction (instAt (s .current-address) i) s)
+performTask (value n v) s = let s₂ = push-value (some v) s in continue (set-address (add-u32 (s₂ .current-address) n) s₂)
+performTask (space n) s = let s₂ = push-value none s in continue (set-address (add-u32 (s₂ .current-address) n) s₂)
 
 unfoldable pub insertAll : List Name → State → State
 insertAll [] s = s
 insertAll (n ∷ ns) s = insertAll ns (insert-label (n .text) s)
 
 unfoldable pub perform : Line → State → Flow
-perform skipped s = continue s
-perform end s = break s
-perform (org v) s = continue (handle-org v s)
-perform (item ns b) s = continue (put b (insertAll ns s))
+perform r s = performTask (r .task) (insertAll (r .names) s)
 
 -- the rules read in each line what the Rust's loop does with it, in any state
 unfoldable pub LinesAreTheRusts : Type 0
@@ -63,17 +65,17 @@ pub record WithinLimits (s : Text) : Type 0 where
   pub labels : (j : ℕ) (st : State) → Looped s (suc j) st → keys (st .labels) ≤ maxLabels
 
 -- a place without its mark
-abbrev pub unmarked : Place → ℕ × ℕ
-unmarked p = (p .address, p .word)
+abbrev pub withoutMark : Place → ℕ × ℕ
+withoutMark p = (p .address, p .word)
 
 -- for every source that is accepted at base 0, the list, marks left out, is what the Rust makes of `split('\n')`. The Rust's sums
 -- are those of `u32` and `i32`, the rules' are unbounded: no list shows one that wraps
 unfoldable pub ListIsTheRusts : Type 0
-ListIsTheRusts = (s : Text) (l : List Place) → assemble 0 s ≡ accepted l → map unmarked l ≡ Rust.assemble (split 10 s)
+ListIsTheRusts = (s : Text) (l : List Place) → assemble 0 s ≡ accepted l → map withoutMark l ≡ Rust.assemble (split 10 s)
 
 -- and every source within the limits is accepted
 unfoldable pub WithinIsAccepted : Type 0
-WithinIsAccepted = (s : Text) → WithinLimits s → (l : List Place) × (assemble 0 s ≡ accepted l) × (map unmarked l ≡ Rust.assemble (split 10 s))
+WithinIsAccepted = (s : Text) → WithinLimits s → (l : List Place) × (assemble 0 s ≡ accepted l) × (map withoutMark l ≡ Rust.assemble (split 10 s))
 
 -- and no other
 unfoldable pub AcceptedIsWithin : Type 0

@@ -3,7 +3,7 @@ use Prim.Native.Nat.{ℕ, _<_}
 use mathlib.Core.Path.{_≡_}
 use mathlib.Core.Logic.{_≢_, _↔_}
 use mathlib.Core.Option.{some}
-use mathlib.Core.List.{List, [], _∷_}
+use mathlib.Core.List.{List, [], _∷_, map}
 use lib.ListN.{length, getElem?}
 use lib.IntN.{ℤ, pos, _+ℤ_, _-ℤ_, natAbs}
 use Rattle.rules.specs.Limits.{distanceLimit}
@@ -11,10 +11,11 @@ use Rattle.rules.specs.Text.{Text}
 use Rattle.rules.specs.Number.{modulo}
 use Rattle.rules.specs.Answer.{accepted, refused}
 use Rattle.rules.specs.Line.{size}
-use Rattle.rules.specs.Assemble.{Sizes, Encoder, Place, Slices, wordsOf, assembleBy}
+use Rattle.rules.specs.Encode.{encode}
+use Rattle.rules.specs.Assemble.{Pass, Sizes, Encoder, Place, Slices, passAtBy, secondPassBy, assembleBy}
 use Rattle.rules.specs.Relocate.{moveAnswer, moveSlices}
-use Rattle.rules.specs.Tally.{held, moves, Tallied, tallied, tally}
-use Rattle.promises.specs.Lawful.{Lawful}
+use Rattle.rules.specs.Tally.{held, Seen, moves, tallyList, Tallied, tallied, seen}
+use Rattle.promises.specs.Lawful.{shiftPass, Lawful}
 
 -- "Let one source be accepted at base b and at base c. Then moving its list for b by c − b is accepted and gives
 -- exactly its list for c: the same count, addresses, words and marks."
@@ -35,13 +36,29 @@ WordsDifferBy z e =
     → (i : ℕ) (p q : Place) → getElem? lb i ≡ some p → getElem? lc i ≡ some q
     → (p .mark ≡ q .mark) × ((p .word ≢ q .word) ↔ (p .mark ≡ 1))
 
+-- a mark says which words move, at one base too: with labels and lines d higher the second pass gives the list that the tally has at d
+abbrev pub MarksSayWhatMovesBy : Sizes → Encoder → Type 0
+MarksSayWhatMovesBy z e =
+    (s : Text) (b : ℕ) (p : Pass) (l : List Place) → passAtBy z b s ≡ accepted p → assembleBy z e b s ≡ accepted l
+    → (d : ℕ) → secondPassBy e (shiftPass d p) ≡ tallyList (pos d) l
+
+-- "Each move is a call with these slices, that count and any signed 32-bit distance. It gets the slices as the call before left them,
+-- refused or not": what is seen of moves made so, each answer and the list after it
+pub data Made (n : ℕ) : Slices → List ℤ → List Seen → Type 0 where
+  no-move : {x : Slices} → Made n x [] []
+  one-move : {x : Slices} {d : ℤ} {ds : List ℤ} {s : Seen} {ss : List Seen} → s .answer ≡ moveAnswer x n d → s .list ≡ held n (moveSlices x n d)
+      → Made n (moveSlices x n d) ds ss → Made n x (d ∷ ds) (s ∷ ss)
+
+unfoldable pub MovesAreMade : Type 0
+MovesAreMade = (n : ℕ) (x : Slices) (ds : List ℤ) → Made n x ds (moves n x ds)
+
 -- "And for every list of distances, let its moves be made one after another from the list for b, refused ones included.
 -- Then each answer, and the list after each move, is that of 01's tally."
 abbrev pub MovesFollowTallyBy : Sizes → Encoder → Type 0
 MovesFollowTallyBy z e =
     (s : Text) (b : ℕ) (l : List Place) → assembleBy z e b s ≡ accepted l
     → (x : Slices) → held (length l) x ≡ l
-    → (ds : List ℤ) → moves (length l) x ds ≡ tally l (pos 0) ds
+    → (ds : List ℤ) → moves (length l) x ds ≡ map seen (tallied l (pos 0) ds)
 
 -- the total and the list that the tally holds last, from those that it holds at first
 unfoldable pub lastTotal : ℤ → List Tallied → ℤ
@@ -77,6 +94,7 @@ TotalsAddUp = (l : List Place) (ds : List ℤ) → Totalled (pos 0) ds (tallied 
 pub record Demand3By (z : Sizes) (e : Encoder) : Type 0 where
   pub moved : MovedIsAssembledBy z e
   pub differ : WordsDifferBy z e
+  pub marks : MarksSayWhatMovesBy z e
   pub follow : MovesFollowTallyBy z e
   pub one : OneMoveForAllBy z e
 
@@ -86,13 +104,16 @@ LawfulMoves = (z : Sizes) (e : Encoder) (most : ℕ) → Lawful z e most → Dem
 
 -- and so has 01's
 unfoldable pub MovedIsAssembled : Type 0
-MovedIsAssembled = MovedIsAssembledBy size wordsOf
+MovedIsAssembled = MovedIsAssembledBy size encode
 
 unfoldable pub WordsDiffer : Type 0
-WordsDiffer = WordsDifferBy size wordsOf
+WordsDiffer = WordsDifferBy size encode
+
+unfoldable pub MarksSayWhatMoves : Type 0
+MarksSayWhatMoves = MarksSayWhatMovesBy size encode
 
 unfoldable pub MovesFollowTally : Type 0
-MovesFollowTally = MovesFollowTallyBy size wordsOf
+MovesFollowTally = MovesFollowTallyBy size encode
 
 unfoldable pub OneMoveForAll : Type 0
-OneMoveForAll = OneMoveForAllBy size wordsOf
+OneMoveForAll = OneMoveForAllBy size encode

@@ -3,7 +3,7 @@ use Prim.Native.Nat.{ℕ}
 use mathlib.Core.Path.{_≡_}
 use mathlib.Core.List.{List, [], _∷_, map}
 use Rattle.rules.specs.Text.{Text, bytes}
-use Rattle.rules.specs.Answer.{Answer, accepted}
+use Rattle.rules.specs.Answer.{accepted}
 use Rattle.rules.specs.Assemble.{Place, assemble}
 
 -- an example: a base, a source, and its list

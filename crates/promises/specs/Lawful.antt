@@ -3,10 +3,10 @@ use Prim.Native.Nat.{ℕ, _+_, _*_, _≤_}
 use mathlib.Core.Path.{_≡_}
 use mathlib.Core.List.{List, map}
 use lib.ListN.{length}
-use Rattle.rules.specs.Line.{Body, bare, size}
+use Rattle.rules.specs.Line.{Instruction, size}
 use Rattle.rules.specs.Label.{Label, Table}
-use Rattle.rules.specs.Encode.{Cell, literal, address}
-use Rattle.rules.specs.Assemble.{Sizes, Encoder, Put, codeCellsBy, dataPlaces, codePlacesBy, wordsOf}
+use Rattle.rules.specs.Encode.{Cell, literal, address, Mnemonic, encodeBy}
+use Rattle.rules.specs.Assemble.{Put, Pass, Sizes, Encoder, wordsBy}
 
 -- labels d higher
 unfoldable pub shiftLabel : ℕ → Label → Label
@@ -14,6 +14,13 @@ shiftLabel d l = record { name = l .name; start = l .start; address = d + l .add
 
 abbrev pub shiftTable : ℕ → Table → Table
 shiftTable d t = map (shiftLabel d) t
+
+-- what a pass comes to, d higher: its labels, and the addresses of its lines
+unfoldable pub shiftPut : ℕ → Put → Put
+shiftPut d p = record { address = d + p .address; task = p .task }
+
+unfoldable pub shiftPass : ℕ → Pass → Pass
+shiftPass d p = record { labels = shiftTable d (p .labels); puts = map (shiftPut d) (p .puts) }
 
 -- words as they are, but for label addresses, which are d higher
 unfoldable pub shiftCell : ℕ → Cell → Cell
@@ -25,15 +32,14 @@ shiftCells d cs = map (shiftCell d) cs
 
 -- a size and an encoder are lawful, with at most so many places a line, if
 pub record Lawful (z : Sizes) (e : Encoder) (most : ℕ) : Type 0 where
-  -- a line's words at addresses d higher are the same but for label addresses, which are d higher
-  pub shifts : (d : ℕ) (t : Table) (a : ℕ) (b : Body) → codeCellsBy e (shiftTable d t) (d + a) b ≡ shiftCells d (codeCellsBy e t a b)
-  -- a line has at most so many places
-  pub few : (t : Table) (p : Put) → length (dataPlaces p) + length (codePlacesBy e t p) ≤ most
-  -- its words end at most 4 bytes behind what it takes, so that none stands above 2^30 + 1
-  pub ends : (t : Table) (p : Put) → 2 * length (codePlacesBy e t p) ≤ z (p .body) + 4
-  -- and a line without a body takes nothing
-  pub nothing : z bare ≡ 0
+  -- an instruction's words at addresses d higher are the same but for label addresses, which are d higher
+  pub shifts : (d : ℕ) (t : Table) (a : ℕ) (i : Instruction) → wordsBy e (shiftTable d t) (d + a) i ≡ shiftCells d (wordsBy e t a i)
+  -- there are at most so many of them, and two may be data
+  pub few : (t : Table) (a : ℕ) (i : Instruction) → length (wordsBy e t a i) ≤ most
+  pub two : 2 ≤ most
+  -- and they end at most 4 bytes after what it takes, so that none stands above 2^30 + 1
+  pub ends : (t : Table) (a : ℕ) (i : Instruction) → 2 * length (wordsBy e t a i) ≤ z i + 4
 
--- 01's size and words are lawful, with two places a line
+-- 01's size and words are lawful, with two places a line, whatever the mnemonics in use
 unfoldable pub RulesAreLawful : Type 0
-RulesAreLawful = Lawful size wordsOf 2
+RulesAreLawful = (names : List Mnemonic) → Lawful size (encodeBy names) 2

@@ -1,6 +1,6 @@
 -- The two passes, refusals 1 to 7, the list, and the lent slices after a call, by paper 01. The passes are said over a size and an
 -- encoder, `..By`; 01's own size and words have the plain names. A call goes in stages: `checks`, `passAt`, `encoded`, `room`. Assumes nothing.
-use Prim.Native.Nat.{ℕ, zero, suc, _+_, _/_, _%_}
+use Prim.Native.Nat.{ℕ, suc, _+_, _/_, _%_}
 use mathlib.Core.Bool.{Bool, true, false, _||_}
 use mathlib.Core.Option.{Option, none, some, Option·getD}
 use mathlib.Core.List.{List, [], _∷_, map, flatMap, _++_}
@@ -8,79 +8,80 @@ use lib.ListN.{length, drop}
 use lib.Dec.{leb, ltb}
 use Rattle.rules.specs.Limits.{maxSource, maxLines, addressLimit}
 use Rattle.rules.specs.Text.{Text, cutAt}
-use Rattle.rules.specs.Line.{Body, bare, directive, instruction, size, Line, skipped, end, org, item, lineOf}
+use Rattle.rules.specs.Line.{SourceLine, linesOf, Instruction, Task, skipped, end, org, noOrg, labelOnly, instruction, value, space, Line, lineOf, size}
 use Rattle.rules.specs.Label.{Table, recordAll}
 use Rattle.rules.specs.Encode.{Cell, literal, address, encode}
 use Rattle.rules.specs.Answer.{Answer, accepted, refused, refuseIf, refuseAt, andThen}
 
--- a line of the source: its number, from 1, where it starts in the source, and its text
-pub record SourceLine : Type 0 where
-  pub number : ℕ
-  pub start : ℕ
-  pub text : Text
-
-unfoldable pub numbered : ℕ → ℕ → List Text → List SourceLine
-numbered n i [] = []
-numbered n i (l ∷ ls) = record { number = n; start = i; text = l } ∷ numbered (suc n) (suc (i + length l)) ls
-
--- "one byte slice cut at byte 10; a source with k such bytes has k + 1 lines"
-unfoldable pub linesOf : Text → List SourceLine
-linesOf s = numbered 1 0 (cutAt 10 s)
-
--- what a line puts, at the line's address
+-- what a line asks, at the line's address
 pub record Put : Type 0 where
   pub address : ℕ
-  pub body : Body
+  pub task : Task
 
--- what the first pass comes to: the labels, and what the lines put
+-- what the first pass comes to: the labels, and what the lines ask
 pub record Pass : Type 0 where
   pub labels : Table
   pub puts : List Put
+
+-- by how many bytes an instruction advances the address
+abbrev pub Sizes : Type 0
+Sizes = Instruction → ℕ
+
+-- the address after a line that is read at address a; ORG: "the address becomes base plus it"
+unfoldable pub addressAfter : Sizes → ℕ → ℕ → Task → ℕ
+addressAfter z base a skipped = a
+addressAfter z base a end = a
+addressAfter z base a (org v) = base + v
+addressAfter z base a noOrg = a
+addressAfter z base a labelOnly = a
+addressAfter z base a (instruction i) = a + z i
+addressAfter z base a (value n v) = a + n
+addressAfter z base a (space n) = a + n
+
+unfoldable pub isEnd : Task → Bool
+isEnd skipped = false
+isEnd end = true
+isEnd (org v) = false
+isEnd noOrg = false
+isEnd labelOnly = false
+isEnd (instruction i) = false
+isEnd (value n v) = false
+isEnd (space n) = false
 
 -- what a line does: it ends the passes; it holds a label too many; or it leaves an address and labels
 pub data Step : Type 0 where
   halt : Step
   full : Step
-  next : ℕ → Table → Body → Step
+  next : ℕ → Table → Step
 
--- by how many bytes a body advances the address
-abbrev pub Sizes : Type 0
-Sizes = Body → ℕ
+unfoldable pub leaving : ℕ → Option Table → Step
+leaving a none = full
+leaving a (some t) = next a t
 
-unfoldable pub advanceBy : Sizes → ℕ → Body → Option Table → Step
-advanceBy z a b none = full
-advanceBy z a b (some t) = next (a + z b) t b
+-- the source line l, which says r, read at address a with the labels t
+unfoldable pub stepBy : Sizes → ℕ → ℕ → Table → SourceLine → Line → Step
+stepBy z base a t l r =
+    elim (isEnd (r .task)) [ true ↦ halt | false ↦ leaving (addressAfter z base a (r .task)) (recordAll l a (r .names) t) ]
 
--- the line that starts at i, read at address a with the labels t; ORG: "the address becomes base plus it"
-unfoldable pub stepBy : Sizes → ℕ → ℕ → ℕ → Table → Line → Step
-stepBy z base i a t skipped = next a t bare
-stepBy z base i a t end = halt
-stepBy z base i a t (org none) = next a t bare
-stepBy z base i a t (org (some v)) = next (base + v) t bare
-stepBy z base i a t (item ns b) = advanceBy z a b (recordAll i a ns t)
-
-unfoldable pub putting : ℕ → Body → Pass → Answer Pass
-putting a b p = accepted (record { labels = p .labels; puts = record { address = a; body = b } ∷ p .puts })
+unfoldable pub putting : ℕ → Task → Pass → Answer Pass
+putting a k p = accepted (record { labels = p .labels; puts = record { address = a; task = k } ∷ p .puts })
 
 -- the first pass, line by line refusal 6 before 5
 unfoldable pub firstPassBy : Sizes → ℕ → ℕ → Table → List SourceLine → Answer Pass
 firstPassBy z base a t [] = accepted (record { labels = t; puts = [] })
 firstPassBy z base a t (l ∷ ls) =
-    elim (stepBy z base (l .start) a t (lineOf (l .text))) [
+    elim (stepBy z base a t l (lineOf (l .text))) [
       | halt ↦ accepted (record { labels = t; puts = [] })
       | full ↦ refused 6 (l .number)
-      | next a′ t′ b ↦ elim (ltb a′ addressLimit) [
-        | true ↦ andThen (firstPassBy z base a′ t′ ls) (putting a b)
+      | next a′ t′ ↦ elim (ltb a′ addressLimit) [
+        | true ↦ andThen (firstPassBy z base a′ t′ ls) (putting a (lineOf (l .text) .task))
         | false ↦ refused 5 (l .number)
       ]
     ]
 
 -- with 01's sizes
-abbrev pub advance : ℕ → Body → Option Table → Step
-advance a b o = advanceBy size a b o
-
-abbrev pub step : ℕ → ℕ → ℕ → Table → Line → Step
-step base i a t l = stepBy size base i a t l
+abbrev pub step : ℕ → ℕ → Table → SourceLine → Line → Step
+step base a t l r = stepBy size base a t l r
 
 abbrev pub firstPass : ℕ → ℕ → Table → List SourceLine → Answer Pass
 firstPass base a t ls = firstPassBy size base a t ls
@@ -102,47 +103,52 @@ placesAt a [] = []
 placesAt a (c ∷ cs) = placeOf a c ∷ placesAt (a + 2) cs
 
 -- a value is "put as high word at the address and low word at address + 2, at every size"
-unfoldable pub valueCells : Option ℕ → List Cell
-valueCells none = []
-valueCells (some v) = literal (v / 65536) ∷ literal (v % 65536) ∷ []
+unfoldable pub dataCells : Task → List Cell
+dataCells skipped = []
+dataCells end = []
+dataCells (org v) = []
+dataCells noOrg = []
+dataCells labelOnly = []
+dataCells (instruction i) = []
+dataCells (value n v) = literal (v / 65536) ∷ literal (v % 65536) ∷ []
+dataCells (space n) = []
 
-unfoldable pub dataCells : Body → List Cell
-dataCells bare = []
-dataCells (directive n v) = valueCells v
-dataCells (instruction m f ps) = []
-
--- the words of a body as code, by the labels, at an address; none where it "yields no word"
+-- the words of an instruction, by the labels, at an address; none where it "yields no word"
 abbrev pub Encoder : Type 0
-Encoder = Table → ℕ → Body → Option (List Cell)
+Encoder = Table → ℕ → Instruction → Option (List Cell)
 
--- 01's: those of an instruction
-unfoldable pub wordsOf : Encoder
-wordsOf t a bare = none
-wordsOf t a (directive n v) = none
-wordsOf t a (instruction m f ps) = encode t a m ps
+abbrev pub wordsBy : Encoder → Table → ℕ → Instruction → List Cell
+wordsBy e t a i = Option·getD (e t a i) []
 
-abbrev pub codeCellsBy : Encoder → Table → ℕ → Body → List Cell
-codeCellsBy e t a b = Option·getD (e t a b) []
+unfoldable pub codeCellsBy : Encoder → Table → ℕ → Task → List Cell
+codeCellsBy e t a skipped = []
+codeCellsBy e t a end = []
+codeCellsBy e t a (org v) = []
+codeCellsBy e t a noOrg = []
+codeCellsBy e t a labelOnly = []
+codeCellsBy e t a (instruction i) = wordsBy e t a i
+codeCellsBy e t a (value n v) = []
+codeCellsBy e t a (space n) = []
 
 unfoldable pub dataPlaces : Put → List Place
-dataPlaces p = placesAt (p .address) (dataCells (p .body))
+dataPlaces p = placesAt (p .address) (dataCells (p .task))
 
 unfoldable pub codePlacesBy : Encoder → Table → Put → List Place
-codePlacesBy e t p = placesAt (p .address) (codeCellsBy e t (p .address) (p .body))
+codePlacesBy e t p = placesAt (p .address) (codeCellsBy e t (p .address) (p .task))
 
 -- "Data words come first in source order, and instruction words go in behind the data words."
 unfoldable pub secondPassBy : Encoder → Pass → List Place
 secondPassBy e p = flatMap dataPlaces (p .puts) ++ flatMap (codePlacesBy e (p .labels)) (p .puts)
 
 -- with 01's words
-abbrev pub codeCells : Table → ℕ → Body → List Cell
-codeCells t a b = codeCellsBy wordsOf t a b
+abbrev pub codeCells : Table → ℕ → Task → List Cell
+codeCells t a k = codeCellsBy encode t a k
 
 abbrev pub codePlaces : Table → Put → List Place
-codePlaces t p = codePlacesBy wordsOf t p
+codePlaces t p = codePlacesBy encode t p
 
 abbrev pub secondPass : Pass → List Place
-secondPass p = secondPassBy wordsOf p
+secondPass p = secondPassBy encode p
 
 -- the index of the first byte over 127, counted from i
 unfoldable pub firstHigh : ℕ → Text → Option ℕ
@@ -172,7 +178,7 @@ unfoldable pub assembleBy : Sizes → Encoder → ℕ → Text → Answer (List 
 assembleBy z e base s = andThen (passAtBy z base s) (encoded e)
 
 abbrev pub assemble : ℕ → Text → Answer (List Place)
-assemble base s = assembleBy size wordsOf base s
+assemble base s = assembleBy size encode base s
 
 -- the three lent slices
 pub record Slices : Type 0 where

@@ -1,12 +1,13 @@
 -- The words of an instruction, by paper 01's second pass. Assumes nothing.
-use Prim.Native.Nat.{ℕ, _+_, _*_, _/_, _%_}
+use Prim.Native.Nat.{ℕ, _+_, _*_}
 use mathlib.Core.Bool.{Bool, true, false, _&&_, _||_, cond}
 use mathlib.Core.Option.{Option, none, some, bind, orElse}
-use mathlib.Core.List.{List, [], _∷_}
+use mathlib.Core.List.{List, [], _∷_, _++_}
 use lib.Dec.{ltb, eqb}
 use lib.IntN.{ℤ, subℕ}
 use Rattle.rules.specs.Text.{Text, bytes, same, starts, after}
 use Rattle.rules.specs.Number.{digitValue, signed, within, modulo, hexTail, number16, imm8, imm16}
+use Rattle.rules.specs.Line.{Instruction}
 use Rattle.rules.specs.Label.{Table, find}
 
 -- a word of the list before it has its address and mark: a number as it stands, or a label's address
@@ -26,18 +27,24 @@ pub record Mnemonic : Type 0 where
 abbrev pub mnemonic : Text → Operation → Mnemonic
 mnemonic n o = record { name = n; operation = o }
 
--- "Mnemonics are compared as fixed byte strings"; a branch has its condition
-unfoldable pub mnemonics : List Mnemonic
-mnemonics =
+-- "Mnemonics are compared as fixed byte strings": those of the branches, with their conditions, and the others
+unfoldable pub branches : List Mnemonic
+branches =
+    mnemonic (bytes "BRA") (branch 0) ∷ mnemonic (bytes "BCC") (branch 4) ∷ mnemonic (bytes "BCS") (branch 5)
+    ∷ mnemonic (bytes "BNE") (branch 6) ∷ mnemonic (bytes "BEQ") (branch 7) ∷ mnemonic (bytes "BPL") (branch 8)
+    ∷ mnemonic (bytes "BMI") (branch 9) ∷ mnemonic (bytes "BGE") (branch 12) ∷ mnemonic (bytes "BLT") (branch 13)
+    ∷ mnemonic (bytes "BGT") (branch 14) ∷ mnemonic (bytes "BLE") (branch 15) ∷ []
+
+unfoldable pub otherMnemonics : List Mnemonic
+otherMnemonics =
     mnemonic (bytes "MOVEQ") moveq ∷ mnemonic (bytes "MOVE") move ∷ mnemonic (bytes "MOVEA") movea
     ∷ mnemonic (bytes "MULS") muls ∷ mnemonic (bytes "TST") tst ∷ mnemonic (bytes "SUBQ") subq
     ∷ mnemonic (bytes "ASL") asl ∷ mnemonic (bytes "DBRA") dbra ∷ mnemonic (bytes "NOP") nop
     ∷ mnemonic (bytes "SIMHALT") simhalt ∷ mnemonic (bytes "ADD") add ∷ mnemonic (bytes "SUB") sub
-    ∷ mnemonic (bytes "CMP") cmp ∷ mnemonic (bytes "JMP") jmp ∷ mnemonic (bytes "JUMP") jmp
-    ∷ mnemonic (bytes "BRA") (branch 0) ∷ mnemonic (bytes "BCC") (branch 4) ∷ mnemonic (bytes "BCS") (branch 5)
-    ∷ mnemonic (bytes "BNE") (branch 6) ∷ mnemonic (bytes "BEQ") (branch 7) ∷ mnemonic (bytes "BPL") (branch 8)
-    ∷ mnemonic (bytes "BMI") (branch 9) ∷ mnemonic (bytes "BGE") (branch 12) ∷ mnemonic (bytes "BLT") (branch 13)
-    ∷ mnemonic (bytes "BGT") (branch 14) ∷ mnemonic (bytes "BLE") (branch 15) ∷ []
+    ∷ mnemonic (bytes "CMP") cmp ∷ mnemonic (bytes "JMP") jmp ∷ mnemonic (bytes "JUMP") jmp ∷ []
+
+unfoldable pub mnemonics : List Mnemonic
+mnemonics = otherMnemonics ++ branches
 
 unfoldable pub operationIn : List Mnemonic → Text → Option Operation
 operationIn [] m = none
@@ -131,38 +138,97 @@ withValue w v = some (literal w ∷ literal v ∷ [])
 unfoldable pub withLabel : Table → ℕ → Text → Option (List Cell)
 withLabel ls w l = do x ← find l ls; some (literal w ∷ address x ∷ [])
 
--- MOVE "tries in order"
-unfoldable pub encodeMove : Table → Text → Text → Option (List Cell)
-encodeMove ls s t =
-    (do v ← imm16 s; n ← dataRegister t; withValue (0x21FC + R n) v)
-    else (do n ← indirect s; m ← dataRegister t; word (0x2010 + R m + n))
-    else (do n ← dataRegister s; m ← indirect t; word (0x2080 + R m + n))
-    else (do n ← dataRegister s; m ← dataRegister t; word (0x3000 + R m + n))
-    else (do n ← dataRegister t; withLabel ls (0x2078 + R n) s)
-    else (do n ← dataRegister s; withLabel ls (0x23C0 + n) t)
+-- ---- 01's rows, each the words of one form by its operands s and t; w is the row's word
+-- Dn,Dm
+unfoldable pub registersRow : ℕ → Text → Text → Option (List Cell)
+registersRow w s t = do n ← dataRegister s; m ← dataRegister t; word (w + R m + n)
+
+-- #u16,Dn with the register in bits 9 to 11, and in bits 0 to 2
+unfoldable pub highRow : ℕ → Text → Text → Option (List Cell)
+highRow w s t = do v ← imm16 s; n ← dataRegister t; withValue (w + R n) v
+
+unfoldable pub lowRow : ℕ → Text → Text → Option (List Cell)
+lowRow w s t = do v ← imm16 s; n ← dataRegister t; withValue (w + n) v
+
+-- (An),Dm and Dn,(Am)
+unfoldable pub fromIndirect : Text → Text → Option (List Cell)
+fromIndirect s t = do n ← indirect s; m ← dataRegister t; word (0x2010 + R m + n)
+
+unfoldable pub toIndirect : Text → Text → Option (List Cell)
+toIndirect s t = do n ← dataRegister s; m ← indirect t; word (0x2080 + R m + n)
+
+-- label,Dn and Dn,label
+unfoldable pub fromLabel : Table → Text → Text → Option (List Cell)
+fromLabel ls s t = do n ← dataRegister t; withLabel ls (0x2078 + R n) s
+
+unfoldable pub toLabel : Table → Text → Text → Option (List Cell)
+toLabel ls s t = do n ← dataRegister s; withLabel ls (0x23C0 + n) t
+
+-- "MOVE tries in order"
+unfoldable pub moveRows : Table → Text → Text → Option (List Cell)
+moveRows ls s t =
+    highRow 0x21FC s t
+    else fromIndirect s t
+    else toIndirect s t
+    else registersRow 0x3000 s t
+    else fromLabel ls s t
+    else toLabel ls s t
+
+-- MOVEA #label,An: "the name is all after `#`, also when empty"
+unfoldable pub moveaRow : Table → Text → Text → Option (List Cell)
+moveaRow ls s t = do l ← after (bytes "#") s; n ← addressRegister t; withLabel ls (0x207C + R n) l
+
+unfoldable pub mulsRows : Text → Text → Option (List Cell)
+mulsRows s t = highRow 0xC1FC s t else registersRow 0xC1C0 s t
+
+unfoldable pub cmpRows : Text → Text → Option (List Cell)
+cmpRows s t = lowRow 0x0C80 s t else registersRow 0xB040 s t
+
+unfoldable pub moveqRow : Text → Text → Option (List Cell)
+moveqRow s t = do v ← imm8 s; n ← dataRegister t; word (0x7000 + R n + modulo 256 v)
+
+-- SUBQ and ASL: "low three bits of the value in bits 9 to 11"
+unfoldable pub quickRow : ℕ → Text → Text → Option (List Cell)
+quickRow w s t = do v ← imm8 s; n ← dataRegister t; word (w + n + R (modulo 8 v))
+
+-- TST Dn
+unfoldable pub tstRow : Text → Option (List Cell)
+tstRow s = do n ← dataRegister s; word (0x4A80 + n)
+
+-- JMP or JUMP
+unfoldable pub jumpRow : Table → Text → Option (List Cell)
+jumpRow ls s = cond (jumps ls s) (word 0x4EF8) none
+
+-- "DBRA Dn,d", at address a
+unfoldable pub dbraRow : Table → ℕ → Text → Text → Option (List Cell)
+dbraRow ls a s t = do n ← dataRegister s; d ← displacement ls a t; word (0x51C8 + n)
+
+-- "$6000 + 256 × condition + (d modulo 256)"
+unfoldable pub branchRow : Table → ℕ → ℕ → Text → Option (List Cell)
+branchRow ls a c s = do d ← displacement ls a s; word (0x6000 + 256 * c + modulo 256 d)
 
 -- the words of an operation at address a, by the labels ls
 unfoldable pub encodeOperation : Table → ℕ → Operation → List Text → Option (List Cell)
-encodeOperation ls a move = two λ s t. encodeMove ls s t
-encodeOperation ls a movea = two λ s t. do l ← after (bytes "#") s; n ← addressRegister t; withLabel ls (0x207C + R n) l
-encodeOperation ls a muls =
-    two λ s t. (do v ← imm16 s; n ← dataRegister t; withValue (0xC1FC + R n) v)
-    else (do n ← dataRegister s; m ← dataRegister t; word (0xC1C0 + R m + n))
-encodeOperation ls a add = two λ s t. do n ← dataRegister s; m ← dataRegister t; word (0xD040 + R m + n)
-encodeOperation ls a sub = two λ s t. do n ← dataRegister s; m ← dataRegister t; word (0x9040 + R m + n)
-encodeOperation ls a cmp =
-    two λ s t. (do v ← imm16 s; n ← dataRegister t; withValue (0x0C80 + n) v)
-    else (do n ← dataRegister s; m ← dataRegister t; word (0xB040 + R m + n))
-encodeOperation ls a moveq = two λ s t. do v ← imm8 s; n ← dataRegister t; word (0x7000 + R n + modulo 256 v)
-encodeOperation ls a subq = two λ s t. do v ← imm8 s; n ← dataRegister t; word (0x5180 + n + R (modulo 8 v))
-encodeOperation ls a asl = two λ s t. do v ← imm8 s; n ← dataRegister t; word (0xE180 + n + R (modulo 8 v))
-encodeOperation ls a tst = one λ s. do n ← dataRegister s; word (0x4A80 + n)
+encodeOperation ls a move = two (moveRows ls)
+encodeOperation ls a movea = two (moveaRow ls)
+encodeOperation ls a muls = two mulsRows
+encodeOperation ls a add = two (registersRow 0xD040)
+encodeOperation ls a sub = two (registersRow 0x9040)
+encodeOperation ls a cmp = two cmpRows
+encodeOperation ls a moveq = two moveqRow
+encodeOperation ls a subq = two (quickRow 0x5180)
+encodeOperation ls a asl = two (quickRow 0xE180)
+encodeOperation ls a tst = one tstRow
 encodeOperation ls a nop = λ ps. word 0x4E71
 encodeOperation ls a simhalt = λ ps. word 0x4E72
-encodeOperation ls a jmp = one λ s. cond (jumps ls s) (word 0x4EF8) none
-encodeOperation ls a dbra = two λ s t. do n ← dataRegister s; d ← displacement ls a t; word (0x51C8 + n)
-encodeOperation ls a (branch c) = oneOrMore λ s. do d ← displacement ls a s; word (0x6000 + 256 * c + modulo 256 d)
+encodeOperation ls a jmp = one (jumpRow ls)
+encodeOperation ls a dbra = two (dbraRow ls a)
+encodeOperation ls a (branch c) = oneOrMore (branchRow ls a c)
 
--- the words of an instruction, by its mnemonic and operands
-unfoldable pub encode : Table → ℕ → Text → List Text → Option (List Cell)
-encode ls a m ps = do o ← operationIn mnemonics m; encodeOperation ls a o ps
+-- the words of an instruction, the mnemonics being those in use
+unfoldable pub encodeBy : List Mnemonic → Table → ℕ → Instruction → Option (List Cell)
+encodeBy names ls a i = do o ← operationIn names (i .mnemonic); encodeOperation ls a o (i .operands)
+
+-- 01's
+abbrev pub encode : Table → ℕ → Instruction → Option (List Cell)
+encode ls a i = encodeBy mnemonics ls a i

@@ -7,7 +7,7 @@ use lib.ListN.{length}
 use lib.Dec.{ltb}
 use Rattle.rules.specs.Limits.{maxLabels}
 use Rattle.rules.specs.Text.{Text, same}
-use Rattle.rules.specs.Line.{Name}
+use Rattle.rules.specs.Line.{SourceLine, Name}
 
 -- a recorded label: its name, where its text starts in the source, and its address
 pub record Label : Type 0 where
@@ -34,12 +34,12 @@ unfoldable pub hasRoom : Option ℕ → Table → Bool
 hasRoom none t = ltb (length t) maxLabels
 hasRoom (some a) t = true
 
--- the labels of a line that starts at i, recorded in order at the address a;
+-- the labels ns of the source line l, recorded in order at the address a;
 -- none where "a new label when 1,024 are recorded" comes
-unfoldable pub recordAll : ℕ → ℕ → List Name → Table → Option Table
-recordAll i a [] t = some t
-recordAll i a (n ∷ ns) t =
+unfoldable pub recordAll : SourceLine → ℕ → List Name → Table → Option Table
+recordAll l a [] t = some t
+recordAll l a (n ∷ ns) t =
     elim (hasRoom (find (n .text) t) t) [
-      | true ↦ recordAll i a ns (recorded (record { name = n .text; start = i + n .start; address = a }) t)
+      | true ↦ recordAll l a ns (recorded (record { name = n .text; start = l .start + n .start; address = a }) t)
       | false ↦ none
     ]

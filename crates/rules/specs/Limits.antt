@@ -1,5 +1,5 @@
 -- Paper 01's limits, each named once. Assumes nothing.
-use Prim.Native.Nat.{ℕ, _+_, _-_, _^_}
+use Prim.Native.Nat.{ℕ, _+_, _^_}
 
 -- "source 32,768 bytes, 4,096 lines, 1,024 distinct labels"
 abbrev pub maxSource : ℕ
@@ -15,7 +15,7 @@ maxLabels = 1024
 abbrev pub addressLimit : ℕ
 addressLimit = 2 ^ 30
 
--- the highest address of a list's place: the second word of a line at 2^30 - 1
+-- the highest address that a place may be moved to (as assembled, a place stands at 2^30 at most)
 abbrev pub lastAddress : ℕ
 lastAddress = 2 ^ 30 + 1
 

@@ -1,8 +1,8 @@
 -- Numbers in text, by paper 01: once over the radix and the bound. Assumes nothing.
-use Prim.Native.Nat.{ℕ, zero, suc, _+_, _-_, _*_, _^_, _%_}
-use mathlib.Core.Bool.{Bool, true, false, _&&_, cond}
+use Prim.Native.Nat.{ℕ, suc, _+_, _-_, _*_, _^_, _%_}
+use mathlib.Core.Bool.{true, false, _&&_, cond}
 use mathlib.Core.Option.{Option, none, some}
-use mathlib.Core.List.{List, [], _∷_}
+use mathlib.Core.List.{[], _∷_}
 use lib.Dec.{leb, ltb, eqb}
 use lib.IntN.{ℤ, pos, negsuc, negℤ}
 use Rattle.rules.specs.Text.{Text, bytes, after}

@@ -1,5 +1,5 @@
 -- Bytes of text, by paper 01: blanks, upper case, trimming, cutting, pieces. Assumes nothing.
-use Prim.Native.Nat.{ℕ, zero, suc, _+_, _-_}
+use Prim.Native.Nat.{ℕ, zero, suc, _-_}
 use Prim.Native.Char.{code}
 use Prim.Native.String as S
 use Prim.Native.String.{String}
