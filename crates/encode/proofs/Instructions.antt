@@ -6,30 +6,31 @@ use lib.ListN.{length, take, drop}
 use Rattle.rules.specs.Text.{Text, uppers, leading, pieces, joined}
 use Rattle.rules.specs.Line.{instructionOf}
 use Rattle.rules.specs.Label.{Table}
-use Rattle.rules.specs.Encode.{mnemonics, operationIn, encode}
+use Rattle.rules.specs.Encode.{mnemonics, operationIn, encodeBy, encode}
 use Rattle.opcode.specs.Operation.{operationOf}
 use Rattle.opcode.specs.declared.mnemonic.Operation.{Operation}
 use Rattle.opcode.proofs.Callers.{named, condition-small}
-use Rattle.instruction.specs.FirstPiece.{part, headOf}
+use Rattle.text.specs.Spans.{part}
+use Rattle.instruction.specs.FirstPiece.{headOf}
 use Rattle.instruction.specs.Joined.{isJoined}
 use Rattle.instruction.specs.Split.{operandsIn}
 use Rattle.instruction.specs.declared.Head.{Head}
 use Rattle.instruction.proofs.FirstPiece.{instruction-read}
 use Rattle.instruction.proofs.Joined.{joined-there}
 use Rattle.encode.specs.Code.{codeOf}
-use Rattle.encode.specs.Body.{Conditioned, Encodes, encodeBody}
+use Rattle.encode.specs.Operations.{Conditioned, Encodes}
 use Rattle.encode.specs.declared.Code.{Code}
 
-module _ (t : Text) (h : Head) (e : h ≡ headOf t) {o : Operation} (f : o ≡ operationOf (operationIn mnemonics (uppers (part (h .start) (h .end) t)))) where
+module _ (t : Text) (h : Head) (e : h ≡ headOf t) {o : Operation} (f : o ≡ operationOf (operationIn mnemonics (uppers (part t (h .start) (h .end))))) where
   pub conditioned : Conditioned o
   conditioned k g = condition-small _ k (named _ (sym f ∙ g))
 
   module _ (ls : Table) (a : ℕ) {r : Code} where
     -- by the joined tail, however it is come by
-    pub encoded : Encodes r ls a o (operandsIn (joined (pieces (drop (h .tail) t)))) → r ≡ codeOf (encodeBody ls a (instructionOf t))
-    unfolding encodeBody encode
-    encoded g = rw (instruction-read t h e, encodeBody) (g _ f)
+    pub encoded : Encodes r ls a o (operandsIn (joined (pieces (drop (h .tail) t)))) → r ≡ codeOf (encode ls a (instructionOf t))
+    unfolding encodeBy
+    encoded g = rw (instruction-read t h e) (g _ f)
 
     pub encoded-there : {s : ℕ} {y : Bool} → s ≡ h .tail + leading (drop (h .tail) t) → y ≡ isJoined (drop s t) → y ≡ true
-        → Encodes r ls a o (operandsIn (take (length t - s) (drop s t))) → r ≡ codeOf (encodeBody ls a (instructionOf t))
+        → Encodes r ls a o (operandsIn (take (length t - s) (drop s t))) → r ≡ codeOf (encode ls a (instructionOf t))
     encoded-there {s} w j y g = encoded (rw (joined-there t (h .tail) s w j y) at g)

@@ -11,18 +11,18 @@ use types.Run.{OneOf, miss}
 use denote.Enum.Declared.{tagOf}
 use Rattle.rules.specs.Text.{Text, cutAt}
 use Rattle.rules.specs.Label.{Table}
-use Rattle.rules.specs.Encode.{Cell, two, encodeOperation}
+use Rattle.rules.specs.Encode.{Cell, two, tstRow, jumpRow, branchRow, encodeOperation}
 use Rattle.opcode.specs.declared.mnemonic.Operation.{Operation}
 use Rattle.opcode.specs.declared.mnemonic.Operation.the-variants.{Moveq, Move, Movea, Muls, Tst, Subq, Asl, Dbra, Nop, Simhalt, Add, Sub, Cmp, Jmp, Branch, Unknown}
 use Rattle.opcode.proofs.Callers.{ruled, named}
 use Rattle.opcode.proofs.mnemonic.Operation.{the-type}
 use Rattle.text.specs.declared.Span.{Span}
-use Rattle.instruction.specs.Split.{textAt, spans, summary, operandsIn, operandsAt}
+use Rattle.text.specs.Spans.{spanText}
+use Rattle.instruction.specs.Split.{spans, summary, operandsIn, operandsAt}
 use Rattle.instruction.specs.declared.Operands.{Operands}
 use Rattle.instruction.proofs.Places.{operands-of, two-operands, not-two, one-operand, not-one, some-operand, no-operand}
 use Rattle.encode.specs.Code.{codeOf}
-use Rattle.encode.specs.Rows.{registersRow, moveqRow, quickRow, highRow, lowRow, moveaRow, mulsRows, cmpRows, dbraRow, twoRows, tstRow, jumpRow, branchRow}
-use Rattle.encode.specs.Body.{Encodes}
+use Rattle.encode.specs.Operations.{Encodes, twoRows}
 use Rattle.encode.specs.declared.Code.{Code}
 use Rattle.encode.specs.declared.Code.the-variants.{Nothing, Word}
 
@@ -69,7 +69,7 @@ module _ (ls : Table) (a : ℕ) (ps : List Text) where
   wordsOf o = bind (ruled o) (λ p. encodeOperation ls a p ps)
 
   pairs : (o : Operation) → Paired o → wordsOf o ≡ two (twoRows ls a o) ps
-  unfolding bind encodeOperation twoRows registersRow moveqRow quickRow highRow lowRow moveaRow mulsRows cmpRows dbraRow
+  unfolding bind encodeOperation twoRows
   pairs Moveq h = refl
   pairs Move h = refl
   pairs Movea h = refl
@@ -106,34 +106,34 @@ module _ (ls : Table) (a : ℕ) (ps : List Text) where
 module _ (ls : Table) (a : ℕ) (t : Text) (ops : Operands) (x : ops ≡ operandsAt t) {o : Operation} where
   module _ {c : ℕ} (e : o ≡ Branch c) where
     pub branch-none : ops .count ≡ 0 → Encodes Nothing ls a o (operandsIn t)
-    unfolding bind encodeOperation branchRow
+    unfolding bind encodeOperation
     branch-none n = known ls a (operandsIn t) e (ap codeOf (sym (no-operand _ (operands-of t ops x) (branchRow ls a c) n)))
 
-    pub branch-some : {r : Code} → (ops .count ≡ 0 → ⊥) → r ≡ codeOf (branchRow ls a c (textAt t (ops .first))) → Encodes r ls a o (operandsIn t)
-    unfolding bind encodeOperation branchRow
+    pub branch-some : {r : Code} → (ops .count ≡ 0 → ⊥) → r ≡ codeOf (branchRow ls a c (spanText t (ops .first))) → Encodes r ls a o (operandsIn t)
+    unfolding bind encodeOperation
     branch-some n h = known ls a (operandsIn t) e (h ∙ ap codeOf (sym (some-operand _ (operands-of t ops x) (branchRow ls a c) (omega arith))))
 
   module _ (e : o ≡ Tst) where
     pub tst-none : (ops .count ≡ 1 → ⊥) → Encodes Nothing ls a o (operandsIn t)
-    unfolding bind encodeOperation tstRow
+    unfolding bind encodeOperation
     tst-none n = known ls a (operandsIn t) e (ap codeOf (sym (not-one _ (operands-of t ops x) tstRow n)))
 
-    pub tst-one : {r : Code} → ops .count ≡ 1 → r ≡ codeOf (tstRow (textAt t (ops .first))) → Encodes r ls a o (operandsIn t)
-    unfolding bind encodeOperation tstRow
+    pub tst-one : {r : Code} → ops .count ≡ 1 → r ≡ codeOf (tstRow (spanText t (ops .first))) → Encodes r ls a o (operandsIn t)
+    unfolding bind encodeOperation
     tst-one n h = known ls a (operandsIn t) e (h ∙ ap codeOf (sym (one-operand _ (operands-of t ops x) tstRow n)))
 
   module _ (e : o ≡ Jmp) where
     pub jmp-none : (ops .count ≡ 1 → ⊥) → Encodes Nothing ls a o (operandsIn t)
-    unfolding bind encodeOperation jumpRow
+    unfolding bind encodeOperation
     jmp-none n = known ls a (operandsIn t) e (ap codeOf (sym (not-one _ (operands-of t ops x) (jumpRow ls) n)))
 
-    pub jmp-one : {r : Code} → ops .count ≡ 1 → r ≡ codeOf (jumpRow ls (textAt t (ops .first))) → Encodes r ls a o (operandsIn t)
-    unfolding bind encodeOperation jumpRow
+    pub jmp-one : {r : Code} → ops .count ≡ 1 → r ≡ codeOf (jumpRow ls (spanText t (ops .first))) → Encodes r ls a o (operandsIn t)
+    unfolding bind encodeOperation
     jmp-one n h = known ls a (operandsIn t) e (h ∙ ap codeOf (sym (one-operand _ (operands-of t ops x) (jumpRow ls) n)))
 
   module _ (p : Paired o) where
     pub no-pair : (ops .count ≡ 2 → ⊥) → Encodes Nothing ls a o (operandsIn t)
     no-pair n = encodes ls a (operandsIn t) (ap codeOf (sym (pairs ls a (operandsIn t) o p ∙ not-two _ (operands-of t ops x) (twoRows ls a o) n)))
 
-    pub pair : {r : Code} → ops .count ≡ 2 → r ≡ codeOf (twoRows ls a o (textAt t (ops .first)) (textAt t (ops .second))) → Encodes r ls a o (operandsIn t)
+    pub pair : {r : Code} → ops .count ≡ 2 → r ≡ codeOf (twoRows ls a o (spanText t (ops .first)) (spanText t (ops .second))) → Encodes r ls a o (operandsIn t)
     pair n h = encodes ls a (operandsIn t) (h ∙ ap codeOf (sym (pairs ls a (operandsIn t) o p ∙ two-operands _ (operands-of t ops x) (twoRows ls a o) n)))

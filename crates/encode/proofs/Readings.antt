@@ -9,10 +9,9 @@ use lib.IntN.{ℤ}
 use Rattle.rules.specs.Text.{Text, bytes, starts}
 use Rattle.rules.specs.Number.{modulo, signed, hexTail, number16}
 use Rattle.rules.specs.Label.{Table, find}
-use Rattle.rules.specs.Encode.{writtenSigned, isSome, allDigits, jumps}
+use Rattle.rules.specs.Encode.{writtenSigned, isSome, allDigits, jumps, jumpRow}
 use Rattle.numeral.proofs.Sign.{low-three}
 use Rattle.encode.specs.Code.{codeOf}
-use Rattle.encode.specs.Rows.{jumpRow}
 use Rattle.encode.specs.declared.Code.the-variants.{Nothing, Word}
 
 -- a reading, then what is made of it; g is what the code makes of an answer

@@ -1,4 +1,3 @@
 pub mod Code
-pub mod Rows
 pub mod Near
-pub mod Body
+pub mod Operations

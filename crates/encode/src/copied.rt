@@ -8,7 +8,7 @@ ghost use Rattle.rules.specs.Assemble.{over};
 ghost use Rattle.label.specs.Table.{tableOf};
 ghost use Rattle.instruction.specs.Split.{operandsIn};
 ghost use Rattle.encode.specs.Near.{Near};
-ghost use Rattle.encode.specs.Body.{Conditioned, Encodes};
+ghost use Rattle.encode.specs.Operations.{Conditioned, Encodes};
 use crate::Code;
 use crate::encode_tail;
 use opcode::mnemonic::Operation;

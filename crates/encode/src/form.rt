@@ -1,8 +1,8 @@
 // Forms of registers and immediates, each by its row of paper 01: an operand that can't be read yields no word.
 ghost use mathlib.Core.Path.{_≡_};
 ghost use Prim.Native.Nat.{_/_, _%_};
+ghost use Rattle.rules.specs.Encode.{registersRow, highRow, lowRow, fromIndirect, toIndirect, mulsRows, cmpRows, moveqRow, quickRow, tstRow};
 ghost use Rattle.encode.specs.Code.{codeOf};
-ghost use Rattle.encode.specs.Rows.{registersRow, moveqRow, quickRow, highRow, lowRow, fromIndirect, toIndirect, mulsRows, cmpRows, tstRow};
 use crate::Code;
 use numeral::signed::Signed;
 use numeral::unsigned::Number;

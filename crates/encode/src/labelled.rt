@@ -1,9 +1,8 @@
 // Forms that look a label up: MOVE, MOVEA and JMP.
 ghost use mathlib.Core.Path.{_≡_};
-ghost use Rattle.rules.specs.Encode.{withLabel, encodeMove};
+ghost use Rattle.rules.specs.Encode.{withLabel, fromLabel, toLabel, moveRows, moveaRow, jumpRow};
 ghost use Rattle.label.specs.Table.{tableOf, Held};
 ghost use Rattle.encode.specs.Code.{codeOf};
-ghost use Rattle.encode.specs.Rows.{fromLabel, toLabel, moveaRow, jumpRow};
 use crate::Code;
 use crate::form::encode_from_indirect;
 use crate::form::encode_immediate_high;
@@ -49,7 +48,7 @@ pub fn encode_to_label(source: &[u8], table: &[u32], labels: usize, s: &[u8], t:
 // MOVE "tries in order".
 pub fn encode_move(source: &[u8], table: &[u32], labels: usize, s: &[u8], t: &[u8]) -> Code
     requires { ⌜ Held (now source) (now table) labels ⌝ }
-    ensures { λ r. ⌜ r ≡ codeOf (encodeMove (tableOf (now (source .entry)) (now (table .entry)) labels) (now (s .entry)) (now (t .entry))) ⌝ }
+    ensures { λ r. ⌜ r ≡ codeOf (moveRows (tableOf (now (source .entry)) (now (table .entry)) labels) (now (s .entry)) (now (t .entry))) ⌝ }
 {
     let immediate = encode_immediate_high(0x21FC, s, t);
     let Code::Nothing = immediate else {

@@ -4,12 +4,12 @@ ghost use Prim.Native.Nat.{_≤_};
 ghost use lib.ListN.{length};
 ghost use Rattle.rules.specs.Limits.{maxSource};
 ghost use Rattle.rules.specs.Line.{instructionOf};
+ghost use Rattle.rules.specs.Encode.{encode};
 ghost use Rattle.label.specs.Table.{tableOf};
 ghost use Rattle.instruction.specs.Split.{operandsIn, operandsAt};
 ghost use Rattle.encode.specs.Code.{codeOf};
-ghost use Rattle.encode.specs.Rows.{twoRows};
 ghost use Rattle.encode.specs.Near.{Near};
-ghost use Rattle.encode.specs.Body.{Conditioned, Encodes, encodeBody};
+ghost use Rattle.encode.specs.Operations.{Conditioned, Encodes, twoRows};
 use branch::encode_branch;
 use branch::encode_dbra;
 use copied::encode_copied;
@@ -146,7 +146,7 @@ pub fn encode_instruction(
     t: &[u8],
 ) -> Code
     requires { ⌜ Near (now source) (now table) labels address × (length (now t) ≤ maxSource) ⌝ }
-    ensures { λ r. ⌜ r ≡ codeOf (encodeBody (tableOf (now (source .entry)) (now (table .entry)) labels) address (instructionOf (now (t .entry)))) ⌝ }
+    ensures { λ r. ⌜ r ≡ codeOf (encode (tableOf (now (source .entry)) (now (table .entry)) labels) address (instructionOf (now (t .entry)))) ⌝ }
 {
     let head = instruction::read_head(t);
     let a = head.start;

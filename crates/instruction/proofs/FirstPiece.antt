@@ -11,14 +11,16 @@ use lib.Dec.{ltb, eqb}
 use lib.ListN.{length, take, drop, getD, length-drop, drop-of-length-le}
 use lib.Seq.{length-take-le, take-nil, take-take, drop-cons, drop-drop}
 use Rattle.rules.specs.Text.{Text, bytes, blank, uppers, leading, cutWhere, cutAt, onFirst, dropEmpty, pieces, joined, same, nth, firstText, otherTexts}
-use Rattle.rules.specs.Line.{instruction, operandsOf, instructionOf, isL}
+use Rattle.rules.specs.Line.{operandsOf, instructionOf}
 use Rattle.text.specs.Pieces.{until, run, nextPiece}
 use Rattle.text.specs.declared.Span.{Span}
-use Rattle.text.proofs.Compare.{eqb-sym}
 use Rattle.text.proofs.Until.{until-here, until-later, until-le, until-rest, cut-here, cut-later, cut-first}
 use Rattle.text.proofs.Trim.{leading-le}
 use Rattle.text.proofs.Pieces.{Next, next-some, next-none}
-use Rattle.instruction.specs.FirstPiece.{part, suffixOf, firstIsL, endsName, headOf, HeadOf}
+use Rattle.text.specs.Spans.{part}
+use Rattle.instruction.specs.FirstPiece.{suffixText, suffixBy, suffixOf, suffixIn, endsName, headOf, HeadOf}
+use Rattle.instruction.specs.declared.Suffix.{Suffix}
+use Rattle.instruction.specs.declared.Suffix.the-variants.{None, Empty, Long, Word, Other}
 use Rattle.instruction.specs.Split.{operandsIn}
 use Rattle.instruction.specs.declared.Head.{Head}
 
@@ -27,7 +29,7 @@ pub record Piece (t : Text) (r : Span) : Type 0 where
   pub start : r .start ≡ leading t
   pub end : r .end ≡ leading t + length (firstText (pieces t))
   pub within : r .end ≤ length t
-  pub text : part (r .start) (r .end) t ≡ firstText (pieces t)
+  pub text : part t (r .start) (r .end) ≡ firstText (pieces t)
   pub others : pieces (drop (r .end) t) ≡ otherTexts (pieces t)
 
 module _ (t : Text) (r : Span) (e : r ≡ nextPiece t 0) where
@@ -40,7 +42,7 @@ module _ (t : Text) (r : Span) (e : r ≡ nextPiece t 0) where
   there : Next t 0 r → Piece t r
   unfolding firstText otherTexts
   there n =
-      let l : length (part (r .start) (r .end) t) ≡ r .end - r .start = length-take-le (r .end - r .start) (drop (r .start) t) (rw length-drop (omega (arith, n .within))) in
+      let l : length (part t (r .start) (r .end)) ≡ r .end - r .start = length-take-le (r .end - r .start) (drop (r .start) t) (rw length-drop (omega (arith, n .within))) in
       record {
         start = starts;
         end = rw (n .parts) (omega (arith, n .some, starts));
@@ -90,36 +92,63 @@ pub first-here : (b : ℕ) (s : Text) → eqb 46 b ≡ true → firstText (cutAt
 unfolding cutAt firstText
 first-here b s e = rw (cut-here (eqb 46) b s e)
 
--- the returns of `is_long`, one after the other
-pub suffix-none : (t : Text) → length t ≡ 0 → false ≡ firstIsL t
-unfolding cutAt cutWhere firstText same bytes
+-- the returns of `byte_suffix`
+module _ {b : ℕ} where
+  pub byte-long : b ≡ 76 → Long ≡ suffixIn (b ∷ [])
+  unfolding cutAt cutWhere onFirst firstText suffixBy same bytes
+  byte-long e = rw e
+
+  pub byte-word : b ≡ 87 → Word ≡ suffixIn (b ∷ [])
+  unfolding cutAt cutWhere onFirst firstText suffixBy same bytes
+  byte-word e = rw e
+
+  pub byte-dot : b ≡ 46 → Empty ≡ suffixIn (b ∷ [])
+  unfolding cutAt cutWhere firstText suffixBy
+  byte-dot e = rw e
+
+  pub byte-other : (b ≡ 76 → ⊥) → (b ≡ 87 → ⊥) → (b ≡ 46 → ⊥) → Other ≡ suffixIn (b ∷ [])
+  unfolding cutAt cutWhere firstText suffixBy same bytes
+  byte-other d e f = rw (first-later b [] (ne-eqb 46 b (λ q. f (sym q))), ne-eqb b 76 d, ne-eqb b 87 e, same)
+
+-- the returns of `read_suffix`
+pub suffix-alone : (t : Text) {r : Suffix} → length t ≡ 1 → r ≡ suffixIn (getD t 0 0 ∷ []) → r ≡ suffixIn t
+suffix-alone [] h e = absurd (omega arith)
+suffix-alone (b ∷ []) h e = e
+suffix-alone (b ∷ c ∷ s) h e = absurd (omega arith)
+
+pub suffix-none : (t : Text) → length t ≡ 0 → Empty ≡ suffixIn t
+unfolding cutAt cutWhere firstText suffixBy
 suffix-none [] h = refl
 suffix-none (b ∷ s) h = absurd (omega arith)
 
-pub suffix-other : (t : Text) → (getD t 0 0 ≡ 76 → ⊥) → false ≡ firstIsL t
-unfolding cutAt cutWhere firstText same bytes
-suffix-other [] d = refl
-suffix-other (b ∷ s) d = go (eqb 46 b) refl
-  where
-    go : (y : Bool) → eqb 46 b ≡ y → false ≡ same (firstText (cutAt 46 (b ∷ s))) (76 ∷ [])
-    go true e = rw (first-here b s e)
-    go false e = rw (first-later b s e) (rw (ne-eqb b 76 d, same))
+pub suffix-dot : (t : Text) → getD t 0 0 ≡ 46 → Empty ≡ suffixIn t
+unfolding suffixBy
+suffix-dot [] e = absurd (omega arith)
+suffix-dot (b ∷ s) e = rw (first-here b s (rw e))
 
-pub suffix-alone : (t : Text) → getD t 0 0 ≡ 76 → length t ≡ 1 → true ≡ firstIsL t
-unfolding cutAt cutWhere onFirst firstText same bytes
-suffix-alone [] e h = absurd (omega arith)
-suffix-alone (b ∷ []) e h = rw e
-suffix-alone (b ∷ c ∷ s) e h = absurd (omega arith)
+pub suffix-dotted : (t : Text) {r : Suffix} → (getD t 0 0 ≡ 46 → ⊥) → getD t 1 0 ≡ 46 → r ≡ suffixIn (getD t 0 0 ∷ []) → r ≡ suffixIn t
+unfolding cutAt cutWhere firstText
+suffix-dotted [] d q e = absurd (omega arith)
+suffix-dotted (b ∷ []) d q e = absurd (omega arith)
+suffix-dotted (b ∷ c ∷ s) d q e =
+    let f : eqb 46 b ≡ false = ne-eqb 46 b (λ k. d (sym k)) in
+    rw (first-later b (c ∷ s) f, first-here c s (rw q)) (rw (first-later b [] f) at e)
 
-pub suffix-dotted : (t : Text) → getD t 0 0 ≡ 76 → 1 < length t → eqb (getD t 1 0) 46 ≡ firstIsL t
-unfolding firstText same bytes
-suffix-dotted [] e h = absurd (omega arith)
-suffix-dotted (b ∷ []) e h = absurd (omega arith)
-suffix-dotted (b ∷ c ∷ s) e h = rw (e, first-later 76 (c ∷ s) refl) (go (eqb 46 c) refl)
+two-bytes : (b c : ℕ) (s : Text) → Other ≡ suffixBy (b ∷ c ∷ s)
+unfolding suffixBy same bytes
+two-bytes b c s = go (eqb b 76) (eqb b 87) refl refl
   where
-    go : (y : Bool) → eqb 46 c ≡ y → eqb c 46 ≡ same (firstText (cutAt 46 (c ∷ s))) []
-    go true q = rw (first-here c s q) (eqb-sym c 46 ∙ q)
-    go false q = rw (first-later c s q) (eqb-sym c 46 ∙ q)
+    go : (x y : Bool) → eqb b 76 ≡ x → eqb b 87 ≡ y → Other ≡ suffixBy (b ∷ c ∷ s)
+    go true true e f = rw (e, f, same)
+    go true false e f = rw (e, f, same)
+    go false true e f = rw (e, f, same)
+    go false false e f = rw (e, f, same)
+
+pub suffix-more : (t : Text) → (getD t 0 0 ≡ 46 → ⊥) → 1 < length t → (getD t 1 0 ≡ 46 → ⊥) → Other ≡ suffixIn t
+suffix-more [] d h e = absurd (omega arith)
+suffix-more (b ∷ []) d h e = absurd (omega arith)
+suffix-more (b ∷ c ∷ s) d h e =
+    rw (first-later b (c ∷ s) (ne-eqb 46 b (λ q. d (sym q))), first-later c s (ne-eqb 46 c (λ q. e (sym q)))) (two-bytes b c (firstText (cutAt 46 s)))
 
 -- ---- the mnemonic's end
 module _ (b : ℕ) where
@@ -144,17 +173,17 @@ module _ (b : ℕ) where
   unfolding endsName
   ends-rest d q = rw (ne-eqb 46 b (λ e. d (sym e)), or-false) q
 
--- the first piece of a text, cut there: it goes on behind the mnemonic as the text does
-record Word (s : Text) : Type 0 where
+-- the first piece of a text, cut there: it goes on after the mnemonic as the text does
+record Named (s : Text) : Type 0 where
   more : run s ≡ until endsName s + run (drop (until endsName s) s)
   parts : cutAt 46 (take (run s) s) ≡ take (until endsName s) s ∷ otherTexts (cutAt 46 (take (run (drop (until endsName s) s)) (drop (until endsName s) s)))
 
-word : (s : Text) → Word s
+named : (s : Text) → Named s
 unfolding until cutAt cutWhere otherTexts onFirst
-word [] = record { more = refl; parts = refl }
-word (b ∷ s) = go (blank b) (eqb 46 b) refl refl (word s)
+named [] = record { more = refl; parts = refl }
+named (b ∷ s) = go (blank b) (eqb 46 b) refl refl (named s)
   where
-    go : (x y : Bool) → blank b ≡ x → eqb 46 b ≡ y → Word s → Word (b ∷ s)
+    go : (x y : Bool) → blank b ≡ x → eqb 46 b ≡ y → Named s → Named (b ∷ s)
     go true y e d w = let z = until-here endsName b s (ends-blank b e) in record { more = rw z (omega arith); parts = rw (z, until-here blank b s e) }
     go false true e d w =
         let z = until-here endsName b s (ends-by b e ∙ d) in
@@ -171,8 +200,8 @@ pub piece-end : (t : Text) (n : ℕ) {e : ℕ} → n ≤ length t → e ≡ n + 
 piece-end t n h q = omega (arith, until-le blank (drop n t), length-drop n t)
 
 module _ (t : Text) (a n : ℕ) (p : a ≡ leading t) (q : n ≡ a + until endsName (drop a t)) where
-  behind-name : drop (until endsName (drop a t)) (drop a t) ≡ drop n t
-  behind-name = drop-drop (until endsName (drop a t)) a t ∙ rw (← q)
+  after-name : drop (until endsName (drop a t)) (drop a t) ≡ drop n t
+  after-name = drop-drop (until endsName (drop a t)) a t ∙ rw (← q)
 
   name-within : n ≤ length t
   name-within = omega (arith, leading-le t, until-le endsName (drop a t), length-drop a t)
@@ -188,26 +217,26 @@ module _ (t : Text) (a n : ℕ) (p : a ≡ leading t) (q : n ≡ a + until endsN
 
   -- the piece goes on where the mnemonic ends
   to-tail : a + length (firstText (pieces t)) ≡ n + run (drop n t)
-  to-tail = rw (← behind-name) (omega (arith, here-first .end, word (drop a t) .more))
+  to-tail = rw (← after-name) (omega (arith, here-first .end, named (drop a t) .more))
 
   cut-name : cutAt 46 (firstText (pieces t)) ≡ take (n - a) (drop a t) ∷ otherTexts (cutAt 46 (take (run (drop n t)) (drop n t)))
   cut-name =
       let z : until endsName (drop a t) ≡ n - a = omega arith in
-      rw (← first, ← behind-name, ← z) (word (drop a t) .parts)
+      rw (← first, ← after-name, ← z) (named (drop a t) .parts)
 
   -- the head, by the suffix and the piece's end
-  head-by : (l : Bool) (e : ℕ) → l ≡ isL (suffixOf t) → e ≡ n + run (drop n t) → record { start = a; end = n; long = l; tail = e } ≡ headOf t
+  head-by : (x : Suffix) (e : ℕ) → x ≡ suffixOf (suffixText t) → e ≡ n + run (drop n t) → record { start = a; end = n; suffix = x; tail = e } ≡ headOf t
   unfolding headOf firstText
-  head-by l e u v =
+  head-by x e u v =
       let k : a + length (take (n - a) (drop a t)) ≡ n = omega (arith, length-take-le (n - a) (drop a t) (omega (arith, name-within, length-drop a t))) in
       rw (← p, ← u, to-tail, ← v, cut-name, k)
 
   -- the piece ends with the mnemonic
-  plain : run (drop n t) ≡ 0 → record { start = a; end = n; long = false; tail = n } ≡ headOf t
-  unfolding nth otherTexts cutAt cutWhere isL
-  plain z = head-by false n (rw (cut-name, z)) (omega arith)
+  plain : run (drop n t) ≡ 0 → record { start = a; end = n; suffix = None; tail = n } ≡ headOf t
+  unfolding nth otherTexts cutAt cutWhere suffixOf
+  plain z = head-by None n (rw (cut-name, z)) (omega arith)
 
-  pub head-end : length t ≤ n → record { start = a; end = n; long = false; tail = n } ≡ headOf t
+  pub head-end : length t ≤ n → record { start = a; end = n; suffix = None; tail = n } ≡ headOf t
   unfolding until
   head-end h = plain (rw (drop-of-length-le t h))
 
@@ -217,20 +246,20 @@ module _ (t : Text) (a n : ℕ) (p : a ≡ leading t) (q : n ≡ a + until endsN
       where
         go : (y : Bool) → endsName (getD t n 0) ≡ y → y ≡ true
         go true e = refl
-        go false e = absurd (omega (arith, until-later endsName (getD t n 0) (drop (suc n) t) e, rw (behind-name, drop-cons t n 0 h) at (until-rest endsName (drop a t))))
+        go false e = absurd (omega (arith, until-later endsName (getD t n 0) (drop (suc n) t) e, rw (after-name, drop-cons t n 0 h) at (until-rest endsName (drop a t))))
 
-    pub head-plain : (getD t n 0 ≡ 46 → ⊥) → record { start = a; end = n; long = false; tail = n } ≡ headOf t
+    pub head-plain : (getD t n 0 ≡ 46 → ⊥) → record { start = a; end = n; suffix = None; tail = n } ≡ headOf t
     head-plain d = plain (rw (drop-cons t n 0 h) (until-here blank (getD t n 0) (drop (suc n) t) (ends-rest (getD t n 0) d refl ∙ stopped)))
 
-    pub head-dotted : getD t n 0 ≡ 46 → {e : ℕ} → e ≡ n + 1 + run (drop (n + 1) t) → {l : Bool} → l ≡ firstIsL (part (n + 1) e t)
-        → record { start = a; end = n; long = l; tail = e } ≡ headOf t
-    unfolding nth otherTexts cutAt isL blank
-    head-dotted d {e} u {l} v =
+    pub head-dotted : getD t n 0 ≡ 46 → {e : ℕ} → e ≡ n + 1 + run (drop (n + 1) t) → {x : Suffix} → x ≡ suffixIn (part t (n + 1) e)
+        → record { start = a; end = n; suffix = x; tail = e } ≡ headOf t
+    unfolding nth otherTexts cutAt suffixOf blank
+    head-dotted d {e} u {x} v =
         let s : Text = drop (n + 1) t in
         let k : e - (n + 1) ≡ run s = omega arith in
         let c : drop n t ≡ 46 ∷ s = drop-cons t n 0 h ∙ rw (d, add-one n) in
         let r : run (drop n t) ≡ suc (run s) = rw c (until-later blank 46 s refl) in
-        head-by l e (rw (cut-name, r, c, cut-here (eqb 46) 46 (take (run s) s) refl, nth-zero (take (run s) s)) (rw k at v)) (omega arith)
+        head-by x e (rw (cut-name, r, c, cut-here (eqb 46) 46 (take (run s) s) refl, nth-zero (take (run s) s)) (rw k at v)) (omega arith)
 
 -- ---- for callers
 head-piece : (t : Text) (r : Span) → Piece t r → HeadOf t (headOf t)
@@ -264,6 +293,6 @@ module _ (t : Text) (h : Head) (e : h ≡ headOf t) where
   operands-read = rw (head-of .others)
 
   -- the instruction, by its head and its joined tail
-  pub instruction-read : instructionOf t ≡ instruction (uppers (part (h .start) (h .end) t)) (suffixOf t) (operandsIn (joined (pieces (drop (h .tail) t))))
+  pub instruction-read : instructionOf t ≡ record { mnemonic = uppers (part t (h .start) (h .end)); suffix = suffixText t; operands = operandsIn (joined (pieces (drop (h .tail) t))) }
   unfolding instructionOf
   instruction-read = rw (head-of .mnemonic, operands-read)

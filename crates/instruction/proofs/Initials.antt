@@ -1,12 +1,12 @@
 -- The size goes by the operands' first bytes, and blanks change none: it is found in the text as it stands. Assumes nothing.
 use mathlib.Core.Path.{_≡_, refl, sym, ap, _∙_}
-use mathlib.Core.Bool.{Bool, true, false, not, _||_, cond, false≢true}
+use mathlib.Core.Bool.{Bool, true, false, cond, false≢true}
 use mathlib.Core.List.{List, [], _∷_, _++_, map}
-use Prim.Native.Nat.{ℕ, suc}
+use Prim.Native.Nat.{ℕ}
 use borrow.Author.Tests.{eqb-true}
 use lib.Dec.{eqb}
-use lib.ListN.{length, take, drop}
-use Rattle.rules.specs.Text.{Text, bytes, blank, trimStart, keepEnd, trimEnd, trim, onFirst, cutWhere, cutAt, dropEmpty, pieces, joinMore, joined, starts, lastText}
+use lib.ListN.{take}
+use Rattle.rules.specs.Text.{Text, bytes, blank, trimStart, trimEnd, trim, onFirst, cutWhere, cutAt, dropEmpty, pieces, joinMore, joined, starts, lastText}
 use Rattle.rules.specs.Line.{isPlain}
 use Rattle.text.proofs.Until.{cut-here, cut-later, cut-first}
 use Rattle.text.proofs.Trim.{keepEnd-none}

@@ -5,7 +5,7 @@ use mathlib.Core.List.{List, [], _∷_}
 use Prim.Native.Nat.{ℕ, suc, _+_, _-_, _≤_, _<_}
 use native.Mathlib.Numerals.{add-one}
 use native.Mathlib.Omega.{arith}
-use borrow.Author.Tests.{eq-eqb, ne-eqb, lt-leb, eqb-true, not-true, not-false}
+use borrow.Author.Tests.{ne-eqb, lt-leb, eqb-true, not-true, not-false}
 use lib.ListN.{length, take, drop, getD, length-drop, drop-of-length-le}
 use lib.Seq.{drop-cons, drop-drop}
 use Rattle.rules.specs.Text.{Text, blank, leading, trimStart, onFirst, cutWhere, dropEmpty, pieces, joinMore, joined, otherTexts}
@@ -24,7 +24,7 @@ filled-is : (b : ℕ) (s : Text) → isFilled (b ∷ s) ≡ true → blank b ≡
 unfolding isFilled
 filled-is b s h = not-true (blank b) h
 
--- a blank that may stand is a space, and a byte that is none stands behind it
+-- a blank that may stand is a space, and a byte that is none stands after it
 single-blank : (b : ℕ) (s : Text) → blank b ≡ true → isSingle (b ∷ s) ≡ true → (b ≡ 32) × (isFilled s ≡ true)
 unfolding isSingle
 single-blank b s e h = let k = both _ _ (rw e at h) in (eqb-true b 32 (k .0), k .1)
@@ -91,7 +91,7 @@ unfolding pieces cutWhere dropEmpty joined isFilled
 joined-self [] h z = refl
 joined-self (b ∷ s) h z = ap joined (kept (b ∷ s) h .whole (ap not (first-none b s z))) ∙ joined-cut (b ∷ s) h
 
--- from behind the blanks on, a text that stands joined is what the pieces join to
+-- from after the blanks on, a text that stands joined is what the pieces join to
 module _ (t : Text) (at start : ℕ) (e : start ≡ at + leading (drop at t)) where
   pub start-within : at ≤ length t → start ≤ length t
   start-within h = omega (arith, leading-le (drop at t), length-drop at t)

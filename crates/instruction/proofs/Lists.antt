@@ -7,12 +7,12 @@ use lib.ListN.{length, take, drop, set, length-append, length-drop, take-append-
 use lib.Seq.{take-nil, take-take, drop-drop, take-at, drop-at, length-take-le, set-split, append-snoc, slice}
 use Rattle.rules.specs.Text.{Text}
 use Rattle.rules.specs.Assemble.{over}
-use Rattle.instruction.specs.FirstPiece.{part}
-use Rattle.instruction.specs.Tail.{written}
+use Rattle.text.specs.Spans.{part}
+use Rattle.instruction.specs.Tail.{overFrom}
 
 -- ---- parts
 -- a part as the library has it
-pub slice-part : (a b : ℕ) (t : Text) → slice a b t ≡ part a b t
+pub slice-part : (a b : ℕ) (t : Text) → slice a b t ≡ part t a b
 slice-part zero b t = let e : b - 0 ≡ b = omega arith in rw e
 slice-part (suc a) zero t = let e : 0 - suc a ≡ 0 = omega arith in rw e
 slice-part (suc a) (suc b) [] = sym (take-nil (suc b - suc a))
@@ -27,32 +27,32 @@ module _ (n : ℕ) (new old : Text) (h : n + length new ≤ length old) where
   front-length : length (take n old ++ new) ≡ n + length new
   front-length = length-append (take n old) new ∙ rw (length-take-le n old (omega arith))
 
-  pub take-written : take (n + length new) (written n new old) ≡ take n old ++ new
-  take-written = take-at (take n old ++ new) (drop (n + length new) old) (n + length new) front-length
+  pub take-over-from : take (n + length new) (overFrom n new old) ≡ take n old ++ new
+  take-over-from = take-at (take n old ++ new) (drop (n + length new) old) (n + length new) front-length
 
-  pub drop-written : drop (n + length new) (written n new old) ≡ drop (n + length new) old
-  drop-written = drop-at (take n old ++ new) (drop (n + length new) old) (n + length new) front-length
+  pub drop-over-from : drop (n + length new) (overFrom n new old) ≡ drop (n + length new) old
+  drop-over-from = drop-at (take n old ++ new) (drop (n + length new) old) (n + length new) front-length
 
-  pub length-written : length (written n new old) ≡ length old
-  length-written = length-append (take n old ++ new) (drop (n + length new) old) ∙ rw (front-length, length-drop) (omega arith)
+  pub length-over-from : length (overFrom n new old) ≡ length old
+  length-over-from = length-append (take n old ++ new) (drop (n + length new) old) ∙ rw (front-length, length-drop) (omega arith)
 
 -- nothing, and one byte
-pub written-none : (n : ℕ) (old : Text) → written n [] old ≡ old
-written-none n old = let z : n + 0 ≡ n = omega arith in rw (z, append-nil) (take-append-drop n old)
+pub over-none : (n : ℕ) (old : Text) → overFrom n [] old ≡ old
+over-none n old = let z : n + 0 ≡ n = omega arith in rw (z, append-nil) (take-append-drop n old)
 
-pub written-one : (n b : ℕ) (old : Text) → n < length old → set old n b ≡ written n (b ∷ []) old
-written-one n b old h = set-split old n b h ∙ sym (append-snoc (take n old) b (drop (suc n) old)) ∙ rw one
+pub over-one : (n b : ℕ) (old : Text) → n < length old → set old n b ≡ overFrom n (b ∷ []) old
+over-one n b old h = set-split old n b h ∙ sym (append-snoc (take n old) b (drop (suc n) old)) ∙ rw one
   where
     one : suc n ≡ n + 1
     one = omega arith
 
--- one text, and another behind it
-pub written-behind : (n : ℕ) (a b old : Text) → n + length a + length b ≤ length old → written (n + length a) b (written n a old) ≡ written n (a ++ b) old
-written-behind n a b old h =
+-- one text, and another after it
+pub over-after : (n : ℕ) (a b old : Text) → n + length a + length b ≤ length old → overFrom (n + length a) b (overFrom n a old) ≡ overFrom n (a ++ b) old
+over-after n a b old h =
     let l : n + length a + length b ≡ n + length (a ++ b) = rw (length-append a b) (omega arith) in
-    let d : drop (n + length a + length b) (written n a old) ≡ drop (n + length (a ++ b)) old
-    = sym (drop-drop (length b) (n + length a) (written n a old)) ∙ ap (drop (length b)) (drop-written n a old (omega arith)) ∙ drop-drop (length b) (n + length a) old ∙ rw l in
-    rw (take-written n a old (omega arith), d, append-assoc (take n old) a b)
+    let d : drop (n + length a + length b) (overFrom n a old) ≡ drop (n + length (a ++ b)) old
+    = sym (drop-drop (length b) (n + length a) (overFrom n a old)) ∙ ap (drop (length b)) (drop-over-from n a old (omega arith)) ∙ drop-drop (length b) (n + length a) old ∙ rw l in
+    rw (take-over-from n a old (omega arith), d, append-assoc (take n old) a b)
 
 -- the front of a slice over which a text was put is that text
 pub take-over : (new old l : Text) (n : ℕ) → l ≡ over new old → n ≡ length new → take n l ≡ new
@@ -62,7 +62,3 @@ take-over new old l n e h = rw e (take-at new (drop (length new) old) n (sym h))
 pub over-room : (new old l : Text) (n : ℕ) → l ≡ over new old → n ≡ length new → n ≤ length l
 unfolding over
 over-room new old l n e h = omega (arith, ap length e, length-append new (drop (length new) old))
-
-pub length-over : (new old l : Text) → l ≡ over new old → length new ≤ length old → length l ≡ length old
-unfolding over
-length-over new old l e h = ap length e ∙ length-append new (drop (length new) old) ∙ rw length-drop (omega arith)

@@ -13,18 +13,19 @@ use Rattle.rules.specs.Encode.{one, two, oneOrMore}
 use Rattle.text.specs.declared.Span.{Span}
 use Rattle.text.proofs.Until.{cut-here, cut-later}
 use Rattle.text.proofs.Trim.{trim-part, trim-within}
-use Rattle.instruction.specs.Split.{operandsIn, textAt, span, keepSpan, spans, lastSpan, summary, operandsAt, Stands, OperandsOf, Within}
+use Rattle.text.specs.Spans.{spanText}
+use Rattle.instruction.specs.Split.{operandsIn, span, keepSpan, spans, lastSpan, summary, operandsAt, StandsAt, OperandsOf, PlacesIn}
 use Rattle.instruction.specs.declared.Operands.{Operands}
 use Rattle.instruction.proofs.Lists.{part-part}
 
--- ---- the cut texts stand one behind the other
+-- ---- the cut texts stand one after the other
 data Laid (t : Text) : ℕ → List Text → Type 0 where
   end : {i : ℕ} → Laid t i []
   next : (i : ℕ) (p : Text) (ps : List Text) → take (length p) (drop i t) ≡ p → Laid t (i + length p + 1) ps → Laid t i (p ∷ ps)
 
 module _ (t : Text) (i b : ℕ) (s : Text) (e : drop i t ≡ b ∷ s) where
-  behind : drop (i + 1) t ≡ s
-  behind = sym (drop-drop 1 i t) ∙ ap (drop 1) e
+  after-byte : drop (i + 1) t ≡ s
+  after-byte = sym (drop-drop 1 i t) ∙ ap (drop 1) e
 
   laid-here : {ps : List Text} → Laid t (i + 1) ps → Laid t i ([] ∷ ps)
   laid-here {ps} l = let z : i + 0 + 1 ≡ i + 1 = omega arith in next i [] ps refl (rw z l)
@@ -34,12 +35,12 @@ module _ (t : Text) (i b : ℕ) (s : Text) (e : drop i t ≡ b ∷ s) where
   laid-later [] end = next i (b ∷ []) [] (rw e) end
   laid-later (p ∷ ps) (next _ _ _ q l) =
       let z : i + suc (length p) + 1 ≡ i + 1 + length p + 1 = omega arith in
-      next i (b ∷ p) ps (rw e (ap (λ (r : Text). b ∷ r) (rw behind at q))) (rw z l)
+      next i (b ∷ p) ps (rw e (ap (λ (r : Text). b ∷ r) (rw after-byte at q))) (rw z l)
 
 laid : (t : Text) (i : ℕ) (s : Text) → drop i t ≡ s → Laid t i (cutWhere (eqb 44) s)
 unfolding cutWhere
 laid t i [] e = next i [] [] refl end
-laid t i (b ∷ s) e = go (eqb 44 b) refl (laid t (i + 1) s (behind t i b s e))
+laid t i (b ∷ s) e = go (eqb 44 b) refl (laid t (i + 1) s (after-byte t i b s e))
   where
     go : (y : Bool) → eqb 44 b ≡ y → Laid t (i + 1) (cutWhere (eqb 44) s) → Laid t i (cutWhere (eqb 44) (b ∷ s))
     go true q l = rw (cut-here (eqb 44) b s q) (laid-here t i b s e l)
@@ -48,10 +49,10 @@ laid t i (b ∷ s) e = go (eqb 44 b) refl (laid t (i + 1) s (behind t i b s e))
 -- ---- the texts stand at the spans
 data Standing (t : Text) : List Span → List Text → Type 0 where
   nowhere : Standing t [] []
-  more : {s : Span} {p : Text} {ss : List Span} {ps : List Text} → Stands t s p → Standing t ss ps → Standing t (s ∷ ss) (p ∷ ps)
+  more : {s : Span} {p : Text} {ss : List Span} {ps : List Text} → StandsAt t s p → Standing t ss ps → Standing t (s ∷ ss) (p ∷ ps)
 
 module _ {t : Text} (i : ℕ) (p : Text) (e : take (length p) (drop i t) ≡ p) where
-  trimmed-stands : (b : ℕ) (q : Text) → trim p ≡ b ∷ q → Stands t (span (i + leading p) (i + leading p + length (b ∷ q))) (b ∷ q)
+  trimmed-stands : (b : ℕ) (q : Text) → trim p ≡ b ∷ q → StandsAt t (span (i + leading p) (i + leading p + length (b ∷ q))) (b ∷ q)
   trimmed-stands b q f =
       let k : ℕ = leading p in
       let n : ℕ = suc (length q) in
@@ -76,7 +77,7 @@ standing end = nowhere
 standing (next i p ps e l) = standing-kept i p e (map trim ps) (trim p) refl (standing l)
 
 -- ---- the summary
-standing-last : {t : Text} (s : Span) (p : Text) {ss : List Span} {ps : List Text} → Stands t s p → Standing t ss ps → Stands t (lastSpan s ss) (lastText p ps)
+standing-last : {t : Text} (s : Span) (p : Text) {ss : List Span} {ps : List Text} → StandsAt t s p → Standing t ss ps → StandsAt t (lastSpan s ss) (lastText p ps)
 unfolding lastSpan lastText
 standing-last s p x nowhere = x
 standing-last s p x (more {s = u} {p = q} y l) = standing-last u q y l
@@ -96,7 +97,7 @@ pub operands-of : (t : Text) (o : Operands) → o ≡ operandsAt t → OperandsO
 unfolding operandsAt operandsIn cutAt
 operands-of t o e = rw e (summary-of (standing (laid t 0 t refl)))
 
-pub operands-within : (t : Text) (o : Operands) → o ≡ operandsAt t → 2 ≤ o .count → Within t o
+pub operands-within : (t : Text) (o : Operands) → o ≡ operandsAt t → 2 ≤ o .count → PlacesIn t o
 operands-within t o e h =
     let x : OperandsOf t o (operandsIn t) = operands-of t o e in
     record {
@@ -108,11 +109,11 @@ operands-within t o e h =
 -- ---- the operands by their count
 module _ {t : Text} {o : Operands} (ps : List Text) (x : OperandsOf t o ps) {A : Type 0} where
   module _ (f : Text → Text → Option A) where
-    pub two-operands : o .count ≡ 2 → two f ps ≡ f (textAt t (o .first)) (textAt t (o .second))
+    pub two-operands : o .count ≡ 2 → two f ps ≡ f (spanText t (o .first)) (spanText t (o .second))
     unfolding two firstText otherTexts
     two-operands c = go ps (x .count) (x .first (omega arith) .text) (x .second (omega arith) .text)
       where
-        go : (qs : List Text) → o .count ≡ length qs → textAt t (o .first) ≡ firstText qs → textAt t (o .second) ≡ firstText (otherTexts qs) → two f qs ≡ f (textAt t (o .first)) (textAt t (o .second))
+        go : (qs : List Text) → o .count ≡ length qs → spanText t (o .first) ≡ firstText qs → spanText t (o .second) ≡ firstText (otherTexts qs) → two f qs ≡ f (spanText t (o .first)) (spanText t (o .second))
         go [] n p q = absurd (omega arith)
         go (u ∷ []) n p q = absurd (omega arith)
         go (u ∷ v ∷ []) n p q = rw (p, q)
@@ -129,11 +130,11 @@ module _ {t : Text} {o : Operands} (ps : List Text) (x : OperandsOf t o ps) {A :
         go (u ∷ v ∷ w ∷ qs) n = refl
 
   module _ (f : Text → Option A) where
-    pub one-operand : o .count ≡ 1 → one f ps ≡ f (textAt t (o .first))
+    pub one-operand : o .count ≡ 1 → one f ps ≡ f (spanText t (o .first))
     unfolding one firstText
     one-operand c = go ps (x .count) (x .first (omega arith) .text)
       where
-        go : (qs : List Text) → o .count ≡ length qs → textAt t (o .first) ≡ firstText qs → one f qs ≡ f (textAt t (o .first))
+        go : (qs : List Text) → o .count ≡ length qs → spanText t (o .first) ≡ firstText qs → one f qs ≡ f (spanText t (o .first))
         go [] n p = absurd (omega arith)
         go (u ∷ []) n p = rw p
         go (u ∷ v ∷ qs) n p = absurd (omega arith)
@@ -147,11 +148,11 @@ module _ {t : Text} {o : Operands} (ps : List Text) (x : OperandsOf t o ps) {A :
         go (u ∷ []) n = absurd (d n)
         go (u ∷ v ∷ qs) n = refl
 
-    pub some-operand : 0 < o .count → oneOrMore f ps ≡ f (textAt t (o .first))
+    pub some-operand : 0 < o .count → oneOrMore f ps ≡ f (spanText t (o .first))
     unfolding oneOrMore firstText
     some-operand c = go ps (x .count) (x .first c .text)
       where
-        go : (qs : List Text) → o .count ≡ length qs → textAt t (o .first) ≡ firstText qs → oneOrMore f qs ≡ f (textAt t (o .first))
+        go : (qs : List Text) → o .count ≡ length qs → spanText t (o .first) ≡ firstText qs → oneOrMore f qs ≡ f (spanText t (o .first))
         go [] n p = absurd (omega arith)
         go (u ∷ qs) n p = rw p
 

@@ -1,10 +1,12 @@
 -- Laws of an instruction's size: the order of the tests in code is as good as paper 01's. Assumes nothing.
 use mathlib.Core.Path.{_≡_, refl, sym, _∙_}
 use mathlib.Core.Bool.{Bool, true, false, not, _&&_, _||_, cond, or-false, false≢true}
-use mathlib.Core.Option.{Option}
+use mathlib.Core.Option.{Option, none, some}
 use mathlib.Core.List.{List, [], _∷_}
 use Prim.Native.Nat.{ℕ, _-_, _≤_, _<_}
 use native.Mathlib.Omega.{arith}
+use types.Run.{OneOf, miss}
+use denote.Enum.Declared.{tagOf}
 use borrow.Author.Tests.{ne-eqb, not-true}
 use lib.Dec.{eqb}
 use lib.ListN.{length, take, getD, drop}
@@ -13,22 +15,37 @@ use Rattle.rules.specs.Line.{instructionOf, operandsOf, isL, isPlain, isLong, i
 use Rattle.text.specs.Pieces.{run}
 use Rattle.text.proofs.Kept.{rest-is}
 use Rattle.text.proofs.Compare.{eqb-sym, same-is}
-use Rattle.instruction.specs.FirstPiece.{part, headOf}
-use Rattle.instruction.specs.Split.{operandsIn, textAt, operandsAt}
-use Rattle.instruction.specs.Size.{sizedBy, hasOperands, isLongBy, sizeBy, sizedOf, mayBeLong}
+use Rattle.text.specs.Spans.{part, spanText}
+use Rattle.instruction.specs.FirstPiece.{suffixBy, suffixOf, headOf}
+use Rattle.instruction.specs.Split.{operandsIn, operandsAt}
+use Rattle.instruction.specs.Size.{saysLong, sizedBy, hasOperands, isLongBy, sizeBy, sizedOf, mayBeLong}
 use Rattle.instruction.specs.declared.Operands.{Operands}
+use Rattle.instruction.specs.declared.Suffix.{Suffix}
+use Rattle.instruction.specs.declared.Suffix.the-variants.{None, Empty, Long, Word, Other}
 use Rattle.instruction.specs.declared.SizeRule.{SizeRule}
 use Rattle.instruction.specs.declared.SizeRule.the-variants.{Fixed, Immediate, Move}
 use Rattle.instruction.specs.declared.Head.{Head}
+use Rattle.instruction.proofs.Suffix.{the-type}
 use Rattle.instruction.proofs.FirstPiece.{piece-filled, first-here, first-later, head-of}
 use Rattle.instruction.proofs.Places.{operands-of}
 use Rattle.instruction.proofs.Initials.{size-standing}
 
 -- ---- paper 01's test, mnemonic by mnemonic
+says-long : (f : Option Text) → saysLong (suffixOf f) ≡ isL f
+unfolding saysLong suffixOf suffixBy isL same bytes
+says-long none = refl
+says-long (some []) = refl
+says-long (some (b ∷ s)) = go (same (b ∷ s) (bytes "L")) (same (b ∷ s) (bytes "W"))
+  where
+    go : (l w : Bool) → saysLong (cond l Long (cond w Word Other)) ≡ l
+    go true w = refl
+    go false true = refl
+    go false false = refl
+
 module _ (m : Text) (f : Option Text) (s t : Text) where
-  long-rest : same m (bytes "MULS") ≡ false → same m (bytes "CMP") ≡ false → isLongBy (sizedBy m (isL f)) s t ≡ isLong m f s t
+  long-rest : same m (bytes "MULS") ≡ false → same m (bytes "CMP") ≡ false → isLongBy (sizedBy m (suffixOf f)) s t ≡ isLong m f s t
   unfolding isLong sizedBy isLongBy
-  long-rest d c = rw (d, c) (go (same m (bytes "MOVE") || same m (bytes "MOVEA")) (isL f))
+  long-rest d c = rw (says-long f, d, c) (go (same m (bytes "MOVE") || same m (bytes "MOVEA")) (isL f))
     where
       go : (n l : Bool) → isLongBy (cond (not l) Fixed (cond n Move Fixed)) s t ≡ (n && l && not (isPlain s) || n && l && not (isPlain t) || false && l && starts (bytes "#") s || false && starts (bytes "#") s)
       go true true = simp or-false
@@ -36,27 +53,27 @@ module _ (m : Text) (f : Option Text) (s t : Text) where
       go false true = refl
       go false false = refl
 
-  long-cmp : m ≡ bytes "CMP" → isLongBy (sizedBy m (isL f)) s t ≡ isLong m f s t
+  long-cmp : m ≡ bytes "CMP" → isLongBy (sizedBy m (suffixOf f)) s t ≡ isLong m f s t
   unfolding isLong sizedBy isLongBy same bytes
-  long-cmp e = rw e (go (isL f))
+  long-cmp e = rw (e, says-long f) (go (isL f))
     where
       go : (l : Bool) → isLongBy (cond (not l) Fixed Immediate) s t ≡ (l && starts (bytes "#") s || false)
       go true = simp or-false
       go false = refl
 
-  long-muls : m ≡ bytes "MULS" → isLongBy (sizedBy m (isL f)) s t ≡ isLong m f s t
+  long-muls : m ≡ bytes "MULS" → isLongBy (sizedBy m (suffixOf f)) s t ≡ isLong m f s t
   unfolding isLong sizedBy isLongBy same bytes
   long-muls e = rw e
 
-  pub long-by : isLongBy (sizedBy m (isL f)) s t ≡ isLong m f s t
+  pub long-by : isLongBy (sizedBy m (suffixOf f)) s t ≡ isLong m f s t
   long-by = go (same m (bytes "MULS")) (same m (bytes "CMP")) refl refl
     where
-      go : (d c : Bool) → same m (bytes "MULS") ≡ d → same m (bytes "CMP") ≡ c → isLongBy (sizedBy m (isL f)) s t ≡ isLong m f s t
+      go : (d c : Bool) → same m (bytes "MULS") ≡ d → same m (bytes "CMP") ≡ c → isLongBy (sizedBy m (suffixOf f)) s t ≡ isLong m f s t
       go true c p q = long-muls (same-is m (bytes "MULS") p)
       go false true p q = long-cmp (same-is m (bytes "CMP") q)
       go false false p q = long-rest p q
 
-pub size-by : (m : Text) (f : Option Text) (ps : List Text) → instructionSize m f ps ≡ sizeBy (sizedBy m (isL f)) ps
+pub size-by : (m : Text) (f : Option Text) (ps : List Text) → instructionSize m f ps ≡ sizeBy (sizedBy m (suffixOf f)) ps
 unfolding instructionSize sizeBy
 size-by m f [] = refl
 size-by m f (s ∷ []) = refl
@@ -105,29 +122,42 @@ module _ (t : Text) (h : length t ≡ 0 → ⊥) where
   plain-bracket d a = rw (plain-some, ne-eqb (getD t 0 0) 68 d, ne-eqb (getD t 0 0) 65 a)
 
 -- ---- the returns of `sized`
-module _ (m : Text) (l : Bool) where
-  pub sized-muls : same m (bytes "MULS") ≡ true → Immediate ≡ sizedBy m l
+
+-- the tags of all suffixes but Long
+abbrev notLong : List ℕ
+notLong = 0 ∷ 1 ∷ 3 ∷ 4 ∷ []
+
+not-long : (x : Suffix) → OneOf notLong (tagOf the-type x) → saysLong x ≡ false
+unfolding saysLong
+not-long None h = refl
+not-long Empty h = refl
+not-long Long h = absurd (miss notLong 2 tt h)
+not-long Word h = refl
+not-long Other h = refl
+
+module _ (m : Text) (x : Suffix) where
+  pub sized-muls : same m (bytes "MULS") ≡ true → Immediate ≡ sizedBy m x
   unfolding sizedBy
   sized-muls a = rw a
 
   module _ (a : same m (bytes "MULS") ≡ false) where
-    pub sized-short : not l ≡ true → Fixed ≡ sizedBy m l
+    pub sized-short : OneOf notLong (tagOf the-type x) → Fixed ≡ sizedBy m x
     unfolding sizedBy
-    sized-short b = rw (a, b)
+    sized-short b = rw (a, not-long x b)
 
-    module _ (b : not l ≡ false) where
-      pub sized-cmp : same m (bytes "CMP") ≡ true → Immediate ≡ sizedBy m l
-      unfolding sizedBy
+    module _ (b : x ≡ Long) where
+      pub sized-cmp : same m (bytes "CMP") ≡ true → Immediate ≡ sizedBy m x
+      unfolding sizedBy saysLong
       sized-cmp c = rw (a, b, c)
 
       module _ (c : same m (bytes "CMP") ≡ false) where
-        pub sized-move : same m (bytes "MOVE") ≡ true → Move ≡ sizedBy m l
-        unfolding sizedBy
+        pub sized-move : same m (bytes "MOVE") ≡ true → Move ≡ sizedBy m x
+        unfolding sizedBy saysLong
         sized-move d = rw (a, b, c, d)
 
         module _ (d : same m (bytes "MOVE") ≡ false) {y : Bool} (e : same m (bytes "MOVEA") ≡ y) where
-          pub sized-rest : cond y Move Fixed ≡ sizedBy m l
-          unfolding sizedBy
+          pub sized-rest : cond y Move Fixed ≡ sizedBy m x
+          unfolding sizedBy saysLong
           sized-rest = rw (a, b, c, d, e)
 
 -- ---- the returns of `takes_four`
@@ -161,17 +191,17 @@ module _ (k : SizeRule) (t : Text) (o : Operands) (e : o ≡ operandsAt t) where
       go (s ∷ u ∷ ps) n = absurd (omega arith)
 
   module _ (h : 2 ≤ o .count) where
-    size-many : cond (isLongBy k (textAt t (o .first)) (textAt t (o .last))) 4 2 ≡ sizeBy k (operandsIn t)
+    size-many : cond (isLongBy k (spanText t (o .first)) (spanText t (o .last))) 4 2 ≡ sizeBy k (operandsIn t)
     unfolding sizeBy firstText otherTexts lastText
     size-many = go (operandsIn t) (operands-of t o e .count) (operands-of t o e .first (omega arith) .text) (operands-of t o e .last (omega arith) .text)
       where
-        go : (ps : List Text) → o .count ≡ length ps → textAt t (o .first) ≡ firstText ps → textAt t (o .last) ≡ lastText (firstText ps) (otherTexts ps)
-            → cond (isLongBy k (textAt t (o .first)) (textAt t (o .last))) 4 2 ≡ sizeBy k ps
+        go : (ps : List Text) → o .count ≡ length ps → spanText t (o .first) ≡ firstText ps → spanText t (o .last) ≡ lastText (firstText ps) (otherTexts ps)
+            → cond (isLongBy k (spanText t (o .first)) (spanText t (o .last))) 4 2 ≡ sizeBy k ps
         go [] n p q = absurd (omega arith)
         go (s ∷ []) n p q = absurd (omega arith)
         go (s ∷ u ∷ ps) n p q = rw (p, q)
 
-    module _ {y : Bool} (q : y ≡ isLongBy k (textAt t (o .first)) (textAt t (o .last))) where
+    module _ {y : Bool} (q : y ≡ isLongBy k (spanText t (o .first)) (spanText t (o .last))) where
       pub size-four : y ≡ true → 4 ≡ sizeBy k (operandsIn t)
       size-four p = rw (← q, p) at size-many
 
@@ -179,16 +209,18 @@ module _ (k : SizeRule) (t : Text) (o : Operands) (e : o ≡ operandsAt t) where
       size-two p = rw (← q, p) at size-many
 
 -- ---- the first byte of an instruction
--- no operand decides for a mnemonic that is empty, or starts with neither M nor C
-rule-empty : (l : Bool) → sizedBy [] l ≡ Fixed
-unfolding sizedBy same bytes
-rule-empty true = refl
-rule-empty false = refl
+either-fixed : (l : Bool) → cond l Fixed Fixed ≡ Fixed
+either-fixed true = refl
+either-fixed false = refl
 
-rule-byte : (l : Bool) (c : ℕ) (m : Text) → eqb c 77 ≡ false → eqb c 67 ≡ false → sizedBy (c ∷ m) l ≡ Fixed
+-- no operand decides for a mnemonic that is empty, or starts with neither M nor C
+rule-empty : (x : Suffix) → sizedBy [] x ≡ Fixed
 unfolding sizedBy same bytes
-rule-byte true c m d e = rw (d, e, same)
-rule-byte false c m d e = rw (d, same)
+rule-empty x = either-fixed (not (saysLong x))
+
+rule-byte : (x : Suffix) (c : ℕ) (m : Text) → eqb c 77 ≡ false → eqb c 67 ≡ false → sizedBy (c ∷ m) x ≡ Fixed
+unfolding sizedBy same bytes
+rule-byte x c m d e = rw (d, e, same) (either-fixed (not (saysLong x)))
 
 rule-none : sizedOf [] ≡ Fixed
 unfolding sizedOf pieces cutWhere cutAt dropEmpty firstText uppers
@@ -241,7 +273,7 @@ pub answer-short : (t : Text) {y : Bool} → y ≡ mayBeLong t → not y ≡ tru
 unfolding hasOperands
 answer-short t {y} q p = size-fixed (sizedOf t) _ (rw (rule-short t (sym q ∙ not-true y p))) ∙ sym (size-is t)
 
-module _ (t : Text) (h : Head) (e : h ≡ headOf t) {k : SizeRule} (q : k ≡ sizedBy (uppers (part (h .start) (h .end) t)) (h .long)) where
+module _ (t : Text) (h : Head) (e : h ≡ headOf t) {k : SizeRule} (q : k ≡ sizedBy (uppers (part t (h .start) (h .end))) (h .suffix)) where
   rule-is : k ≡ sizedOf t
   unfolding sizedOf
   rule-is = q ∙ rw (head-of t h e .mnemonic, head-of t h e .suffix)

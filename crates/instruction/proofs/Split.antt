@@ -17,18 +17,18 @@ use Rattle.text.specs.declared.Found.the-variants.{At, Nothing}
 use Rattle.text.proofs.Trim.{drop-leading, trim-within}
 use Rattle.text.proofs.Kept.{rest-is}
 use Rattle.text.proofs.Find.{Unindexed, IndexedFrom, found-from, found-nowhere-from}
-use Rattle.instruction.specs.FirstPiece.{part}
+use Rattle.text.specs.Spans.{part}
 use Rattle.instruction.specs.Split.{span, trimmedSpan, keepSpan, spans, lastSpan, operands, summary, operandsAt, nextOperand, withSpan}
 use Rattle.instruction.specs.declared.Operands.{Operands}
 
 -- ---- the parts between commas
 -- the part that ends at the text's end, or at a comma
 data Ends (t : Text) (at e : ℕ) : Type 0 where
-  last : e ≡ length t → cutAt 44 (drop at t) ≡ part at e t ∷ [] → Ends t at e
-  comma : e < length t → cutAt 44 (drop at t) ≡ part at e t ∷ cutAt 44 (drop (suc e) t) → Ends t at e
+  last : e ≡ length t → cutAt 44 (drop at t) ≡ part t at e ∷ [] → Ends t at e
+  comma : e < length t → cutAt 44 (drop at t) ≡ part t at e ∷ cutAt 44 (drop (suc e) t) → Ends t at e
 
 module _ (t : Text) (at : ℕ) (h : at ≤ length t) where
-  none-left : Unindexed 44 (drop at t) → cutAt 44 (drop at t) ≡ part at (length t) t ∷ []
+  none-left : Unindexed 44 (drop at t) → cutAt 44 (drop at t) ≡ part t at (length t) ∷ []
   none-left u = u .parts ∙ rw (take-all (length t - at) (drop at t) (rw length-drop (omega arith)))
 
   -- `part_end` answers the text's end
@@ -88,12 +88,12 @@ pub kept-trim : (p : Text) (k n : ℕ) → k ≡ leading p → n ≡ length (tri
 unfolding trim
 kept-trim p k n e q = q ∙ rw (rest-is p k, e, drop-leading p)
 
-module _ (t : Text) (at e : ℕ) (h : (at ≤ e) × (e ≤ length t)) {k n : ℕ} (p : k ≡ leading (part at e t)) (q : n ≡ length (trimEnd (take (length (part at e t) - k) (drop k (part at e t))))) where
+module _ (t : Text) (at e : ℕ) (h : (at ≤ e) × (e ≤ length t)) {k n : ℕ} (p : k ≡ leading (part t at e)) (q : n ≡ length (trimEnd (take (length (part t at e) - k) (drop k (part t at e))))) where
   pub trimmed-within : at + k + n ≤ length t
-  trimmed-within = omega (arith, kept-trim (part at e t) k n p q, trim-within (part at e t), length-take (e - at) (drop at t), length-drop at t)
+  trimmed-within = omega (arith, kept-trim (part t at e) k n p q, trim-within (part t at e), length-take (e - at) (drop at t), length-drop at t)
 
-  pub trimmed-is : span (at + k) (at + k + n) ≡ trimmedSpan at (part at e t)
-  trimmed-is = rw (kept-trim (part at e t) k n p q, p)
+  pub trimmed-is : span (at + k) (at + k + n) ≡ trimmedSpan at (part t at e)
+  trimmed-is = rw (kept-trim (part t at e) k n p q, p)
 
 -- ---- the loop of `split_operands`
 -- operands added one after the other
@@ -144,14 +144,14 @@ pub splitting-start : (t : Text) → Splitting t (operands 0 (span 0 0) (span 0 
 unfolding operandsAt
 splitting-start t = record { upto = omega arith; few = omega arith; left = all-summary (spans 0 (cutAt 44 t)) }
 
-module _ {t : Text} {o : Operands} {at : ℕ} (inv : Splitting t o at) {e : ℕ} (q : e ≡ at + length (firstText (cutAt 44 (drop at t)))) {s : Span} (r : s ≡ trimmedSpan at (part at e t)) where
+module _ {t : Text} {o : Operands} {at : ℕ} (inv : Splitting t o at) {e : ℕ} (q : e ≡ at + length (firstText (cutAt 44 (drop at t)))) {s : Span} (r : s ≡ trimmedSpan at (part t at e)) where
   -- what `with_operand` asks
   pub splitting-asks : (o .count ≤ s .start) × (s .start ≤ s .end)
   splitting-asks = rw r (omega (arith, inv .few), omega arith)
 
-  added : {u : Operands} → u ≡ withSpan o s → (ps : List Text) → cutAt 44 (drop at t) ≡ part at e t ∷ ps → withAll u (spans (at + length (part at e t) + 1) ps) ≡ operandsAt t
+  added : {u : Operands} → u ≡ withSpan o s → (ps : List Text) → cutAt 44 (drop at t) ≡ part t at e ∷ ps → withAll u (spans (at + length (part t at e) + 1) ps) ≡ operandsAt t
   unfolding spans
-  added p ps c = rw (p, r) (with-kept o (at + leading (part at e t)) (trim (part at e t)) (spans (at + length (part at e t) + 1) ps) ∙ rw c at (inv .left))
+  added p ps c = rw (p, r) (with-kept o (at + leading (part t at e)) (trim (part t at e)) (spans (at + length (part t at e) + 1) ps) ∙ rw c at (inv .left))
 
   pub splitting-end : {u : Operands} → u ≡ withSpan o s → e ≡ length t → u ≡ operandsAt t
   unfolding withAll spans
@@ -168,7 +168,7 @@ module _ {t : Text} {o : Operands} {at : ℕ} (inv : Splitting t o at) {e : ℕ}
       go (last z c) = absurd (d z)
       go (comma z c) =
           let w : (at ≤ e) × (e ≤ length t) = end-within t at (inv .upto) e q in
-          let l : length (part at e t) ≡ e - at = length-take-le (e - at) (drop at t) (rw length-drop (omega arith)) in
+          let l : length (part t at e) ≡ e - at = length-take-le (e - at) (drop at t) (rw length-drop (omega arith)) in
           let n : at + (e - at) + 1 ≡ e + 1 = omega arith in
           record {
             upto = omega arith;

@@ -13,9 +13,9 @@ use Rattle.text.specs.Pieces.{nextPiece}
 use Rattle.text.specs.declared.Span.{Span}
 use Rattle.text.proofs.Until.{cut-here, cut-later}
 use Rattle.text.proofs.Pieces.{Next, next-start, next-some, next-none}
-use Rattle.instruction.specs.FirstPiece.{part}
-use Rattle.instruction.specs.Tail.{written, space, spaced}
-use Rattle.instruction.proofs.Lists.{take-written, drop-written, length-written, written-none, written-one, written-behind}
+use Rattle.text.specs.Spans.{part}
+use Rattle.instruction.specs.Tail.{overFrom, space, spaced}
+use Rattle.instruction.proofs.Lists.{take-over-from, drop-over-from, length-over-from, over-none, over-one, over-after}
 
 -- ---- joined pieces are no longer than the text
 joinMore-onFirst : (b : ℕ) (ps : List Text) → 0 < length ps → length (joinMore (onFirst b ps)) ≡ suc (length (joinMore ps))
@@ -74,7 +74,7 @@ module _ {p old : Text} {n i : ℕ} {out : Text} (inv : Copied p old n i out) wh
         so-far = rw (add-one i, inv .so-far) (paste-suc old n p i 0 (omega (arith, inv .room)) h);
       }
 
-  pub copied-all : length p ≤ i → out ≡ written n p old
+  pub copied-all : length p ≤ i → out ≡ overFrom n p old
   copied-all h = let e : i ≡ length p = omega (arith, inv .upto) in inv .so-far ∙ rw (e, take-length p)
 
 -- ---- `put_space` and `add_piece`
@@ -82,17 +82,17 @@ pub space-zero : (n : ℕ) → n ≡ 0 → 0 ≡ n + length (space n)
 space-zero zero e = refl
 space-zero (suc n) e = absurd (omega arith)
 
-pub space-none : (n : ℕ) (old : Text) → n ≡ 0 → old ≡ written n (space n) old
-space-none zero old e = sym (written-none 0 old)
+pub space-none : (n : ℕ) (old : Text) → n ≡ 0 → old ≡ overFrom n (space n) old
+space-none zero old e = sym (over-none 0 old)
 space-none (suc n) old e = absurd (omega arith)
 
 pub space-length : (n : ℕ) → (n ≡ 0 → ⊥) → n + 1 ≡ n + length (space n)
 space-length zero d = absurd (d refl)
 space-length (suc n) d = refl
 
-pub space-put : (n : ℕ) (old : Text) → (n ≡ 0 → ⊥) → n < length old → set old n 32 ≡ written n (space n) old
+pub space-put : (n : ℕ) (old : Text) → (n ≡ 0 → ⊥) → n < length old → set old n 32 ≡ overFrom n (space n) old
 space-put zero old d h = absurd (d refl)
-space-put (suc n) old d h = written-one (suc n) 32 old h
+space-put (suc n) old d h = over-one (suc n) 32 old h
 
 module _ (p old : Text) (n : ℕ) (h : (0 < length p) × (n + length (spaced n p) ≤ length old)) where
   spaced-length : length (spaced n p) ≡ length (space n) + length p
@@ -101,20 +101,20 @@ module _ (p old : Text) (n : ℕ) (h : (0 < length p) × (n + length (spaced n p
   pub adding-starts : n < length old
   adding-starts = omega (arith, spaced-length)
 
-  -- behind the space
+  -- after the space
   module _ {m : ℕ} (e : m ≡ n + length (space n)) where
     pub adding-length : m + length p ≡ n + length (spaced n p)
     adding-length = omega (arith, spaced-length)
 
-    module _ {l : Text} (q : l ≡ written n (space n) old) where
+    module _ {l : Text} (q : l ≡ overFrom n (space n) old) where
       pub adding-asks : m + length p ≤ length l
-      adding-asks = omega (arith, spaced-length, ap length q, length-written n (space n) old (omega (arith, spaced-length)))
+      adding-asks = omega (arith, spaced-length, ap length q, length-over-from n (space n) old (omega (arith, spaced-length)))
 
-      pub adding-whole : {k : Text} → k ≡ written m p l → k ≡ written n (spaced n p) old
-      adding-whole r = r ∙ rw (e, q) (written-behind n (space n) p old (omega (arith, spaced-length)))
+      pub adding-whole : {k : Text} → k ≡ overFrom m p l → k ≡ overFrom n (spaced n p) old
+      adding-whole r = r ∙ rw (e, q) (over-after n (space n) p old (omega (arith, spaced-length)))
 
 -- ---- the loop of `join_pieces`
--- what is still to come behind n bytes
+-- what is still to come after n bytes
 unfoldable pub more : ℕ → List Text → Text
 more zero ps = joined ps
 more (suc n) ps = joinMore ps
@@ -134,14 +134,14 @@ unfolding more
 more-some zero ps h = absurd (omega arith)
 more-some (suc n) ps h = refl
 
--- what it keeps: what is written and what is still to come are the joined pieces, and the slice is as it was behind them
+-- what it keeps: what is written and what is still to come are the joined pieces, and the slice is as it was after them
 pub record Joining (t : Text) (at : ℕ) (old : Text) (i n : ℕ) (out : Text) : Type 0 where
   pub upto : i ≤ length t
   pub fits : length (joined (pieces (drop at t))) ≤ length old
   pub room : n ≤ length out
   pub long : length out ≡ length old
   pub front : take n out ++ more n (pieces (drop i t)) ≡ joined (pieces (drop at t))
-  pub behind : drop n out ≡ drop n old
+  pub past : drop n out ≡ drop n old
 
 pub joining-start : (t : Text) (at : ℕ) (old : Text) → at ≤ length t → length t ≤ length old → Joining t at old at 0 old
 unfolding more
@@ -152,7 +152,7 @@ joining-start t at old h l =
       room = omega arith;
       long = refl;
       front = refl;
-      behind = refl;
+      past = refl;
     }
 
 module _ {t : Text} {at : ℕ} {old : Text} {i n : ℕ} {out : Text} (inv : Joining t at old i n out) {r : Span} (e : r ≡ nextPiece t i) where
@@ -166,7 +166,7 @@ module _ {t : Text} {at : ℕ} {old : Text} {i n : ℕ} {out : Text} (inv : Join
 
     pub joining-whole : out ≡ over (joined (pieces (drop at t))) old
     unfolding over
-    joining-whole = rw (← joining-length, ← all, ← inv .behind) (sym (take-append-drop n out))
+    joining-whole = rw (← joining-length, ← all, ← inv .past) (sym (take-append-drop n out))
 
   -- one more piece
   module _ (h : r .start ≡ length t → ⊥) where
@@ -177,12 +177,12 @@ module _ {t : Text} {at : ℕ} {old : Text} {i n : ℕ} {out : Text} (inv : Join
     joining-within = (omega (arith, next .some), next .within)
 
     abbrev new : Text
-    new = spaced n (part (r .start) (r .end) t)
+    new = spaced n (part t (r .start) (r .end))
 
     front-new : take n out ++ (new ++ joinMore (pieces (drop (r .end) t))) ≡ joined (pieces (drop at t))
     front-new = rw (next .parts, more-next n) at (inv .front)
 
-    some : 0 < length (part (r .start) (r .end) t)
+    some : 0 < length (part t (r .start) (r .end))
     some = rw (length-take-le (r .end - r .start) (drop (r .start) t) (rw length-drop (omega (arith, next .within)))) (omega (arith, next .some))
 
     enough : n + length new ≤ length out
@@ -199,20 +199,20 @@ module _ {t : Text} {at : ℕ} {old : Text} {i n : ℕ} {out : Text} (inv : Join
         )
 
     -- what `add_piece` asks
-    pub joining-asks : (0 < length (part (r .start) (r .end) t)) × (n + length new ≤ length out)
+    pub joining-asks : (0 < length (part t (r .start) (r .end))) × (n + length new ≤ length out)
     joining-asks = (some, enough)
 
     pub joining-less : length t - r .end < length t - i
     joining-less = omega (arith, next .from, next .some, next .within)
 
-    pub joining-more : {m : ℕ} {l : Text} → m ≡ n + length new → l ≡ written n new out → Joining t at old (r .end) m l
+    pub joining-more : {m : ℕ} {l : Text} → m ≡ n + length new → l ≡ overFrom n new out → Joining t at old (r .end) m l
     joining-more p q =
-        let positive : 0 < n + length new = omega (arith, some, length-append (space n) (part (r .start) (r .end) t)) in
+        let positive : 0 < n + length new = omega (arith, some, length-append (space n) (part t (r .start) (r .end))) in
         rw (p, q) (record {
           upto = next .within;
           fits = inv .fits;
-          room = omega (arith, length-written n new out enough, enough);
-          long = length-written n new out enough ∙ inv .long;
-          front = rw (take-written n new out enough, more-some (n + length new) (pieces (drop (r .end) t)) positive) (append-assoc (take n out) new _ ∙ front-new);
-          behind = drop-written n new out enough ∙ sym (drop-drop (length new) n out) ∙ ap (drop (length new)) (inv .behind) ∙ drop-drop (length new) n old;
+          room = omega (arith, length-over-from n new out enough, enough);
+          long = length-over-from n new out enough ∙ inv .long;
+          front = rw (take-over-from n new out enough, more-some (n + length new) (pieces (drop (r .end) t)) positive) (append-assoc (take n out) new _ ∙ front-new);
+          past = drop-over-from n new out enough ∙ sym (drop-drop (length new) n out) ∙ ap (drop (length new)) (inv .past) ∙ drop-drop (length new) n old;
         })

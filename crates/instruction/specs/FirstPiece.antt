@@ -1,50 +1,57 @@
 -- The first piece of an instruction's text: the mnemonic's place, the suffix, and where the tail starts. Assumes nothing.
-use Prim.Native.Nat.{ℕ, _+_, _-_, _≤_}
+use Prim.Native.Nat.{ℕ, _+_, _≤_}
 use mathlib.Core.Path.{_≡_}
-use mathlib.Core.Bool.{Bool, _||_}
-use mathlib.Core.Option.{Option}
-use mathlib.Core.List.{List}
+use mathlib.Core.Bool.{Bool, _||_, cond}
+use mathlib.Core.Option.{Option, none, some}
+use mathlib.Core.List.{List, [], _∷_}
 use lib.Dec.{eqb}
-use lib.ListN.{length, take, drop}
+use lib.ListN.{length, drop}
 use Rattle.rules.specs.Text.{Text, bytes, blank, leading, cutAt, pieces, same, nth, firstText, otherTexts}
-use Rattle.rules.specs.Line.{isL}
+use Rattle.text.specs.Spans.{part}
+use Rattle.instruction.specs.declared.Suffix.{Suffix}
+use Rattle.instruction.specs.declared.Suffix.the-variants.{None, Empty, Long, Word, Other}
 use Rattle.instruction.specs.declared.Head.{Head}
-
--- the part of a text from a to before b, as the code lends it
-abbrev pub part : ℕ → ℕ → Text → Text
-part a b t = take (b - a) (drop a t)
 
 -- the mnemonic, the suffix and whatever more dots cut off
 abbrev pub headParts : Text → List Text
 headParts t = cutAt 46 (firstText (pieces t))
 
--- the suffix as written, if any
-abbrev pub suffixOf : Text → Option Text
-suffixOf t = nth 1 (headParts t)
+-- the suffix as written, none without a dot
+abbrev pub suffixText : Text → Option Text
+suffixText t = nth 1 (headParts t)
+
+-- what it is
+unfoldable pub suffixBy : Text → Suffix
+suffixBy [] = Empty
+suffixBy (b ∷ s) = cond (same (b ∷ s) (bytes "L")) Long (cond (same (b ∷ s) (bytes "W")) Word Other)
+
+unfoldable pub suffixOf : Option Text → Suffix
+suffixOf none = None
+suffixOf (some s) = suffixBy s
+
+-- by the text after the mnemonic's dot
+abbrev pub suffixIn : Text → Suffix
+suffixIn t = suffixBy (firstText (cutAt 46 t))
 
 -- a byte that ends the mnemonic: a blank or a dot
 unfoldable pub endsName : ℕ → Bool
 endsName b = blank b || eqb 46 b
 
--- the text up to the first dot is exactly `L`
-abbrev pub firstIsL : Text → Bool
-firstIsL t = same (firstText (cutAt 46 t)) (bytes "L")
-
--- the first piece starts behind the blanks in front, and the tail behind that piece
+-- the first piece starts after the blanks in front, and the tail after that piece
 unfoldable pub headOf : Text → Head
 headOf t =
     record {
       start = leading t;
       end = leading t + length (firstText (headParts t));
-      long = isL (suffixOf t);
+      suffix = suffixOf (suffixText t);
       tail = leading t + length (firstText (pieces t));
     }
 
--- what a head h says of a text t: the parts it marks are the mnemonic and, behind `tail`, the other pieces
+-- what a head h says of a text t: the parts it marks are the mnemonic and, after `tail`, the other pieces
 pub record HeadOf (t : Text) (h : Head) : Type 0 where
   pub ordered : h .start ≤ h .end
   pub before : h .end ≤ h .tail
   pub within : h .tail ≤ length t
-  pub mnemonic : part (h .start) (h .end) t ≡ firstText (headParts t)
-  pub suffix : h .long ≡ isL (suffixOf t)
+  pub mnemonic : part t (h .start) (h .end) ≡ firstText (headParts t)
+  pub suffix : h .suffix ≡ suffixOf (suffixText t)
   pub others : pieces (drop (h .tail) t) ≡ otherTexts (pieces t)

@@ -1,5 +1,4 @@
 -- A text whose pieces stand joined already: blanks as `joined` writes them, and nowhere else. Assumes nothing.
-use Prim.Native.Nat.{ℕ}
 use mathlib.Core.Bool.{Bool, true, false, not, _&&_, _||_}
 use mathlib.Core.List.{[], _∷_}
 use lib.Dec.{eqb}
@@ -10,12 +9,12 @@ unfoldable pub isFilled : Text → Bool
 isFilled [] = false
 isFilled (b ∷ s) = not (blank b)
 
--- the first byte is no blank, or it is one byte 32 with a byte behind it that is none
+-- the first byte is no blank, or it is one byte 32 with a byte after it that is none
 unfoldable pub isSingle : Text → Bool
 isSingle [] = true
 isSingle (b ∷ s) = not (blank b) || eqb b 32 && isFilled s
 
--- every blank is one byte 32 with a byte behind it that is none
+-- every blank is one byte 32 with a byte after it that is none
 unfoldable pub isJoined : Text → Bool
 isJoined [] = true
 isJoined (b ∷ s) = isSingle (b ∷ s) && isJoined s

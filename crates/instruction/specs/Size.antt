@@ -4,16 +4,25 @@ use mathlib.Core.Bool.{Bool, true, false, not, _||_, cond}
 use mathlib.Core.List.{List, [], _∷_}
 use lib.Dec.{eqb}
 use Rattle.rules.specs.Text.{Text, bytes, blank, upper, uppers, same, starts, firstText, lastText}
-use Rattle.rules.specs.Line.{isL, isPlain}
-use Rattle.instruction.specs.FirstPiece.{headParts, suffixOf}
+use Rattle.rules.specs.Line.{isPlain}
+use Rattle.instruction.specs.FirstPiece.{headParts, suffixText, suffixOf}
+use Rattle.instruction.specs.declared.Suffix.{Suffix}
+use Rattle.instruction.specs.declared.Suffix.the-variants.{None, Empty, Long, Word, Other}
 use Rattle.instruction.specs.declared.SizeRule.{SizeRule}
 use Rattle.instruction.specs.declared.SizeRule.the-variants.{Fixed, Immediate, Move}
 
--- which operands decide, by the mnemonic in upper case and whether the suffix is `L`
-unfoldable pub sizedBy : Text → Bool → SizeRule
-sizedBy m l =
+unfoldable pub saysLong : Suffix → Bool
+saysLong None = false
+saysLong Empty = false
+saysLong Long = true
+saysLong Word = false
+saysLong Other = false
+
+-- which operands decide, by the mnemonic in upper case and the suffix
+unfoldable pub sizedBy : Text → Suffix → SizeRule
+sizedBy m x =
     cond (same m (bytes "MULS")) Immediate
-    (cond (not l) Fixed
+    (cond (not (saysLong x)) Fixed
     (cond (same m (bytes "CMP")) Immediate
     (cond (same m (bytes "MOVE") || same m (bytes "MOVEA")) Move Fixed)))
 
@@ -37,7 +46,7 @@ sizeBy k (s ∷ t ∷ ps) = cond (isLongBy k s (lastText t ps)) 4 2
 
 -- what decides the size of the instruction t
 unfoldable pub sizedOf : Text → SizeRule
-sizedOf t = sizedBy (uppers (firstText (headParts t))) (isL (suffixOf t))
+sizedOf t = sizedBy (uppers (firstText (headParts t))) (suffixOf (suffixText t))
 
 -- an operand may decide the size of the instruction t, by its first byte: M or C, whatever the case, or a blank
 unfoldable pub mayBeLong : Text → Bool

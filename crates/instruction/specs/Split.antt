@@ -7,16 +7,12 @@ use lib.Dec.{eqb}
 use lib.ListN.{length}
 use Rattle.rules.specs.Text.{Text, leading, trim, cutAt, dropEmpty, firstText, otherTexts, lastText}
 use Rattle.text.specs.declared.Span.{Span}
-use Rattle.instruction.specs.FirstPiece.{part}
+use Rattle.text.specs.Spans.{spanText}
 use Rattle.instruction.specs.declared.Operands.{Operands}
 
 -- "cut at commas, trimmed, empties removed"
 unfoldable pub operandsIn : Text → List Text
 operandsIn t = dropEmpty (map trim (cutAt 44 t))
-
--- the text at a place
-abbrev pub textAt : Text → Span → Text
-textAt t s = part (s .start) (s .end) t
 
 -- from a to before b
 abbrev pub span : ℕ → ℕ → Span
@@ -55,7 +51,7 @@ summary (s ∷ u ∷ ss) = operands (2 + length ss) s u (lastSpan u ss)
 unfoldable pub operandsAt : Text → Operands
 operandsAt t = summary (spans 0 (cutAt 44 t))
 
--- one operand behind n others
+-- one operand after n others
 abbrev pub nextOperand : ℕ → Operands → Span → Operands
 nextOperand zero o s = operands 1 s s s
 nextOperand (suc zero) o s = operands 2 (o .first) s s
@@ -66,20 +62,20 @@ unfoldable pub withSpan : Operands → Span → Operands
 withSpan o s = cond (eqb (s .start) (s .end)) o (nextOperand (o .count) o s)
 
 -- the text p stands in t at s, and is not empty
-pub record Stands (t : Text) (s : Span) (p : Text) : Type 0 where
+pub record StandsAt (t : Text) (s : Span) (p : Text) : Type 0 where
   pub some : s .start < s .end
   pub within : s .end ≤ length t
-  pub text : textAt t s ≡ p
+  pub text : spanText t s ≡ p
 
 -- what an answer o says of a text t with the operands ps
 pub record OperandsOf (t : Text) (o : Operands) (ps : List Text) : Type 0 where
   pub count : o .count ≡ length ps
-  pub first : 0 < o .count → Stands t (o .first) (firstText ps)
-  pub second : 1 < o .count → Stands t (o .second) (firstText (otherTexts ps))
-  pub last : 1 < o .count → Stands t (o .last) (lastText (firstText ps) (otherTexts ps))
+  pub first : 0 < o .count → StandsAt t (o .first) (firstText ps)
+  pub second : 1 < o .count → StandsAt t (o .second) (firstText (otherTexts ps))
+  pub last : 1 < o .count → StandsAt t (o .last) (lastText (firstText ps) (otherTexts ps))
 
 -- of two or more, each of the three places is a part of the text
-pub record Within (t : Text) (o : Operands) : Type 0 where
+pub record PlacesIn (t : Text) (o : Operands) : Type 0 where
   pub first : (o .first .start < o .first .end) × (o .first .end ≤ length t)
   pub second : (o .second .start < o .second .end) × (o .second .end ≤ length t)
   pub last : (o .last .start < o .last .end) × (o .last .end ≤ length t)

@@ -1,14 +1,14 @@
--- Pieces joined by one space, as they are written one behind the other. Assumes nothing.
+-- Pieces joined by one space, as they are written one after the other. Assumes nothing.
 use Prim.Native.Nat.{ℕ, zero, suc, _+_}
 use mathlib.Core.List.{[], _∷_, _++_}
 use lib.ListN.{length, take, drop}
 use Rattle.rules.specs.Text.{Text}
 
 -- a text put over the places of a slice from n on
-abbrev pub written : ℕ → Text → Text → Text
-written n new old = take n old ++ new ++ drop (n + length new) old
+abbrev pub overFrom : ℕ → Text → Text → Text
+overFrom n new old = take n old ++ new ++ drop (n + length new) old
 
--- the space behind n bytes: none where nothing is written yet
+-- the space after n bytes: none where nothing is written yet
 abbrev pub space : ℕ → Text
 space zero = []
 space (suc n) = 32 ∷ []

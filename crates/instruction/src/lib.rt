@@ -3,25 +3,40 @@
 // The size is the same without: it goes by the first bytes of operands.
 use text::Span;
 ghost use mathlib.Core.Path.{_≡_};
+ghost use mathlib.Core.List.{[], _∷_};
 ghost use Prim.Native.Nat.{_+_, _≤_, _<_};
 ghost use lib.ListN.{length, drop};
 ghost use Rattle.rules.specs.Text.{uppers, cutAt, pieces, joined, firstText};
 ghost use Rattle.rules.specs.Line.{instructionOf, isPlain, size};
 ghost use Rattle.rules.specs.Assemble.{over};
 ghost use Rattle.text.specs.Pieces.{until};
-ghost use Rattle.instruction.specs.FirstPiece.{part, firstIsL, endsName, headOf};
-ghost use Rattle.instruction.specs.Tail.{written, space, spaced};
+ghost use Rattle.text.specs.Spans.{part};
+ghost use Rattle.instruction.specs.FirstPiece.{suffixIn, endsName, headOf};
+ghost use Rattle.instruction.specs.Tail.{overFrom, space, spaced};
 ghost use Rattle.instruction.specs.Joined.{isSingle, isJoined};
 ghost use Rattle.instruction.specs.Split.{operandsIn, trimmedSpan, operandsAt, withSpan};
 ghost use Rattle.instruction.specs.Size.{sizedBy, hasOperands, isLongBy, sizeBy, mayBeLong};
 
 // ---- The first piece: mnemonic and suffix.
 
-// The mnemonic's place, whether the suffix is exactly `L`, and where the tail starts.
+// What stands after the mnemonic's dot, up to the next dot.
+pub enum Suffix {
+    // There is no dot.
+    None,
+    // Nothing.
+    Empty,
+    // Exactly `L`.
+    Long,
+    // Exactly `W`.
+    Word,
+    Other,
+}
+
+// The mnemonic's place, the suffix, and where the tail starts.
 pub struct Head {
     pub start: usize,
     pub end: usize,
-    pub long: bool,
+    pub suffix: Suffix,
     pub tail: usize,
 }
 
@@ -53,7 +68,7 @@ fn mnemonic_end(t: &[u8], at: usize) -> usize
     i
 }
 
-// The first piece, cut at dots; what stands behind the first is read only where there is one.
+// The first piece, cut at dots; what stands after the first is read only where there is one.
 pub fn read_head(t: &[u8]) -> Head
     ensures { λ r. ⌜ r ≡ headOf (now (t .entry)) ⌝ }
 {
@@ -61,13 +76,13 @@ pub fn read_head(t: &[u8]) -> Head
     let end = mnemonic_end(t, start);
     if end < t.len() {
         if t[end] == b'.' {
-            let behind = end + 1;
-            let tail = text::skip_piece(t, behind);
-            let long = is_long(&t[behind..tail]);
+            let after = end + 1;
+            let tail = text::skip_piece(t, after);
+            let suffix = read_suffix(&t[after..tail]);
             return Head {
                 start,
                 end,
-                long,
+                suffix,
                 tail,
             };
         }
@@ -75,33 +90,53 @@ pub fn read_head(t: &[u8]) -> Head
     Head {
         start,
         end,
-        long: false,
+        suffix: Suffix::None,
         tail: end,
     }
 }
 
-// The text up to the first dot is `L`.
-fn is_long(t: &[u8]) -> bool
-    ensures { λ r. ⌜ r ≡ firstIsL (now (t .entry)) ⌝ }
+// The text up to the first dot, as a suffix.
+fn read_suffix(t: &[u8]) -> Suffix
+    ensures { λ r. ⌜ r ≡ suffixIn (now (t .entry)) ⌝ }
 {
-    if t.len() == 0 {
-        return false;
-    }
-    if t[0] != b'L' {
-        return false;
-    }
     if t.len() == 1 {
-        return true;
+        return byte_suffix(t[0]);
     }
-    t[1] == b'.'
+    if t.len() == 0 {
+        return Suffix::Empty;
+    }
+    let b = t[0];
+    if b == b'.' {
+        return Suffix::Empty;
+    }
+    if t[1] == b'.' {
+        return byte_suffix(b);
+    }
+    Suffix::Other
+}
+
+// The same where the text is one byte.
+fn byte_suffix(b: u8) -> Suffix
+    ensures { λ r. ⌜ r ≡ suffixIn (b ∷ []) ⌝ }
+{
+    if b == b'L' {
+        return Suffix::Long;
+    }
+    if b == b'W' {
+        return Suffix::Word;
+    }
+    if b == b'.' {
+        return Suffix::Empty;
+    }
+    Suffix::Other
 }
 
 // ---- The tail: the other pieces, joined by one space.
 
-// A piece copied behind the first n bytes of `out`.
+// A piece copied after the first n bytes of `out`.
 fn copy_piece(p: &[u8], out: &mut [u8], n: usize)
     requires { ⌜ n + length (now p) ≤ length (now out) ⌝ }
-    ensures { λ _. ⌜ now (out .exit) ≡ written n (now (p .entry)) (now (out .entry)) ⌝ }
+    ensures { λ _. ⌜ now (out .exit) ≡ overFrom n (now (p .entry)) (now (out .entry)) ⌝ }
 {
     let mut i = 0;
     while i < p.len() {
@@ -110,11 +145,11 @@ fn copy_piece(p: &[u8], out: &mut [u8], n: usize)
     }
 }
 
-// A space behind the first n bytes of `out`, unless there are none; the length with it.
+// A space after the first n bytes of `out`, unless there are none; the length with it.
 fn put_space(out: &mut [u8], n: usize) -> usize
     requires { ⌜ n < length (now out) ⌝ }
     ensures { λ r. ⌜ r ≡ n + length (space n) ⌝ }
-    ensures { λ _. ⌜ now (out .exit) ≡ written n (space n) (now (out .entry)) ⌝ }
+    ensures { λ _. ⌜ now (out .exit) ≡ overFrom n (space n) (now (out .entry)) ⌝ }
 {
     if n == 0 {
         return 0;
@@ -127,7 +162,7 @@ fn put_space(out: &mut [u8], n: usize) -> usize
 fn add_piece(p: &[u8], out: &mut [u8], n: usize) -> usize
     requires { ⌜ (0 < length (now p)) × (n + length (spaced n (now p)) ≤ length (now out)) ⌝ }
     ensures { λ r. ⌜ r ≡ n + length (spaced n (now (p .entry))) ⌝ }
-    ensures { λ _. ⌜ now (out .exit) ≡ written n (spaced n (now (p .entry))) (now (out .entry)) ⌝ }
+    ensures { λ _. ⌜ now (out .exit) ≡ overFrom n (spaced n (now (p .entry))) (now (out .entry)) ⌝ }
 {
     let m = put_space(out, n);
     copy_piece(p, out, m);
@@ -246,7 +281,7 @@ fn part_end(t: &[u8], at: usize) -> usize
 // The part from `at` to before `end`, without its outer blanks.
 fn trimmed_part(t: &[u8], at: usize, end: usize) -> Span
     requires { ⌜ (at ≤ end) × (end ≤ length (now t)) ⌝ }
-    ensures { λ r. ⌜ r ≡ trimmedSpan at (part at end (now (t .entry))) ⌝ }
+    ensures { λ r. ⌜ r ≡ trimmedSpan at (part (now (t .entry)) at end) ⌝ }
 {
     let p = &t[at..end];
     let blanks = text::leading_blanks(p);
@@ -309,16 +344,16 @@ enum SizeRule {
     Move,
 }
 
-// Which operands decide, by the mnemonic and whether the suffix is `L`.
-fn sized(mnemonic: &[u8], long: bool) -> SizeRule
-    ensures { λ r. ⌜ r ≡ sizedBy (uppers (now (mnemonic .entry))) long ⌝ }
+// Which operands decide, by the mnemonic and the suffix.
+fn sized(mnemonic: &[u8], suffix: Suffix) -> SizeRule
+    ensures { λ r. ⌜ r ≡ sizedBy (uppers (now (mnemonic .entry))) suffix ⌝ }
 {
     if text::same_upper(mnemonic, b"MULS") {
         return SizeRule::Immediate;
     }
-    if !long {
+    let Suffix::Long = suffix else {
         return SizeRule::Fixed;
-    }
+    };
     if text::same_upper(mnemonic, b"CMP") {
         return SizeRule::Immediate;
     }
@@ -376,7 +411,7 @@ fn size_of(rule: SizeRule, o: Operands, tail: &[u8]) -> u32
     2
 }
 
-// The first byte leaves open that an operand decides: MULS, CMP, MOVE or MOVEA may stand there, or behind blanks.
+// The first byte leaves open that an operand decides: MULS, CMP, MOVE or MOVEA may stand there, or after blanks.
 fn may_be_long(t: &[u8]) -> bool
     ensures { λ r. ⌜ r ≡ mayBeLong (now (t .entry)) ⌝ }
 {
@@ -404,7 +439,8 @@ pub fn instruction_size(t: &[u8]) -> u32
     let head = read_head(t);
     let a = head.start;
     let b = head.end;
-    let rule = sized(&t[a..b], head.long);
+    let suffix = head.suffix;
+    let rule = sized(&t[a..b], suffix);
     if !has_operands(rule) {
         return 2;
     }

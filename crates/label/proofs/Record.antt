@@ -65,7 +65,7 @@ module _ (source : Text) (cells : List ℕ) (count start end address : ℕ) wher
 
   -- ---- what the contract says of the table
   -- the label is recorded, in the first n rows of the cells afterwards
-  pub record Kept (n : ℕ) (after : List ℕ) : Type 0 where
+  pub record Keeps (n : ℕ) (after : List ℕ) : Type 0 where
     pub table : tableOf source after n ≡ recorded label before
     pub total : n ≡ length (recorded label before)
     pub held : Held source after n
@@ -114,7 +114,7 @@ module _ (source : Text) (cells : List ℕ) (count start end address : ℕ) wher
     inside : start + (end - start) ≤ length source
     inside = omega arith
 
-    kept-again : (k : ℕ) → already ≡ some k → Kept count (cells-at k)
+    kept-again : (k : ℕ) → already ≡ some k → Keeps count (cells-at k)
     kept-again k e =
         let at : RowAt label label before k = row-at label label before k e in
         let b : k < count = omega (arith, table-length source cells count) in
@@ -129,7 +129,7 @@ module _ (source : Text) (cells : List ℕ) (count start end address : ℕ) wher
           room = room-known (at .found);
         }
 
-    kept-next : already ≡ none → ltb count maxLabels ≡ true → Kept (count + 1) cells-next
+    kept-next : already ≡ none → ltb count maxLabels ≡ true → Keeps (count + 1) cells-next
     kept-next e l =
         let new : NoRow label label before = no-row label label before e in
         let r : cellOf (count + 1) ≤ length cells = ready .room (ltb-true count maxLabels l) in
@@ -149,10 +149,10 @@ module _ (source : Text) (cells : List ℕ) (count start end address : ℕ) wher
 -- what a caller learns from the answer
 module _ {source : Text} {cells : List ℕ} {count start end address : ℕ} {answer : Recorded} {after : List ℕ} where
   pub kept : {n : ℕ} → Ready source cells count start end → Recording source cells count start end address answer after → answer ≡ Count n
-      → Kept source cells count start end address n after
+      → Keeps source cells count start end address n after
   kept ready did e = go (rw e at (outcome source cells count start end address did))
     where
-      go : {m : ℕ} {now : List ℕ} → Outcome source cells count start end address (Count m) now → Kept source cells count start end address m now
+      go : {m : ℕ} {now : List ℕ} → Outcome source cells count start end address (Count m) now → Keeps source cells count start end address m now
       go (again k e) = kept-again source cells count start end address ready k e
       go (next e l) = kept-next source cells count start end address ready e l
 

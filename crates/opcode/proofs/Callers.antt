@@ -9,7 +9,7 @@ use borrow.Author.Tests.{ltb-true}
 use lib.Dec.{ltb, eqb}
 use Rattle.rules.specs.Text.{Text, bytes, after, same}
 use Rattle.rules.specs.Number.{digitValue}
-use Rattle.rules.specs.Encode.{Mnemonic, mnemonics, operationIn, registerDigit, dataRegister, addressRegister, closed, indirect}
+use Rattle.rules.specs.Encode.{Mnemonic, branches, otherMnemonics, mnemonics, operationIn, registerDigit, dataRegister, addressRegister, closed, indirect}
 use Rattle.rules.specs.Encode.{moveq, move, movea, muls, tst, subq, asl, dbra, nop, simhalt, add, sub, cmp, jmp, branch}
 use Rattle.rules.specs.Encode.{Operation as Ruled}
 use Rattle.opcode.specs.Register.{registerOf}
@@ -151,5 +151,5 @@ conditionBelow16 o =
     ]
 
 pub condition-small : (m : Text) (c : ℕ) → operationIn mnemonics m ≡ some (branch c) → c < 16
-unfolding mnemonics
+unfolding mnemonics otherMnemonics branches
 condition-small m c e = ltb-true c 16 (found conditionBelow16 mnemonics m (branch c) refl e)

@@ -1,4 +1,3 @@
-mod Fields
 mod Registers
 mod Mnemonics
 pub mod Callers

@@ -10,7 +10,7 @@ use lib.ListN.{length, drop, getD, drop-of-length-le}
 use lib.Dec.{T, eqb, leb, ltb, leb→le, ltb→lt}
 use lib.Seq.{drop-cons}
 use Rattle.rules.specs.Text.{Text, bytes, upper, uppers, same, starts}
-use Rattle.rules.specs.Encode.{Mnemonic, mnemonic, nop, operationIn, mnemonics}
+use Rattle.rules.specs.Encode.{Mnemonic, mnemonic, nop, branches, otherMnemonics, mnemonics, operationIn}
 use Rattle.opcode.specs.Operation.{operationOf, those, ofLength, isBranch, otherThree}
 use Rattle.opcode.specs.declared.mnemonic.Operation.{Operation}
 use Rattle.opcode.specs.declared.mnemonic.Operation.the-variants.{Unknown}
@@ -94,6 +94,11 @@ first-upper (b ∷ m) h = go (eqb (upper b) 66) refl
     go true e = rw (eq-eqb 66 (upper b) (sym (eqb-true _ _ e)))
     go false e = rw (ne-eqb 66 (upper b) (λ g. eqb-false _ _ e (sym g)))
 
+-- the branches are the mnemonics that start with B
+the-branches : those isBranch mnemonics ≡ branches
+unfolding those mnemonics otherMnemonics branches bytes starts
+the-branches = refl
+
 module _ (m : Text) where
   pub by-length : (k : ℕ) → length m ≡ k → ofLength k (uppers m) ≡ true
   by-length k e = eq-eqb _ k (length-uppers m ∙ e)
@@ -105,8 +110,8 @@ module _ (m : Text) where
     first : isBranch (uppers m) ≡ eqb u 66
     first = first-upper m (omega arith) ∙ ap (λ (x : ℕ). eqb x 66) (sym q)
 
-    pub branches : u ≡ 66 → isBranch (uppers m) ≡ true
-    branches h = first ∙ eq-eqb u 66 h
+    pub is-branch : u ≡ 66 → isBranch (uppers m) ≡ true
+    is-branch h = first ∙ eq-eqb u 66 h
 
     pub other-three : (u ≡ 66 → ⊥) → otherThree (uppers m) ≡ true
     other-three d = rw (by-length 3 e, first ∙ ne-eqb u 66 d)
@@ -117,12 +122,16 @@ module _ (m : Text) where
       → r ≡ operationOf (operationIn mnemonics (uppers m))
   among f t e = e ∙ sym (ap operationOf (narrow f mnemonics (uppers m) t))
 
+  pub among-branches :
+      isBranch (uppers m) ≡ true → {r : Operation} → r ≡ operationOf (operationIn branches (uppers m)) → r ≡ operationOf (operationIn mnemonics (uppers m))
+  among-branches t e = among isBranch t (rw the-branches e)
+
 -- no mnemonic has another length
 abbrev otherLength : Text → Bool
 otherLength t = not (ofLength 3 t || ofLength 4 t || ofLength 5 t || ofLength 7 t)
 
 no-others : those otherLength mnemonics ≡ []
-unfolding those mnemonics bytes
+unfolding those mnemonics otherMnemonics branches bytes
 no-others = refl
 
 pub none-fits :

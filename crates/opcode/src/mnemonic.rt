@@ -1,8 +1,8 @@
 // Mnemonics, "compared as fixed byte strings": the length picks a chain of literals, each compared with the piece in upper case.
 ghost use mathlib.Core.Path.{_≡_};
 ghost use Rattle.rules.specs.Text.{uppers};
-ghost use Rattle.rules.specs.Encode.{operationIn, mnemonics};
-ghost use Rattle.opcode.specs.Operation.{operationOf, those, ofLength, otherThree, isBranch};
+ghost use Rattle.rules.specs.Encode.{branches, mnemonics, operationIn};
+ghost use Rattle.opcode.specs.Operation.{operationOf, those, ofLength, otherThree};
 
 // What a mnemonic names; a branch has its condition.
 pub enum Operation {
@@ -46,9 +46,9 @@ pub fn find_operation(mnemonic: &[u8]) -> Operation
     Operation::Unknown
 }
 
-// Among the mnemonics that start with B, all of them branches.
+// Among the branches, which are the mnemonics that start with B.
 fn find_branch(mnemonic: &[u8]) -> Operation
-    ensures { λ r. ⌜ r ≡ operationOf (operationIn (those isBranch mnemonics) (uppers (now (mnemonic .entry)))) ⌝ }
+    ensures { λ r. ⌜ r ≡ operationOf (operationIn branches (uppers (now (mnemonic .entry)))) ⌝ }
 {
     if text::same_upper(mnemonic, b"BRA") {
         return Operation::Branch(0);

@@ -14,11 +14,11 @@ use Rattle.text.proofs.Kept.{rest-is}
 use Rattle.text.proofs.Compare.{length-uppers, starts-short, starts-unequal}
 
 -- ---- the clauses, by the test
-contains-here : (p : Text) (b : ℕ) (t : Text) → starts p (b ∷ t) ≡ true → contains p (b ∷ t) ≡ true
+pub contains-here : (p : Text) (b : ℕ) (t : Text) → starts p (b ∷ t) ≡ true → contains p (b ∷ t) ≡ true
 unfolding contains
 contains-here p b t e = rw (e, contains)
 
-contains-later : (p : Text) (b : ℕ) (t : Text) → starts p (b ∷ t) ≡ false → contains p (b ∷ t) ≡ contains p t
+pub contains-later : (p : Text) (b : ℕ) (t : Text) → starts p (b ∷ t) ≡ false → contains p (b ∷ t) ≡ contains p t
 unfolding contains
 contains-later p b t e = rw (e, contains)
 

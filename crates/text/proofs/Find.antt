@@ -20,7 +20,7 @@ use Rattle.text.proofs.Until.{cut-here, cut-later}
 -- ---- the clauses, by the test
 module _ (c b : ℕ) (s : Text) where
   module _ (e : eqb b c ≡ true) where
-    index-here : indexOf c (b ∷ s) ≡ some 0
+    pub index-here : indexOf c (b ∷ s) ≡ some 0
     unfolding indexOf
     index-here = rw (e, indexOf)
 
@@ -33,7 +33,7 @@ module _ (c b : ℕ) (s : Text) where
     parts-here = cut-here (eqb c) b s (eqb-sym c b ∙ e)
 
   module _ (e : eqb b c ≡ false) where
-    index-later : indexOf c (b ∷ s) ≡ further 1 (indexOf c s)
+    pub index-later : indexOf c (b ∷ s) ≡ further 1 (indexOf c s)
     unfolding indexOf
     index-later = rw (e, indexOf)
 

@@ -6,3 +6,4 @@ pub mod Contains
 pub mod Find
 pub mod Pieces
 pub mod Joined
+pub mod Spans

@@ -1,6 +1,6 @@
 -- `encode_two` meets its contract, operation by operation. Assumes nothing.
 use borrow.Author.Needs.{needs}
-use Rattle.encode.specs.Rows.{twoRows}
+use Rattle.encode.specs.Operations.{twoRows}
 use Rattle.encode.proofs.encode_two.Statement.{statement}
 use Rattle.encode.proofs.encode_two.Tie as tie
 

@@ -1,4 +1,4 @@
--- `add_piece` puts a space, if one is wanted, and the piece behind it. Assumes nothing.
+-- `add_piece` puts a space, if one is wanted, and the piece after it. Assumes nothing.
 use native.Mathlib.Omega.{arith}
 use Rattle.instruction.proofs.Tail.{adding-starts, adding-asks, adding-length, adding-whole}
 use borrow.Author.Needs.{needs}

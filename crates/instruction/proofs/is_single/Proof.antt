@@ -1,4 +1,4 @@
--- `is_single` looks at the byte, and behind a space at the next one. Assumes nothing.
+-- `is_single` looks at the byte, and after a space at the next one. Assumes nothing.
 use native.Mathlib.Omega.{arith}
 use borrow.Author.Needs.{needs}
 use Rattle.instruction.proofs.Joined.{single-high, single-other, single-last, single-space}

@@ -1,4 +1,4 @@
--- `read_head` finds the mnemonic's end, and the piece's end behind a dot. Assumes nothing.
+-- `read_head` finds the mnemonic's end, and the piece's end after a dot. Assumes nothing.
 use native.Mathlib.Omega.{arith}
 use borrow.Author.Needs.{needs}
 use Rattle.text.proofs.Kept.{from-leading}
@@ -9,12 +9,12 @@ use Rattle.instruction.proofs.read_head.Tie as tie
 mnemonic-end-requires : tie.Need-mnemonic-end-requires
 mnemonic-end-requires c κs = from-leading _ _ (c .leading-blanks .ensures)
 
-part-is-long-end : tie.Need-part-is-long-end
-part-is-long-end c = piece-end _ _ (omega arith) (c .skip-piece .ensures)
+part-read-suffix-end : tie.Need-part-read-suffix-end
+part-read-suffix-end c = piece-end _ _ (omega arith) (c .skip-piece .ensures)
 
 returns : tie.Need-returns
 returns c =
-    head-dotted _ _ _ (c .before .before .before .before .before .before .before .leading-blanks .ensures) (c .before .before .before .before .before .before .mnemonic-end .ensures) (c .before .before .before .before .before .if1 .taken) (c .before .before .before .if2 .taken) (c .before .before .skip-piece .ensures) (c .is-long .ensures)
+    head-dotted _ _ _ (c .before .before .before .before .before .before .before .leading-blanks .ensures) (c .before .before .before .before .before .before .mnemonic-end .ensures) (c .before .before .before .before .before .if1 .taken) (c .before .before .before .if2 .taken) (c .before .before .skip-piece .ensures) (c .read-suffix .ensures)
 
 returns-2 : tie.Need-returns-2
 returns-2 c = head-plain _ _ _ (c .before .before .before .before .leading-blanks .ensures) (c .before .before .before .mnemonic-end .ensures) (c .before .before .if1 .taken) (c .if2 .left)
@@ -33,7 +33,7 @@ read-head-spec =
     (λ c κs. search needs)
     (λ c. search needs)
     (λ c. search needs)
-    part-is-long-end
+    part-read-suffix-end
     (λ c κs. search needs)
     returns
     returns-2

@@ -1,5 +1,4 @@
 -- `find_row` searches the rows of the name's hash, if there are rows. Assumes nothing.
-use mathlib.Core.Path.{refl}
 use borrow.Author.Needs.{needs}
 use Rattle.label.specs.Table.{tableOf, rowOf}
 use Rattle.label.proofs.find_row.Statement.{statement}

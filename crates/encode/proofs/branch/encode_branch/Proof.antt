@@ -8,12 +8,11 @@ use mir.Syntax.{w8}
 use mir.Val.{SFits}
 use mir.Facts.{toZ-ofZ}
 use Rattle.rules.specs.Number.{modulo}
-use Rattle.rules.specs.Encode.{displacement}
+use Rattle.rules.specs.Encode.{displacement, branchRow}
 use Rattle.label.specs.Table.{tableOf}
 use Rattle.numeral.proofs.Answers.{signed-some, signed-none}
 use Rattle.encode.specs.Code.{codeOf}
 use Rattle.encode.specs.declared.Code.the-variants.{Word}
-use Rattle.encode.specs.Rows.{branchRow}
 use Rattle.encode.proofs.Readings.{stops, goes}
 use Rattle.encode.proofs.branch.encode_branch.Statement.{statement}
 use Rattle.encode.proofs.branch.encode_branch.Tie as tie

@@ -3,11 +3,10 @@ use borrow.Author.Needs.{needs}
 use mathlib.Core.Path.{_≡_, refl, sym, ap, _∙_}
 use mathlib.Core.Option.{some}
 use denote.Ref.{now}
-use Rattle.rules.specs.Encode.{dataRegister}
+use Rattle.rules.specs.Encode.{dataRegister, dbraRow}
 use Rattle.numeral.proofs.Answers.{signed-some, signed-none}
 use Rattle.opcode.proofs.Callers.{registered, unregistered, data-small}
 use Rattle.encode.specs.Code.{codeOf}
-use Rattle.encode.specs.Rows.{dbraRow}
 use Rattle.encode.specs.declared.Code.the-variants.{Word}
 use Rattle.encode.proofs.Readings.{stops, goes}
 use Rattle.encode.proofs.branch.encode_dbra.Statement.{statement}

@@ -1,7 +1,7 @@
 -- `form::encode_cmp` meets its contract: the immediate row first, then the registers. Assumes nothing.
 use borrow.Author.Needs.{needs}
+use Rattle.rules.specs.Encode.{cmpRows}
 use Rattle.encode.specs.Code.{codeOf}
-use Rattle.encode.specs.Rows.{cmpRows}
 use Rattle.encode.proofs.Readings.{skips}
 use Rattle.encode.proofs.Shaped.{first-row, absent, shaped-low}
 use Rattle.encode.proofs.form.encode_cmp.Statement.{statement}

@@ -5,14 +5,13 @@ use mathlib.Core.Option.{some}
 use borrow.Author.Needs.{needs}
 use denote.Ref.{now}
 use Rattle.rules.specs.Number.{imm16}
-use Rattle.rules.specs.Encode.{dataRegister}
+use Rattle.rules.specs.Encode.{dataRegister, lowRow}
 use Rattle.numeral.proofs.Answers.{number-none, number-some}
 use Rattle.opcode.proofs.Callers.{registered, unregistered, data-small}
 use native.Mathlib.Omega.{arith}
 use Rattle.numeral.proofs.Bounds.{imm16-bound}
 use Rattle.encode.specs.Code.{codeOf}
 use Rattle.encode.specs.declared.Code.the-variants.{Value}
-use Rattle.encode.specs.Rows.{lowRow}
 use Rattle.encode.proofs.Readings.{stops, goes}
 use Rattle.encode.proofs.form.encode_immediate_low.Statement.{statement}
 use Rattle.encode.proofs.form.encode_immediate_low.Tie as tie

@@ -1,7 +1,7 @@
 -- `form::encode_muls` meets its contract: the immediate row first, then the registers. Assumes nothing.
 use borrow.Author.Needs.{needs}
+use Rattle.rules.specs.Encode.{mulsRows}
 use Rattle.encode.specs.Code.{codeOf}
-use Rattle.encode.specs.Rows.{mulsRows}
 use Rattle.encode.proofs.Readings.{skips}
 use Rattle.encode.proofs.Shaped.{first-row, absent, shaped-high}
 use Rattle.encode.proofs.form.encode_muls.Statement.{statement}

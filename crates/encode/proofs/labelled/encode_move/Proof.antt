@@ -3,16 +3,15 @@ use mathlib.Core.Path.{_≡_}
 use mathlib.Core.Option.{none}
 use denote.Ref.{now}
 use borrow.Author.Needs.{needs}
-use Rattle.rules.specs.Encode.{encodeMove}
+use Rattle.rules.specs.Encode.{moveRows, highRow, fromIndirect, toIndirect, registersRow, fromLabel}
 use Rattle.label.specs.Table.{tableOf}
 use Rattle.encode.specs.Code.{codeOf}
-use Rattle.encode.specs.Rows.{highRow, fromIndirect, toIndirect, registersRow, fromLabel, toLabel}
 use Rattle.encode.proofs.Readings.{skips}
 use Rattle.encode.proofs.Shaped.{first-row, absent, shaped-high, shaped-from-indirect, shaped-to-indirect, shaped-registers, shaped-from-label}
 use Rattle.encode.proofs.labelled.encode_move.Statement.{statement}
 use Rattle.encode.proofs.labelled.encode_move.Tie as tie
 
--- behind each row that gave no word: the place behind the row before, the entry, and that the row has no cells
+-- after each row that gave no word: the place after the row before, the entry, and that the row has no cells
 abbrev entry-1 : tie.After-enum-told → tie.Start
 entry-1 c = c .before .before .before .before .before .before .before
 
@@ -56,35 +55,35 @@ no-from-label : (c : tie.After-enum-told5) → fromLabel (tableOf (now (entry-5 
 no-from-label c = absent (shaped-from-label _ _ _) (c .before .before .encode-from-label .ensures) (c .enum-told5 .given .1)
 
 returns : tie.Need-returns
-unfolding encodeMove highRow fromIndirect toIndirect registersRow fromLabel toLabel
+unfolding moveRows
 returns c = first-row _ _ (c .before .encode-immediate-high .ensures) (c .match .keys2)
 
 returns-2 : tie.Need-returns-2
-unfolding encodeMove highRow fromIndirect toIndirect registersRow fromLabel toLabel
+unfolding moveRows
 returns-2 c =
     let c1 = c .before .before in
     skips codeOf _ _ (no-immediate c1) (first-row _ _ (c .before .encode-from-indirect .ensures) (c .match2 .keys2))
 
 returns-3 : tie.Need-returns-3
-unfolding encodeMove highRow fromIndirect toIndirect registersRow fromLabel toLabel
+unfolding moveRows
 returns-3 c =
     let c2 = c .before .before in let c1 = back-2 c2 in
     skips codeOf _ _ (no-immediate c1) (skips codeOf _ _ (no-from-indirect c2) (first-row _ _ (c .before .encode-to-indirect .ensures) (c .match3 .keys2)))
 
 returns-4 : tie.Need-returns-4
-unfolding encodeMove highRow fromIndirect toIndirect registersRow fromLabel toLabel
+unfolding moveRows
 returns-4 c =
     let c3 = c .before .before in let c2 = back-3 c3 in let c1 = back-2 c2 in
     skips codeOf _ _ (no-immediate c1) (skips codeOf _ _ (no-from-indirect c2) (skips codeOf _ _ (no-to-indirect c3) (first-row _ _ (c .before .encode-registers .ensures) (c .match4 .keys2))))
 
 returns-5 : tie.Need-returns-5
-unfolding encodeMove highRow fromIndirect toIndirect registersRow fromLabel toLabel
+unfolding moveRows
 returns-5 c =
     let c4 = c .before .before in let c3 = back-4 c4 in let c2 = back-3 c3 in let c1 = back-2 c2 in
     skips codeOf _ _ (no-immediate c1) (skips codeOf _ _ (no-from-indirect c2) (skips codeOf _ _ (no-to-indirect c3) (skips codeOf _ _ (no-registers c4) (first-row _ _ (c .before .encode-from-label .ensures) (c .match5 .keys2)))))
 
 returns-6 : tie.Need-returns-6
-unfolding encodeMove highRow fromIndirect toIndirect registersRow fromLabel toLabel
+unfolding moveRows
 returns-6 c =
     let c5 = c .before in let c4 = back-5 c5 in let c3 = back-4 c4 in let c2 = back-3 c3 in let c1 = back-2 c2 in
     skips codeOf _ _ (no-immediate c1) (skips codeOf _ _ (no-from-indirect c2) (skips codeOf _ _ (no-to-indirect c3) (skips codeOf _ _ (no-registers c4) (skips codeOf _ _ (no-from-label c5) (c .encode-to-label .ensures)))))

@@ -3,11 +3,10 @@ use borrow.Author.Needs.{needs}
 use mathlib.Core.Path.{_≡_, refl, sym, _∙_}
 use mathlib.Core.Option.{some}
 use denote.Ref.{now}
-use Rattle.rules.specs.Encode.{addressRegister}
+use Rattle.rules.specs.Encode.{addressRegister, moveaRow}
 use Rattle.numeral.proofs.Lead.{hash, no-hash, no-bytes}
 use Rattle.opcode.proofs.Callers.{registered, unregistered, address-small}
 use Rattle.encode.specs.Code.{codeOf}
-use Rattle.encode.specs.Rows.{moveaRow}
 use Rattle.encode.proofs.Readings.{stops, goes}
 use Rattle.encode.proofs.labelled.encode_movea.Statement.{statement}
 use Rattle.encode.proofs.labelled.encode_movea.Tie as tie

@@ -1,7 +1,7 @@
 -- `opcode::mnemonic::find_operation` meets its contract: each way narrows the search to the names that its tests leave. Assumes nothing.
 use borrow.Author.Needs.{needs}
-use Rattle.opcode.specs.Operation.{ofLength, isBranch, otherThree}
-use Rattle.opcode.proofs.Mnemonics.{by-length, branches, other-three, among, none-fits}
+use Rattle.opcode.specs.Operation.{ofLength, otherThree}
+use Rattle.opcode.proofs.Mnemonics.{by-length, is-branch, other-three, among, among-branches, none-fits}
 use Rattle.opcode.proofs.mnemonic.find_operation.Statement.{statement}
 use Rattle.opcode.proofs.mnemonic.find_operation.Tie as tie
 
@@ -11,7 +11,7 @@ read-first c = search needs
 branch : tie.Need-returns
 branch c =
     let b = c .before in
-    among _ isBranch (branches _ (b .before .before .before .if1 .taken) (b .before .upper-case .ensures) (b .if2 .taken)) (c .find-branch .ensures)
+    among-branches _ (is-branch _ (b .before .before .before .if1 .taken) (b .before .upper-case .ensures) (b .if2 .taken)) (c .find-branch .ensures)
 
 three : tie.Need-returns-2
 three c =

@@ -1,7 +1,7 @@
 -- `opcode::word::branch_word` meets its contract: a field from bit 8 on and a low one of eight bits. Assumes nothing.
 use mathlib.Core.Path.{refl, _∙_}
 use native.Mathlib.Omega.{arith}
-use Rattle.opcode.proofs.Fields.{fields}
+use Rattle.rules.proofs.Fields.{fields}
 use Rattle.opcode.proofs.word.branch_word.Statement.{statement}
 use Rattle.opcode.proofs.word.branch_word.Tie as tie
 

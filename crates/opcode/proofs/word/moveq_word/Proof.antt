@@ -2,7 +2,7 @@
 use mathlib.Core.Path.{refl, _∙_}
 use native.Mathlib.Omega.{arith}
 use Rattle.rules.specs.Encode.{R}
-use Rattle.opcode.proofs.Fields.{fields}
+use Rattle.rules.proofs.Fields.{fields}
 use Rattle.opcode.proofs.word.moveq_word.Statement.{statement}
 use Rattle.opcode.proofs.word.moveq_word.Tie as tie
 

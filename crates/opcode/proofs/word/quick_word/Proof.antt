@@ -3,7 +3,7 @@ use mathlib.Core.Path.{ap, _∙_}
 use Prim.Native.Nat.{ℕ, _*_, _%_}
 use native.Mathlib.Omega.{arith}
 use Rattle.rules.specs.Encode.{R}
-use Rattle.opcode.proofs.Fields.{fields}
+use Rattle.rules.proofs.Fields.{fields}
 use lib.Bits.{bitOr, and-mask}
 use Rattle.opcode.proofs.word.quick_word.Statement.{statement}
 use Rattle.opcode.proofs.word.quick_word.Tie as tie

@@ -2,7 +2,7 @@
 use mathlib.Core.Path.{_∙_}
 use native.Mathlib.Omega.{arith}
 use Rattle.rules.specs.Encode.{R}
-use Rattle.opcode.proofs.Fields.{field}
+use Rattle.rules.proofs.Fields.{field}
 use Rattle.opcode.proofs.word.with_high.Statement.{statement}
 use Rattle.opcode.proofs.word.with_high.Tie as tie
 

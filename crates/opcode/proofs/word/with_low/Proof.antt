@@ -1,5 +1,5 @@
 -- `opcode::word::with_low` meets its contract: a low field of three bits. Assumes nothing.
-use Rattle.opcode.proofs.Fields.{low}
+use Rattle.rules.proofs.Fields.{low}
 use Rattle.opcode.proofs.word.with_low.Statement.{statement}
 use Rattle.opcode.proofs.word.with_low.Tie as tie
 

@@ -2,7 +2,7 @@
 use mathlib.Core.Path.{_∙_}
 use native.Mathlib.Omega.{arith}
 use Rattle.rules.specs.Encode.{R}
-use Rattle.opcode.proofs.Fields.{fields}
+use Rattle.rules.proofs.Fields.{fields}
 use Rattle.opcode.proofs.word.with_registers.Statement.{statement}
 use Rattle.opcode.proofs.word.with_registers.Tie as tie
 
