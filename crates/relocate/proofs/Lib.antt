@@ -2,5 +2,4 @@ pub mod Signed
 pub mod Scan
 pub mod Sweep
 pub mod Verdict
-pub mod Moves
-pub mod Tallied
+pub mod Callers

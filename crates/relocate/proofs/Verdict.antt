@@ -89,11 +89,11 @@ module _ (x : Slices) (n : ℕ) (d : ℤ) where
         accepts o = rw (f, s, found-none (firstIndex badMark 0 n (x .marks)) m, found-none (firstIndex (leaving d) 0 n (x .addresses)) o)
 
 -- what a move accepted at m places has passed
-pub record Passed (x : Slices) (d : ℤ) (m : ℕ) : Type 0 where
+pub record Cleared (x : Slices) (d : ℤ) (m : ℕ) : Type 0 where
   pub long : Long x m
   pub stays : firstIndex (leaving d) 0 m (x .addresses) ≡ none
 
-pub passed : (x : Slices) (n : ℕ) (d : ℤ) (m : ℕ) → answerOf (moveAnswer x n d) ≡ Accepted m → Passed x d m
+pub passed : (x : Slices) (n : ℕ) (d : ℤ) (m : ℕ) → answerOf (moveAnswer x n d) ≡ Accepted m → Cleared x d m
 unfolding moveAnswer
 passed x n d m e =
     let p = past-if (far d) 8 0 (told-accepted (moveAnswer x n d) m e) in

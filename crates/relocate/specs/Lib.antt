@@ -1,4 +1,2 @@
 pub mod Found
 pub mod Moved
-pub mod Moves
-pub mod Tallied

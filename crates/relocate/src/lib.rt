@@ -12,8 +12,6 @@ ghost use Rattle.answer.specs.Answer.{answerOf};
 ghost use Rattle.relocate.specs.Found.{foundOf, badMark, leaving};
 ghost use Rattle.relocate.specs.Moved.{Moved};
 ghost use Rattle.rules.specs.Assemble.{slices};
-ghost use Rattle.relocate.specs.Moves.{MovedAll};
-ghost use Rattle.answer.specs.Answer.{numberOf, placeOf};
 use answer::Answer;
 
 // A distance outside these is refused.
@@ -21,7 +19,7 @@ const MIN_DISTANCE: i32 = -1073741823;
 
 const MAX_DISTANCE: i32 = 1073741823;
 
-// The highest address of a list's place.
+// The highest address that a place may be moved to.
 const LAST_ADDRESS: i64 = 1073741825;
 
 // The lowest index of what is looked for, if there is one.
@@ -167,26 +165,4 @@ pub fn relocate(
         move_words(words, marks, n, distance);
     }
     verdict
-}
-
-// Makes the moves one after another; each answer goes into `numbers` and `places`, at its distance's index.
-pub fn relocate_all(
-    addresses: &mut [u32],
-    words: &mut [u16],
-    marks: &[u8],
-    count: usize,
-    distances: &[i32],
-    numbers: &mut [u8],
-    places: &mut [usize],
-)
-    requires { ⌜ (length (now distances) ≤ length (now numbers)) × (length (now distances) ≤ length (now places)) ⌝ }
-    ensures { λ _. ⌜ MovedAll (slices (now (addresses .entry)) (now (words .entry)) (now (marks .entry))) count (now (distances .entry)) (now (numbers .entry)) (now (places .entry)) (now (addresses .exit)) (now (words .exit)) (now (numbers .exit)) (now (places .exit)) ⌝ }
-{
-    let mut i = 0;
-    while i < distances.len() {
-        let verdict = relocate(addresses, words, marks, count, distances[i]);
-        numbers[i] = answer::number(verdict);
-        places[i] = answer::place(verdict);
-        i += 1;
-    }
 }

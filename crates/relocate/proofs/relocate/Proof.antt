@@ -6,7 +6,7 @@ use Rattle.rules.specs.Assemble.{Slices}
 use Rattle.rules.specs.Relocate.{moveAnswer}
 use Rattle.answer.specs.Answer.{answerOf}
 use Rattle.rules.specs.Assemble.{slices}
-use Rattle.relocate.proofs.Verdict.{Passed, passed, moved, kept}
+use Rattle.relocate.proofs.Verdict.{Cleared, passed, moved, kept}
 use Rattle.relocate.proofs.relocate.Statement.{statement}
 use Rattle.relocate.proofs.relocate.Tie as tie
 
@@ -24,7 +24,7 @@ lent s = slices (s .args .addresses .now) (s .args .words .now) (s .args .marks 
 judged : (c : tie.After-judge) → c .judge .result ≡ answerOf (moveAnswer (lent (entry c)) (entry c .args .count) (entry c .args .distance))
 judged c = rw (toZ-ofZ (entry c .fits .distance)) at (c .judge .ensures)
 
-accepted : (c : tie.After-known-told) → Passed (lent (entry-moving c)) (entry-moving c .args .distance) (c .before .verdict .given .0 .0)
+accepted : (c : tie.After-known-told) → Cleared (lent (entry-moving c)) (entry-moving c .args .distance) (c .before .verdict .given .0 .0)
 accepted c = passed _ _ _ _ (sym (judged (c .before .before .before)) ∙ c .before .verdict .given .1)
 
 judge-requires : tie.Need-judge-requires

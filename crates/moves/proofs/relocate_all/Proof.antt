@@ -1,13 +1,13 @@
--- `relocate::relocate_all` meets its contract. Assumes nothing.
+-- `moves::relocate_all` meets its contract. Assumes nothing.
 use Prim.Native.Nat.{_-_}
 use native.Mathlib.Omega.{arith}
 use lib.ListN.{length}
 use mir.Facts.{toZ-ofZ}
 use borrow.Author.Needs.{needs, sfits-of}
 use Rattle.rules.specs.Assemble.{slices}
-use Rattle.relocate.proofs.Moves.{Made, made-starts, made-steps, made-ends}
-use Rattle.relocate.proofs.relocate_all.Statement.{statement}
-use Rattle.relocate.proofs.relocate_all.Tie as tie
+use Rattle.moves.proofs.Moves.{Made, made-starts, made-steps, made-ends}
+use Rattle.moves.proofs.relocate_all.Statement.{statement}
+use Rattle.moves.proofs.relocate_all.Tie as tie
 
 abbrev Inv-loop : tie.InvT-loop
 Inv-loop addresses₀ words₀ marks count distances numbers₀ places₀ i₀ addresses words numbers places i =

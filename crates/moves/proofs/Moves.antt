@@ -8,32 +8,15 @@ use native.Mathlib.Omega.{arith}
 use lib.IntN.{ℤ, pos}
 use lib.ListN.{length, getD, set, take, drop, length-set, take-append-drop, drop-of-length-le}
 use lib.Seq.{drop-cons, take-suc-set, drop-set-lt}
-use Rattle.rules.specs.Answer.{Answer as Ruled, accepted, refused}
-use Rattle.rules.specs.Assemble.{Slices, over}
-use Rattle.rules.specs.Relocate.{moveAnswer, moveBy, moveSlices}
+use Rattle.rules.specs.Assemble.{Slices, slices, over}
+use Rattle.rules.specs.Relocate.{moveAnswer, moveSlices}
 use Rattle.rules.specs.Tally.{moves}
 use Rattle.answer.specs.declared.Answer.{Answer}
-use Rattle.answer.specs.Answer.{answerOf}
+use Rattle.answer.specs.Answer.{answerOf, numberOf, placeOf}
 use Rattle.relocate.specs.Moved.{Moved}
-use Rattle.rules.specs.Assemble.{slices}
-use Rattle.relocate.specs.Moves.{told, slicesAfter, MovedAll}
-use Rattle.answer.specs.Answer.{numberOf, placeOf}
-
--- marks stay, so a call leaves the three slices that the definition says
-keeps-marks : (a : Ruled ℕ) (d : ℤ) (x : Slices) → x .marks ≡ (moveBy a d x) .marks
-unfolding moveBy
-keeps-marks (accepted n) d x = refl
-keeps-marks (refused r p) d x = refl
-
-pub move-keeps-marks : (x : Slices) (n : ℕ) (d : ℤ) → x .marks ≡ (moveSlices x n d) .marks
-unfolding moveSlices
-move-keeps-marks x n d = keeps-marks (moveAnswer x n d) d x
-
-pub by-slice : (x : Slices) (xs ws ms : List ℕ) → xs ≡ x .addresses → ws ≡ x .words → ms ≡ x .marks → slices xs ws ms ≡ x
-by-slice x xs ws ms p q r = rw (p, q, r)
-
-after-move : {xs ws ms : List ℕ} {n : ℕ} {d : ℤ} {a : Answer} {xs′ ws′ : List ℕ} → Moved (slices xs ws ms) n d a xs′ ws′ → slices xs′ ws′ ms ≡ moveSlices (slices xs ws ms) n d
-after-move m = by-slice _ _ _ _ (m .addresses) (m .words) (move-keeps-marks _ _ _)
+use Rattle.relocate.proofs.Callers.{after-move}
+use Rattle.moves.specs.Moves.{told, slicesAfter, RelocateAllGives}
+use Rattle.moves.proofs.Tallied.{follows}
 
 -- one of the two numbers of each answer, written into the slice ns, which held ns₀: the first i stand, and the rest are those of the moves left
 pub record Told (f : Answer → ℕ) (n : ℕ) (x₀ x : Slices) (ds : List ℤ) (ns₀ ns : List ℕ) (i : ℕ) : Type 0 where
@@ -86,13 +69,16 @@ module _ {n : ℕ} {x₀ : Slices} {xs ws ms : List ℕ} {ds : List ℤ} {ns₀ 
         places = rw (after-move r) (told-steps placeOf n x₀ ds ps₀ _ ps i (m .places) h l p (f ∙ ap placeOf (r .answer)));
       }
 
-  pub made-ends : length ds ≤ i → MovedAll x₀ n ds ns₀ ps₀ xs ws ns ps
+  pub made-ends : length ds ≤ i → RelocateAllGives x₀ n ds ns₀ ps₀ xs ws ns ps
   unfolding slicesAfter
   made-ends h =
       let e = rw (drop-of-length-le ds h) at (m .after) in
+      let numbers = told-ends numberOf n x₀ ds ns₀ _ ns i (m .numbers) h in
+      let places = told-ends placeOf n x₀ ds ps₀ _ ps i (m .places) h in
       record {
         addresses = rw e;
         words = rw e;
-        numbers = told-ends numberOf n x₀ ds ns₀ _ ns i (m .numbers) h;
-        places = told-ends placeOf n x₀ ds ps₀ _ ps i (m .places) h;
+        numbers = numbers;
+        places = places;
+        follows = follows x₀ n ds (rw e) (rw e) numbers places;
       }
