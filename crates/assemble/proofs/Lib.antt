@@ -1,4 +1,2 @@
 pub mod Lists
-pub mod Refusals
-pub mod Below
 pub mod TwoPasses

@@ -1,119 +1,90 @@
--- The two passes: from what the first pass answered to the list, or to its refusal. Assumes nothing.
-use mathlib.Core.Path.{_≡_, refl, sym, ap, _∙_}
-use mathlib.Core.Bool.{Bool, true, false, false≢true}
-use mathlib.Core.Option.{Option, none, some}
-use mathlib.Core.List.{List, [], _∷_, _++_, flatMap}
-use Prim.Native.Nat.{ℕ, _+_, _*_, _≤_, _<_}
-use native.Mathlib.Nat.{zero-add}
-use native.Mathlib.Omega.{arith}
-use lib.Dec.{ltb}
-use borrow.Author.Tests.{ltb-true}
-use lib.ListN.{length, replicate, length-replicate}
-use Rattle.rules.specs.Limits.{maxSource, maxLabels, addressLimit}
+-- From what the first pass left to the call's outcome. Assumes nothing.
+use mathlib.Core.Path.{_≡_, sym, _∙_}
+use mathlib.Core.List.{List}
+use Prim.Native.Nat.{ℕ, _*_, _≤_}
+use borrow.Author.Tests.{le-leb}
+use lib.ListN.{length}
+use Rattle.rules.specs.Limits.{maxLines, addressLimit}
 use Rattle.rules.specs.Text.{Text, cutAt}
-use Rattle.rules.specs.Line.{Name, Body, Line, lineOf}
-use Rattle.rules.specs.Label.{Label, Table, find, recorded, hasRoom}
-use Rattle.rules.specs.Answer.{Answer as Ruled, accepted, refused, andThen}
-use Rattle.rules.specs.Assemble.{SourceLine, Step, halt, full, next, step, Pass, Place, Slices, firstPass, linesOf, dataPlaces, codePlaces, secondPassBy}
+use Rattle.rules.specs.Line.{size}
+use Rattle.rules.specs.Encode.{mnemonics, encode}
+use Rattle.rules.specs.Answer.{accepted, refused, refuseIf, andThen}
+use Rattle.rules.specs.Assemble.{Slices, checks, passAtBy, passAt, assembleBy, assemble, assembleAnswer, assembleSlices}
+use Rattle.promises.specs.Lawful.{RulesAreLawful}
+use Rattle.promises.specs.Longest.{AtMostALine, AtMostTwoALine}
+use Rattle.promises.proofs.Lawful.{rules-are-lawful}
+use Rattle.promises.proofs.Longest.{at-most-a-line, at-most-two-a-line}
+use Rattle.answer.specs.Answer.{answerOf}
 use Rattle.answer.specs.declared.Answer.{Answer}
-use Rattle.answer.specs.declared.Answer.the-variants.{Accepted, Refused}
-use Rattle.label.specs.Table.{cellOf, tableOf, Held, AllBelow, no-label}
-use Rattle.label.proofs.Rows.{below-recorded}
-use Rattle.label.proofs.Table.{held-zeros}
-use Rattle.scan.specs.Walk.{walk, low}
-use Rattle.scan.proofs.WalkLaws.{pass-walked}
-use Rattle.collect.specs.Collect.{collectedFrom, collectedOf, labelOf, namesOf, recordSome, stopLabels}
-use Rattle.collect.specs.Names.{Stored, RoomFor}
-use Rattle.collect.specs.Progress.{Setting, Passed}
-use Rattle.collect.specs.Keeping.{KeptLines}
-use Rattle.collect.specs.declared.Collected.{Collected}
-use Rattle.collect.specs.declared.Collected.the-variants.{Done}
-use Rattle.collect.specs.declared.Collected.the-variants.{Refused as Refuses}
-use Rattle.collect.proofs.Steps.{stop-accepted}
-use Rattle.collect.proofs.Naming.{room-less, room-rows, room-full}
-use Rattle.collect.proofs.Cells.{all-kept}
-use Rattle.emit.specs.Emit.{Values, Instructions, Walking, listOf, listBy}
-use Rattle.assemble.specs.Assembled.{Starting, Second, Gives, passesOf}
-use Rattle.assemble.proofs.Lists.{gives-refusal}
-use Rattle.assemble.proofs.Below.{stop-below}
+use Rattle.answer.specs.declared.Answer.the-variants.{Refused}
+use Rattle.source.specs.Clear.{Clear}
+use Rattle.source.proofs.Callers.{checks-clear, stopped}
+use Rattle.first.specs.Pass.{FirstPassNeeds, FirstPassGives, EnterGives, Holds}
+use Rattle.first.specs.declared.Pass.{Pass}
+use Rattle.first.specs.declared.Entered.{Entered}
+use Rattle.first.specs.declared.Entered.the-variants.{Done}
+use Rattle.first.specs.declared.Entered.the-variants.{Refused as Refuses}
+use Rattle.first.proofs.Callers.{first-enters, enter-refused, enter-base, enter-holds}
+use Rattle.assemble.specs.Assembled.{Outcome, Starting, PassesInNeeds, SecondPassNeeds, listOf, Assembled}
+use Rattle.assemble.proofs.Lists.{refusal}
 
--- what the code's answer says of the pass
-refused-pass : (x : Ruled Pass) (n k : ℕ) → Refuses n k ≡ collectedOf x → x ≡ refused n k
-unfolding collectedFrom
-refused-pass (accepted p) n k e = absurd (false≢true cc)
-refused-pass (refused m j) n k e = cc
+-- the list of a pass that the arrays hold
+holds-list : {s : Text} {table cells : List ℕ} {p : Pass} → Holds s table cells p → assemble (p .base) s ≡ accepted (listOf s table cells p)
+unfolding assembleBy andThen
+holds-list h = rw (h .passed)
 
-pub record Did (x : Ruled Pass) (labels values : ℕ) : Type 0 where
-  pub pass : Pass
-  pub is : x ≡ accepted pass
-  pub count : labels ≡ length (pass .labels)
-  pub words : values ≡ length (flatMap dataPlaces (pass .puts))
+-- "at most two a line"
+pub list-few : {s : Text} {table cells : List ℕ} {p : Pass} {lines : ℕ} → SecondPassNeeds s table cells p lines → length (listOf s table cells p) ≤ 2 * lines
+unfolding AtMostTwoALine
+list-few {s} {p = p} n = rw (n .lines-are) (at-most-two-a-line s (p .base) _ (holds-list (n .holds)) .0)
 
-did : (x : Ruled Pass) (labels values : ℕ) → Done labels values ≡ collectedOf x → Did x labels values
-unfolding collectedFrom
-did (accepted p) labels values e = record { pass = p; is = refl; count = cc; words = let f : values ≡ 0 + length (flatMap dataPlaces (p .puts)) = cc in omega arith }
-did (refused m j) labels values e = absurd (false≢true cc)
+-- and so few lines that twice their number is a `usize`
+pub lines-few : {s : Text} {table cells : List ℕ} {p : Pass} {lines : ℕ} → SecondPassNeeds s table cells p lines → lines ≤ maxLines
+unfolding AtMostALine RulesAreLawful
+lines-few {s} {p = p} n = rw (n .lines-are) (at-most-a-line size encode 2 (rules-are-lawful mnemonics) s (p .base) _ (holds-list (n .holds)) .1)
 
--- what the first pass needs, and room in the two tables
-pub first : {base lines : ℕ} {s : Text} {table : List ℕ} (cells : List ℕ) → Starting s base lines → Held s table 0 → RoomFor (2 * lines) table → 2 * lines ≤ length cells
-    → (Setting s base × Held s table 0 × RoomFor (2 * length (cutAt 10 s)) table) × (2 * length (cutAt 10 s) ≤ length cells)
-first cells p h r l = ((record { short = p .short; low = p .low }, h, room-less _ (omega (arith, p .lines-are)) r), omega (arith, p .lines-are))
+-- a refused pass is a refused call
+pass-refuses : (base : ℕ) (s : Text) (x : Slices) (n p : ℕ) → passAt base s ≡ refused n p → Outcome (assemble base s) x (Refused n p) x
+unfolding assembleBy andThen
+pass-refuses base s x n p e = refusal (assemble base s) x n p (rw e)
 
--- so many cells have room for the lines, two a line
-pub cells-room : (lines n : ℕ) → 2 * lines ≤ n → 2 * lines ≤ length {A = ℕ} (replicate n 0)
-cells-room lines n h = rw length-replicate h
+-- ---- by the first pass's answer
+pub first-needs : {s : Text} {base lines : ℕ} {table cells : List ℕ} → PassesInNeeds s base lines table cells → FirstPassNeeds s base table cells
+first-needs n =
+    record { short = n .starting .clear .short; few = n .starting .clear .few; low = n .starting .low; lent = n .lent }
 
--- a table of all labels has room for those of any lines
-pub full-room : (lines : ℕ) → RoomFor (2 * lines) (replicate (cellOf maxLabels) 0)
-full-room lines = room-full (2 * lines) (replicate (cellOf maxLabels) 0) (rw length-replicate (omega arith))
+module _ {s : Text} {base lines : ℕ} {table cells : List ℕ} {r : Entered} {table′ cells′ : List ℕ} (b : Starting s base lines) (g : FirstPassGives s base table cells r table′ cells′) where
+  entering : EnterGives s base table cells r table′ cells′
+  entering = first-enters s base (checks-clear s (b .clear)) (b .low) g
 
--- what is lent for lines of at most n labels: a table for these, and as many cells
-pub lent : (base lines : ℕ) (s : Text) (n : ℕ) → Starting s base lines → 2 * lines ≤ n
-    → Starting s base lines × Held s (replicate (cellOf n) 0) 0 × RoomFor (2 * lines) (replicate (cellOf n) 0) × (2 * lines ≤ length {A = ℕ} (replicate n 0))
-lent base lines s n p h =
-    (p, held-zeros s (cellOf n) (omega arith), room-less (2 * lines) h (room-rows n (replicate (cellOf n) 0) (rw length-replicate (omega arith))), cells-room lines n h)
+  -- refusals 5 and 6
+  pub pass-refused : (x : Slices) (n k : ℕ) → r ≡ Refuses n k → Outcome (assemble base s) x (Refused n k) x
+  pass-refused x n k e = pass-refuses base s x n k (enter-refused entering n k e)
 
--- refusals 5 and 6
-pub passes-refused : (base : ℕ) (s : Text) (cells after : List ℕ) (x : Slices) (r : Collected) (n k : ℕ) → Passed s base cells r after → r ≡ Refuses n k
-    → Gives (passesOf base s) x (Refused n k) x
-unfolding andThen
-passes-refused base s cells after x r n k p e =
-    gives-refusal (passesOf base s) x n k (rw (refused-pass (firstPass base base [] (linesOf s)) n k (sym e ∙ p .answer)))
+  module _ (p : Pass) (e : r ≡ Done p) where
+    pub second-needs : SecondPassNeeds s table′ cells′ p lines
+    second-needs = record { holds = enter-holds entering p e; lines-are = b .lines-are }
 
--- a pass that is done: what the second pass needs, and what it makes of it
-module _ (base : ℕ) (s : Text) (cells after : List ℕ) (r : Collected) (labels values : ℕ) (p : Passed s base cells r after) (e : r ≡ Done labels values)
-    (h : length s ≤ maxSource) (l : base < addressLimit) where
-  done : Did (firstPass base base [] (linesOf s)) labels values
-  done = did (firstPass base base [] (linesOf s)) labels values (sym e ∙ p .answer)
+    pub pass-done : (x y : Slices) (a : Answer) → Outcome (accepted (listOf s table′ cells′ p)) x a y → Outcome (assemble base s) x a y
+    pass-done x y a o =
+        let l : assemble base s ≡ accepted (listOf s table′ cells′ p) = rw (← enter-base entering p e) (holds-list (enter-holds entering p e)) in
+        rw l o
 
-  stop-is : stopLabels base base [] (linesOf s) ≡ done .pass .labels
-  stop-is = stop-accepted base base [] (linesOf s) (done .pass) (done .is)
+-- ---- a call by its list
+by-outcome : (base : ℕ) (s : Text) (x y : Slices) (r : Answer) → Outcome (assemble base s) x r y → Assembled base s x r y
+unfolding assembleAnswer assembleSlices
+by-outcome base s x y r o = record { answer = o .answer; slices = o .slices }
 
-  table-is : tableOf s after labels ≡ done .pass .labels
-  table-is = ap (tableOf s after) (done .count ∙ ap length (sym stop-is)) ∙ p .stored .table ∙ stop-is
+module _ (base : ℕ) (s : Text) (x : Slices) where
+  -- refusals 1 to 3
+  pub call-checked : (r : Answer) → r ≡ answerOf (checks s (accepted (length (cutAt 10 s)))) → (n p : ℕ) → r ≡ Refused n p → Assembled base s x r x
+  unfolding passAtBy
+  call-checked r e n p f = rw f (by-outcome base s x x _ (pass-refuses base s x n p (stopped s n p (sym f ∙ e) _)))
 
-  walking : Walking s base after labels
-  walking =
-      record {
-        short = h;
-        base-below = l;
-        held = rw (done .count ∙ ap length (sym stop-is)) (p .stored .held);
-        labels-below = rw (table-is ∙ sym stop-is) (stop-below base base [] (linesOf s) l no-label);
-        stays = pass-walked base base [] (linesOf s) (done .pass) (done .is) .stays;
-      }
+  -- refusal 4
+  pub call-4 : Clear s → addressLimit ≤ base → Assembled base s x (Refused 4 0) x
+  unfolding passAtBy refuseIf
+  call-4 c h = by-outcome base s x x _ (pass-refuses base s x 4 0 (checks-clear s c _ ∙ rw (le-leb addressLimit base h)))
 
-  puts-is : done .pass .puts ≡ walk base base (linesOf s)
-  puts-is = pass-walked base base [] (linesOf s) (done .pass) (done .is) .puts
-
-  values-is : values ≡ length (listOf Values (tableOf s after labels) base s)
-  values-is = done .words ∙ ap (λ ps. length (flatMap dataPlaces ps)) puts-is
-
-  pub second : (lines : ℕ) (cells kept : List ℕ) → lines ≡ length (cutAt 10 s) → KeptLines s r cells kept → Second s base after kept labels values lines
-  second lines cells kept k a = record { walking = walking; kept = all-kept s r cells kept labels values e a; values-are = values-is; lines-are = k }
-
-  list-is : passesOf base s ≡ accepted (listBy (tableOf s after labels) base s)
-  unfolding andThen secondPassBy
-  list-is = rw (done .is, puts-is, table-is)
-
-  pub passes-done : (x y : Slices) (a : Answer) → Gives (accepted (listBy (tableOf s after labels) base s)) x a y → Gives (passesOf base s) x a y
-  passes-done x y a g = rw list-is g
+  pub call-passes : (y : Slices) (r : Answer) → Outcome (assemble base s) x r y → Assembled base s x r y
+  call-passes y r o = by-outcome base s x y r o

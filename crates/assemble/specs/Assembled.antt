@@ -1,18 +1,18 @@
 -- What an assembling call gives: its answer, and the three lent slices afterwards. Assumes nothing.
 use mathlib.Core.Path.{_≡_}
-use Prim.Native.Nat.{ℕ, _≤_, _<_}
+use Prim.Native.Nat.{ℕ, _<_}
 use mathlib.Core.Bool.{Bool, true, false}
-use mathlib.Core.List.{List, []}
+use mathlib.Core.List.{List}
 use lib.ListN.{length}
-use Rattle.rules.specs.Limits.{maxSource, maxLines, addressLimit}
+use Rattle.rules.specs.Limits.{addressLimit}
 use Rattle.rules.specs.Text.{Text, cutAt}
 use Rattle.rules.specs.Answer.{Answer as Ruled, andThen}
-use Rattle.rules.specs.Assemble.{Place, Slices, short, room, writeList, firstPass, wordsOf, encoded, linesOf, assembleAnswer, assembleSlices}
+use Rattle.rules.specs.Assemble.{Place, Slices, short, room, writeList, secondPass, assembleAnswer, assembleSlices}
 use Rattle.answer.specs.Answer.{answerOf}
 use Rattle.answer.specs.declared.Answer.{Answer}
-use Rattle.label.specs.Table.{tableOf}
-use Rattle.kept.specs.Lines.{AllKept}
-use Rattle.emit.specs.Emit.{Values, listOf, Walking}
+use Rattle.source.specs.Clear.{Clear}
+use Rattle.first.specs.Pass.{passIn, Lent, Holds}
+use Rattle.first.specs.declared.Pass.{Pass}
 use Rattle.assemble.specs.declared.Fit.{Fit}
 use Rattle.assemble.specs.declared.Fit.the-variants.{Fits, Short}
 
@@ -21,16 +21,15 @@ abbrev pub called : Ruled (List Place) → Slices → Ruled ℕ
 called list x = andThen list (room x)
 
 -- what a call gives from there
-pub record Gives (list : Ruled (List Place)) (x : Slices) (r : Answer) (y : Slices) : Type 0 where
+pub record Outcome (list : Ruled (List Place)) (x : Slices) (r : Answer) (y : Slices) : Type 0 where
   pub answer : r ≡ answerOf (called list x)
   pub slices : y ≡ writeList list x
 
--- what both passes need: a source and a base within the limits, and how many lines there are
+-- a source that refusals 1 to 4 let pass, and how many lines it has
 pub record Starting (source : Text) (base lines : ℕ) : Type 0 where
-  pub short : length source ≤ maxSource
+  pub clear : Clear source
   pub low : base < addressLimit
   pub lines-are : lines ≡ length (cutAt 10 source)
-  pub few : lines ≤ maxLines
 
 -- so many lines have room for their labels in the small table, and so many in the middle one
 abbrev pub shortLines : ℕ
@@ -39,12 +38,19 @@ shortLines = 32
 abbrev pub middleLines : ℕ
 middleLines = 256
 
--- what the second pass needs: the labels, the lines kept and the data words of the first, and how many lines there are
-pub record Second (source : Text) (base : ℕ) (table cells : List ℕ) (labels values lines : ℕ) : Type 0 where
-  pub walking : Walking source base table labels
-  pub kept : AllKept source cells
-  pub values-are : values ≡ length (listOf Values (tableOf source table labels) base source)
+-- what both passes need: a source to start from, a table and cells
+pub record PassesInNeeds (source : Text) (base lines : ℕ) (table cells : List ℕ) : Type 0 where
+  pub starting : Starting source base lines
+  pub lent : Lent source table cells
+
+-- what the second pass needs: what the first left, and how many lines there are
+pub record SecondPassNeeds (source : Text) (table cells : List ℕ) (pass : Pass) (lines : ℕ) : Type 0 where
+  pub holds : Holds source table cells pass
   pub lines-are : lines ≡ length (cutAt 10 source)
+
+-- the list of what the first pass left
+abbrev pub listOf : Text → List ℕ → List ℕ → Pass → List Place
+listOf source table cells pass = secondPass (passIn source table cells pass)
 
 -- whether a list fits into the slices, and else its length
 abbrev pub fitBy : Bool → ℕ → Fit
@@ -53,10 +59,6 @@ fitBy false n = Fits
 
 abbrev pub fitOf : List Place → Slices → Fit
 fitOf l x = fitBy (short x (length l)) (length l)
-
--- both passes
-abbrev pub passesOf : ℕ → Text → Ruled (List Place)
-passesOf base source = andThen (firstPass base base [] (linesOf source)) (encoded wordsOf)
 
 -- the contract of `assemble`: by paper 01, the answer and every place of the slices
 pub record Assembled (base : ℕ) (source : Text) (x : Slices) (r : Answer) (y : Slices) : Type 0 where

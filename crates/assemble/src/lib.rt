@@ -1,15 +1,12 @@
 // The assembler: refusals 1 to 7, and the list of a source at a base in three lent slices.
 use answer::Answer;
-use collect::Collected;
+use first::Entered;
+use first::Pass;
 ghost use mathlib.Core.Path.{_≡_};
-ghost use Prim.Native.Nat.{_*_, _≤_};
-ghost use lib.ListN.{length};
+ghost use Prim.Native.Nat.{_≤_};
 ghost use Rattle.rules.specs.Answer.{accepted};
-ghost use Rattle.rules.specs.Assemble.{slices};
-ghost use Rattle.label.specs.Table.{tableOf, Held};
-ghost use Rattle.collect.specs.Names.{RoomFor};
-ghost use Rattle.emit.specs.Emit.{listBy};
-ghost use Rattle.assemble.specs.Assembled.{Second, fitOf, Gives, Starting, shortLines, middleLines, passesOf, Assembled};
+ghost use Rattle.rules.specs.Assemble.{slices, assemble as ruled};
+ghost use Rattle.assemble.specs.Assembled.{SecondPassNeeds, PassesInNeeds, listOf, fitOf, Outcome, Starting, shortLines, middleLines, Assembled};
 
 // Whether the slices have room for the list: if not, how many places it has.
 enum Fit {
@@ -20,35 +17,22 @@ enum Fit {
 // Looks whether the list fits. It is counted only where two places a line, the most that it has, would not.
 fn fit_list(
     source: &[u8],
-    base: u32,
     table: &[u32],
-    labels: usize,
     cells: &[u32],
-    values: usize,
+    pass: Pass,
     lines: usize,
     addresses: &mut [u32],
     words: &mut [u16],
     marks: &mut [u8],
 ) -> Fit
-    requires { ⌜ Second (now source) base (now table) (now cells) labels values lines ⌝ }
-    ensures { λ r. ⌜ r ≡ fitOf (listBy (tableOf (now (source .entry)) (now (table .entry)) labels) base (now (source .entry))) (slices (now (addresses .entry)) (now (words .entry)) (now (marks .entry))) ⌝ }
+    requires { ⌜ SecondPassNeeds (now source) (now table) (now cells) pass lines ⌝ }
+    ensures { λ r. ⌜ r ≡ fitOf (listOf (now (source .entry)) (now (table .entry)) (now (cells .entry)) pass) (slices (now (addresses .entry)) (now (words .entry)) (now (marks .entry))) ⌝ }
     ensures { λ _. ⌜ slices (now (addresses .exit)) (now (words .exit)) (now (marks .exit)) ≡ slices (now (addresses .entry)) (now (words .entry)) (now (marks .entry)) ⌝ }
 {
     if !answer::is_short(addresses, words, marks, 2 * lines) {
         return Fit::Fits;
     }
-    let count = emit::emit_words(
-        false,
-        source,
-        base,
-        table,
-        labels,
-        cells,
-        values,
-        addresses,
-        words,
-        marks,
-    );
+    let count = emit::emit_words(false, source, table, cells, pass, addresses, words, marks);
     if answer::is_short(addresses, words, marks, count) {
         return Fit::Short(count);
     }
@@ -58,46 +42,22 @@ fn fit_list(
 // The second pass: refusal 7, or the words.
 fn second_pass(
     source: &[u8],
-    base: u32,
     table: &[u32],
-    labels: usize,
     cells: &[u32],
-    values: usize,
+    pass: Pass,
     lines: usize,
     addresses: &mut [u32],
     words: &mut [u16],
     marks: &mut [u8],
 ) -> Answer
-    requires { ⌜ Second (now source) base (now table) (now cells) labels values lines ⌝ }
-    ensures { λ r. ⌜ Gives (accepted (listBy (tableOf (now (source .entry)) (now (table .entry)) labels) base (now (source .entry)))) (slices (now (addresses .entry)) (now (words .entry)) (now (marks .entry))) r (slices (now (addresses .exit)) (now (words .exit)) (now (marks .exit))) ⌝ }
+    requires { ⌜ SecondPassNeeds (now source) (now table) (now cells) pass lines ⌝ }
+    ensures { λ r. ⌜ Outcome (accepted (listOf (now (source .entry)) (now (table .entry)) (now (cells .entry)) pass)) (slices (now (addresses .entry)) (now (words .entry)) (now (marks .entry))) r (slices (now (addresses .exit)) (now (words .exit)) (now (marks .exit))) ⌝ }
 {
-    let room = fit_list(
-        source,
-        base,
-        table,
-        labels,
-        cells,
-        values,
-        lines,
-        addresses,
-        words,
-        marks,
-    );
+    let room = fit_list(source, table, cells, pass, lines, addresses, words, marks);
     if let Fit::Short(count) = room {
         return Answer::Refused(7, count);
     }
-    let count = emit::emit_words(
-        true,
-        source,
-        base,
-        table,
-        labels,
-        cells,
-        values,
-        addresses,
-        words,
-        marks,
-    );
+    let count = emit::emit_words(true, source, table, cells, pass, addresses, words, marks);
     Answer::Accepted(count)
 }
 
@@ -112,24 +72,13 @@ fn passes_in(
     words: &mut [u16],
     marks: &mut [u8],
 ) -> Answer
-    requires { ⌜ Starting (now source) base lines × Held (now source) (now table) 0 × RoomFor (2 * lines) (now table) × (2 * lines ≤ length (now cells)) ⌝ }
-    ensures { λ r. ⌜ Gives (passesOf base (now (source .entry))) (slices (now (addresses .entry)) (now (words .entry)) (now (marks .entry))) r (slices (now (addresses .exit)) (now (words .exit)) (now (marks .exit))) ⌝ }
+    requires { ⌜ PassesInNeeds (now source) base lines (now table) (now cells) ⌝ }
+    ensures { λ r. ⌜ Outcome (ruled base (now (source .entry))) (slices (now (addresses .entry)) (now (words .entry)) (now (marks .entry))) r (slices (now (addresses .exit)) (now (words .exit)) (now (marks .exit))) ⌝ }
 {
-    match collect::first_pass(source, base, table, cells) {
-        Collected::Refused(n, p) => Answer::Refused(n, p),
-        Collected::Done(labels, values) => {
-            second_pass(
-                source,
-                base,
-                table,
-                labels,
-                cells,
-                values,
-                lines,
-                addresses,
-                words,
-                marks,
-            )
+    match first::first_pass(source, base, table, cells) {
+        Entered::Refused(n, p) => Answer::Refused(n, p),
+        Entered::Done(pass) => {
+            second_pass(source, table, cells, pass, lines, addresses, words, marks)
         }
     }
 }
@@ -149,7 +98,7 @@ fn short_passes(
     marks: &mut [u8],
 ) -> Answer
     requires { ⌜ Starting (now source) base lines × (lines ≤ shortLines) ⌝ }
-    ensures { λ r. ⌜ Gives (passesOf base (now (source .entry))) (slices (now (addresses .entry)) (now (words .entry)) (now (marks .entry))) r (slices (now (addresses .exit)) (now (words .exit)) (now (marks .exit))) ⌝ }
+    ensures { λ r. ⌜ Outcome (ruled base (now (source .entry))) (slices (now (addresses .entry)) (now (words .entry)) (now (marks .entry))) r (slices (now (addresses .exit)) (now (words .exit)) (now (marks .exit))) ⌝ }
 {
     let mut table = [0u32; label::SMALL];
     let mut cells = [0u32; 2 * SHORT];
@@ -175,7 +124,7 @@ fn middle_passes(
     marks: &mut [u8],
 ) -> Answer
     requires { ⌜ Starting (now source) base lines × (lines ≤ middleLines) ⌝ }
-    ensures { λ r. ⌜ Gives (passesOf base (now (source .entry))) (slices (now (addresses .entry)) (now (words .entry)) (now (marks .entry))) r (slices (now (addresses .exit)) (now (words .exit)) (now (marks .exit))) ⌝ }
+    ensures { λ r. ⌜ Outcome (ruled base (now (source .entry))) (slices (now (addresses .entry)) (now (words .entry)) (now (marks .entry))) r (slices (now (addresses .exit)) (now (words .exit)) (now (marks .exit))) ⌝ }
 {
     let mut table = [0u32; label::MIDDLE];
     let mut cells = [0u32; 2 * MIDDLE];
@@ -201,7 +150,7 @@ fn long_passes(
     marks: &mut [u8],
 ) -> Answer
     requires { ⌜ Starting (now source) base lines ⌝ }
-    ensures { λ r. ⌜ Gives (passesOf base (now (source .entry))) (slices (now (addresses .entry)) (now (words .entry)) (now (marks .entry))) r (slices (now (addresses .exit)) (now (words .exit)) (now (marks .exit))) ⌝ }
+    ensures { λ r. ⌜ Outcome (ruled base (now (source .entry))) (slices (now (addresses .entry)) (now (words .entry)) (now (marks .entry))) r (slices (now (addresses .exit)) (now (words .exit)) (now (marks .exit))) ⌝ }
 {
     let mut table = [0u32; label::TABLE];
     let mut cells = [0u32; 2 * rules::MAX_LINES];
@@ -227,7 +176,7 @@ fn passes(
     marks: &mut [u8],
 ) -> Answer
     requires { ⌜ Starting (now source) base lines ⌝ }
-    ensures { λ r. ⌜ Gives (passesOf base (now (source .entry))) (slices (now (addresses .entry)) (now (words .entry)) (now (marks .entry))) r (slices (now (addresses .exit)) (now (words .exit)) (now (marks .exit))) ⌝ }
+    ensures { λ r. ⌜ Outcome (ruled base (now (source .entry))) (slices (now (addresses .entry)) (now (words .entry)) (now (marks .entry))) r (slices (now (addresses .exit)) (now (words .exit)) (now (marks .exit))) ⌝ }
 {
     if lines <= SHORT {
         return short_passes(source, base, lines, addresses, words, marks);
@@ -249,17 +198,10 @@ pub fn assemble(
 ) -> Answer
     ensures { λ r. ⌜ Assembled base (now (source .entry)) (slices (now (addresses .entry)) (now (words .entry)) (now (marks .entry))) r (slices (now (addresses .exit)) (now (words .exit)) (now (marks .exit))) ⌝ }
 {
-    if rules::MAX_SOURCE < source.len() {
-        return Answer::Refused(1, source.len());
-    }
-    let high = scan::first_high(source);
-    if let text::Found::At(i) = high {
-        return Answer::Refused(2, i);
-    }
-    let lines = scan::count_lines(source);
-    if rules::MAX_LINES < lines {
-        return Answer::Refused(3, lines);
-    }
+    let checked = source::check_source(source);
+    let Answer::Accepted(lines) = checked else {
+        return checked;
+    };
     if rules::ADDRESS_LIMIT <= base {
         return Answer::Refused(4, 0);
     }

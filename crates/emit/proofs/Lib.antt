@@ -1,9 +1,7 @@
-pub mod Columns
+pub mod Stores
 pub mod Slices
-pub mod Halves
 pub mod LineCode
-pub mod Reading
-pub mod Ahead
-pub mod Passes
-pub mod Turns
+pub mod Filled
+pub mod Lines
 pub mod Callers
+pub mod Emitting

@@ -1,82 +1,114 @@
--- A line's code, by its body; its places are those of the line's put. Assumes nothing.
-use mathlib.Core.Path.{_≡_, refl}
-use mathlib.Core.Bool.{true, false≢true}
-use mathlib.Core.Option.{Option, none, some}
-use mathlib.Core.List.{[]}
-use Prim.Native.Nat.{ℕ, _/_, _%_, _≤_}
+-- The words of a line by its task: a value's, an instruction's, or none. Assumes nothing.
+use mathlib.Core.Path.{_≡_, refl, sym}
+use mathlib.Core.Bool.{Bool, true, false}
+use mathlib.Core.List.{List, [], _∷_}
+use Prim.Native.Nat.{ℕ, _+_, _/_, _%_, _≤_}
 use native.Mathlib.Omega.{arith}
+use native.Mathlib.Nat.{add-zero}
+use lib.ListN.{length, length-take, length-drop}
+use types.Run.{OneOf, miss}
+use denote.Enum.Declared.{tagOf}
+use Rattle.rules.specs.Limits.{maxSource}
 use Rattle.rules.specs.Text.{Text}
-use Rattle.rules.specs.Line.{Body, bare, directive, instruction, instructionOf, Line, skipped, end, org, item}
+use Rattle.rules.specs.Line.{instructionOf}
 use Rattle.rules.specs.Label.{Table}
-use Rattle.rules.specs.Assemble.{placeOf, placesAt, valueCells, dataCells, dataPlaces, codePlacesBy}
-use Rattle.scan.specs.Walk.{addressAfter, bodyOf, isEnd}
+use Rattle.rules.specs.Encode.{encode}
+use Rattle.rules.specs.Assemble.{Place, Slices, placeOf, placesAt, dataCells, dataPlaces, codeCellsBy, codePlacesBy, codePlaces}
+use Rattle.text.specs.declared.Span.{Span}
+use Rattle.text.specs.Spans.{spanText, SpanIn}
+use Rattle.line.specs.Line.{TaskIn}
+use Rattle.line.specs.declared.Task.{Task}
+use Rattle.line.specs.declared.Task.the-variants.{Skipped, End, Org, NoOrg, LabelOnly, Instruction, Value, Space}
+use Rattle.line.proofs.Task.{the-type}
+use Rattle.cells.specs.Cells.{dataWords}
 use Rattle.encode.specs.Code.{codeOf, placesOf, codeLength}
+use Rattle.encode.specs.Near.{Near}
 use Rattle.encode.specs.declared.Code.{Code}
-use Rattle.encode.specs.declared.Code.the-variants.{Nothing, Word, Value as Code·Value, Label}
-use Rattle.encode.specs.Body.{encodeBody}
-use Rattle.encode.proofs.Callers.{body-places}
-use Rattle.emit.specs.Emit.{Part, Values, Instructions, partPlaces}
-use Rattle.emit.specs.Read.{dataCode, codeIn}
+use Rattle.encode.specs.declared.Code.the-variants.{Value as WithValue}
+use Rattle.encode.proofs.Callers.{encode-places, code-words}
+use Rattle.emit.specs.Emit.{Room, RoomIf, putOf, Taken, EncodeTaskNeeds}
+use Rattle.emit.specs.declared.Turn.{Turn}
+use Rattle.emit.proofs.Slices.{put-none}
 
--- at most two words
-pub code-two : (c : Code) → codeLength c ≤ 2
-code-two Nothing = omega arith
-code-two (Word w) = omega arith
-code-two (Code·Value w v) = omega arith
-code-two (Label w x) = omega arith
+-- ---- data words
+abbrev pub NoValue : Task → Type 0
+NoValue task = OneOf (0 ∷ 1 ∷ 2 ∷ 3 ∷ 4 ∷ 5 ∷ 7 ∷ []) (tagOf the-type task)
 
-module _ (t : Table) (a : ℕ) where
-  -- a code loses no word
-  pub code-places : (part : Part) (b : Body) → placesOf a (codeIn part t a b) ≡ partPlaces part t (record { address = a; body = b })
-  unfolding dataPlaces codePlacesBy dataCells valueCells placesAt placeOf
-  code-places Values bare = refl
-  code-places Values (directive n none) = refl
-  code-places Values (directive n (some v)) = refl
-  code-places Values (instruction m f ps) = refl
-  code-places Instructions b = body-places t a b
+module _ (source : Text) (a : ℕ) where
+  pub no-value : (task : Task) → NoValue task → dataPlaces (putOf source a task) ≡ []
+  unfolding dataPlaces dataCells placesAt
+  no-value Skipped h = refl
+  no-value End h = refl
+  no-value (Org v) h = refl
+  no-value NoOrg h = refl
+  no-value LabelOnly h = refl
+  no-value (Instruction s) h = refl
+  no-value (Value n v) h = absurd (miss (0 ∷ 1 ∷ 2 ∷ 3 ∷ 4 ∷ 5 ∷ 7 ∷ []) 6 tt h)
+  no-value (Space n) h = refl
 
-  -- END puts nothing, and leaves the address
-  pub end-places : (part : Part) (l : Line) → isEnd l ≡ true → placesOf a (codeIn part t a (bodyOf l)) ≡ []
-  unfolding isEnd bodyOf dataCells encodeBody
-  end-places part skipped e = absurd (false≢true e)
-  end-places Values end e = refl
-  end-places Instructions end e = refl
-  end-places part (org v) e = absurd (false≢true e)
-  end-places part (item ns b) e = absurd (false≢true e)
+  pub value-places : (task : Task) (n v x y : ℕ) → task ≡ Value n v → x ≡ v / 65536 → y ≡ v % 65536
+      → placesOf a (WithValue x y) ≡ dataPlaces (putOf source a task)
+  unfolding dataPlaces dataCells placesAt placeOf
+  value-places task n v x y e p q = rw (e, p, q)
 
-pub end-after : (base a : ℕ) (l : Line) → isEnd l ≡ true → addressAfter base a l ≡ a
-unfolding isEnd addressAfter
-end-after base a skipped e = refl
-end-after base a end e = refl
-end-after base a (org v) e = absurd (false≢true e)
-end-after base a (item ns b) e = absurd (false≢true e)
+-- ---- instruction words
+abbrev pub NoInstruction : Task → Type 0
+NoInstruction task = OneOf (0 ∷ 1 ∷ 2 ∷ 3 ∷ 4 ∷ 6 ∷ 7 ∷ []) (tagOf the-type task)
 
--- ---- the code of a body
-module _ (b : Body) where
-  pub no-value : b ≡ bare → Nothing ≡ dataCode b
-  unfolding dataCells
-  no-value e = rw e
+module _ (t : Table) (source : Text) (a : ℕ) where
+  pub no-instruction : (task : Task) → NoInstruction task → codePlaces t (putOf source a task) ≡ []
+  unfolding codePlacesBy codeCellsBy placesAt
+  no-instruction Skipped h = refl
+  no-instruction End h = refl
+  no-instruction (Org v) h = refl
+  no-instruction NoOrg h = refl
+  no-instruction LabelOnly h = refl
+  no-instruction (Instruction s) h = absurd (miss (0 ∷ 1 ∷ 2 ∷ 3 ∷ 4 ∷ 6 ∷ 7 ∷ []) 5 tt h)
+  no-instruction (Value n v) h = refl
+  no-instruction (Space n) h = refl
 
-  pub no-number : (n : ℕ) → b ≡ directive n none → Nothing ≡ dataCode b
-  unfolding dataCells valueCells
-  no-number n e = rw e
+  pub instruction-places : (task : Task) (s : Span) (r : Code) → task ≡ Instruction s → r ≡ codeOf (encode t a (instructionOf (spanText source s)))
+      → placesOf a r ≡ codePlaces t (putOf source a task)
+  unfolding codePlacesBy codeCellsBy
+  instruction-places task s r e f = rw (e, f) (encode-places t a (instructionOf (spanText source s)))
 
-  pub value-words : (n k x y : ℕ) → b ≡ directive n (some k) → x ≡ k / 65536 → y ≡ k % 65536 → Code·Value x y ≡ dataCode b
-  unfolding dataCells valueCells
-  value-words n k x y e p q = rw (e, p, q)
+-- ---- an instruction's text
+module _ (source : Text) (task : Task) (s : Span) (e : task ≡ Instruction s) where
+  pub span-in : TaskIn source task → SpanIn source s
+  span-in h = rw e at h
 
-  pub no-data : (s : Text) → b ≡ instructionOf s → Nothing ≡ dataCode b
-  unfolding dataCells instructionOf
-  no-data s e = rw e
+  -- it can be encoded
+  pub instruction-near : {table : List ℕ} {labels : ℕ} {turn : Turn} {x : Slices} → EncodeTaskNeeds source table labels turn task x
+      → Near source table labels (turn .address) × (length (spanText source s) ≤ maxSource)
+  instruction-near h =
+      let i = span-in (h .within) in
+      (h .near, simp (length-take, length-drop) (omega (arith, h .short, i)))
 
-  module _ (t : Table) (a : ℕ) where
-    pub no-code : b ≡ bare → Nothing ≡ codeOf (encodeBody t a b)
-    unfolding encodeBody
-    no-code e = rw e
+-- ---- room for words, and words taken
+module _ (code d : Code) (e : code ≡ d) where
+  pub room-for : (n : ℕ) (x : Slices) → Room (n + codeLength code) x → Room (n + codeLength d) x
+  room-for n x h = rw e at h
 
-    pub data-no-code : (n : ℕ) (v : Option ℕ) → b ≡ directive n v → Nothing ≡ codeOf (encodeBody t a b)
-    unfolding encodeBody
-    data-no-code n v e = rw e
+  pub taken-code : (n a : ℕ) (x : Slices) (r : ℕ) (x′ : Slices) → Taken true n (placesOf a d) x r x′ → Taken true n (placesOf a code) x r x′
+  taken-code n a x r x′ h = rw e h
 
-    pub body-code : (s : Text) (r : Code) → b ≡ instructionOf s → r ≡ codeOf (encodeBody t a (instructionOf s)) → r ≡ codeOf (encodeBody t a b)
-    body-code s r e f = rw e f
+pub value-room : (task : Task) (n v : ℕ) (write : Bool) (m : ℕ) (x : Slices) → task ≡ Value n v → RoomIf write (m + dataWords task) x → RoomIf write (m + 2) x
+value-room task n v write m x e h = rw e at h
+
+pub places-room : (a : ℕ) (c : Code) (l : List Place) (write : Bool) (n : ℕ) (x : Slices) → placesOf a c ≡ l → RoomIf write (n + length l) x → RoomIf write (n + codeLength c) x
+places-room a c l write n x e h = rw (← code-words a c, e) h
+
+module _ {write : Bool} {n r : ℕ} {k : List Place} {x x′ : Slices} where
+  pub taken-as : (l : List Place) → k ≡ l → Taken write n k x r x′ → Taken write n l x r x′
+  taken-as l e h = rw e at h
+
+wanted-none : (write : Bool) (n : ℕ) (x : Slices) → Taken write n [] x n x
+wanted-none true n x = record { count = sym (add-zero n); put = sym (put-none n x) }
+wanted-none false n x = record { count = sym (add-zero n); put = sym (put-none n x) }
+
+pub taken-none : (write : Bool) (n : ℕ) (l : List Place) (x : Slices) → l ≡ [] → Taken write n l x n x
+taken-none write n l x e = rw e (wanted-none write n x)
+
+-- only counted
+pub taken-counted : (write : Bool) (n a : ℕ) (c : Code) (x : Slices) (m : ℕ) → write ≡ false → m ≡ codeLength c → Taken write n (placesOf a c) x (n + m) x
+taken-counted write n a c x m e f = rw (e, f) (record { count = rw (code-words a c); put = sym (put-none n x) })

@@ -1,77 +1,86 @@
--- Places stored in the three slices: how many, one after another, and as columns of the list. Assumes nothing.
+-- Places put into the three slices: the laws of stores, for all three at once. Assumes nothing.
 use mathlib.Core.Path.{_≡_, refl, ap, _∙_}
 use mathlib.Core.List.{List, [], _∷_, _++_, map, map-append}
-use Prim.Native.Nat.{ℕ, _+_, _≤_}
+use Prim.Native.Nat.{ℕ, _+_, _-_, _≤_}
 use native.Mathlib.Numerals.{add-one}
-use native.Mathlib.Omega.{arith}
-use lib.ListN.{length, length-append, length-map}
+use lib.ListN.{length, take, drop, length-map}
 use lib.Seq.{sets, length-sets}
-use Rattle.rules.specs.Assemble.{Place, over}
-use Rattle.encode.specs.Code.{placesOf, codeLength}
-use Rattle.encode.specs.declared.Code.{Code}
-use Rattle.encode.proofs.Callers.{code-words}
-use Rattle.emit.specs.Emit.{Room}
-use Rattle.emit.specs.Read.{Stored}
-use Rattle.emit.proofs.Columns.{Column, column-start, column-more, column-end}
+use borrow.Rule.Slice.PartMut.{putMid}
+use Rattle.rules.specs.Assemble.{Place, Slices, slices, over, holding}
+use Rattle.emit.specs.Emit.{putFrom, Room}
+use Rattle.emit.proofs.Stores.{sets-append, sets-swap, sets-lent, sets-over}
+
+-- ---- one field of the places
+module _ (f : Place → ℕ) where
+  field-append : (l k : List Place) (n : ℕ) (xs : List ℕ) → sets xs n (map f (l ++ k)) ≡ sets (sets xs n (map f l)) (n + length l) (map f k)
+  field-append l k n xs = rw (map-append f l k, ← length-map l f) (sets-append (map f l) (map f k) xs n)
+
+  field-swap : (l k : List Place) (i j : ℕ) (xs : List ℕ) → i + length l ≤ j → sets (sets xs j (map f k)) i (map f l) ≡ sets (sets xs i (map f l)) j (map f k)
+  field-swap l k i j xs h = sets-swap (map f l) (map f k) xs i j (rw (length-map l f) h)
+
+  field-over : (l : List Place) (xs : List ℕ) → length l ≤ length xs → sets xs 0 (map f l) ≡ over (map f l) xs
+  field-over l xs h = sets-over (map f l) xs (rw (length-map l f) h)
+
+-- ---- all three
+pub put-append : (l k : List Place) (n : ℕ) (x : Slices) → putFrom n (l ++ k) x ≡ putFrom (n + length l) k (putFrom n l x)
+unfolding putFrom
+put-append l k n x =
+    rw (field-append (λ p. p .address) l k n (x .addresses), field-append (λ p. p .word) l k n (x .words), field-append (λ p. p .mark) l k n (x .marks))
+
+pub put-swap : (l k : List Place) (i j : ℕ) (x : Slices) → i + length l ≤ j → putFrom i l (putFrom j k x) ≡ putFrom j k (putFrom i l x)
+unfolding putFrom
+put-swap l k i j x h =
+    rw (field-swap (λ p. p .address) l k i j (x .addresses) h, field-swap (λ p. p .word) l k i j (x .words) h, field-swap (λ p. p .mark) l k i j (x .marks) h)
+
+pub put-holding : (l : List Place) (x : Slices) → Room (length l) x → putFrom 0 l x ≡ holding l x
+unfolding putFrom holding
+put-holding l x r =
+    rw (field-over (λ p. p .address) l (x .addresses) (r .addresses), field-over (λ p. p .word) l (x .words) (r .words), field-over (λ p. p .mark) l (x .marks) (r .marks))
+
+-- nothing put
+pub put-none : (n : ℕ) (x : Slices) → putFrom n [] x ≡ x
+unfolding putFrom
+put-none n x = refl
+
+-- one place, then another
+pub put-two-places : (p q : Place) (n : ℕ) (x x₁ x₂ : Slices) → x₁ ≡ putFrom n (p ∷ []) x → x₂ ≡ putFrom (n + 1) (q ∷ []) x₁ → x₂ ≡ putFrom n (p ∷ q ∷ []) x
+unfolding putFrom
+put-two-places p q n x x₁ x₂ e f = f ∙ rw (e, add-one n)
 
 -- ---- the slices keep their lengths
-module _ {n : ℕ} {l : List Place} {xs ys zs xs′ ys′ zs′ : List ℕ} (s : Stored n l xs ys zs xs′ ys′ zs′) where
-  pub addresses-long : length xs′ ≡ length xs
-  addresses-long = rw (s .addresses) (length-sets xs n (map (λ p. p .address) l))
+pub record SameLengths (x x′ : Slices) : Type 0 where
+  pub addresses : length (x′ .addresses) ≡ length (x .addresses)
+  pub words : length (x′ .words) ≡ length (x .words)
+  pub marks : length (x′ .marks) ≡ length (x .marks)
 
-  pub words-long : length ys′ ≡ length ys
-  words-long = rw (s .words) (length-sets ys n (map (λ p. p .word) l))
+pub put-long : (n : ℕ) (l : List Place) (x : Slices) → SameLengths x (putFrom n l x)
+unfolding putFrom
+put-long n l x =
+    record {
+      addresses = length-sets (x .addresses) n (map (λ p. p .address) l);
+      words = length-sets (x .words) n (map (λ p. p .word) l);
+      marks = length-sets (x .marks) n (map (λ p. p .mark) l);
+    }
 
-  pub marks-long : length zs′ ≡ length zs
-  marks-long = rw (s .marks) (length-sets zs n (map (λ p. p .mark) l))
+pub put-room : (n : ℕ) (l : List Place) (m : ℕ) (x : Slices) → Room m x → Room m (putFrom n l x)
+put-room n l m x r =
+    let h = put-long n l x in
+    record { addresses = rw (h .addresses) (r .addresses); words = rw (h .words) (r .words); marks = rw (h .marks) (r .marks) }
 
-  -- one place, then others
-  pub stored-more : {p : Place} {k : List Place} {xs₂ ys₂ zs₂ : List ℕ} → l ≡ p ∷ [] → Stored (n + 1) k xs′ ys′ zs′ xs₂ ys₂ zs₂ → Stored n (p ∷ k) xs ys zs xs₂ ys₂ zs₂
-  stored-more e t =
-      record {
-        addresses = t .addresses ∙ rw (s .addresses, e, add-one n);
-        words = t .words ∙ rw (s .words, e, add-one n);
-        marks = t .marks ∙ rw (s .marks, e, add-one n);
-      }
+-- the rest of three slices
+abbrev pub restOf : ℕ → List ℕ → List ℕ
+restOf v l = take (length l - v) (drop v l)
 
--- ---- the words of a code whose variant is known
-pub stored-none : (n : ℕ) (xs ys zs : List ℕ) → Stored n [] xs ys zs xs ys zs
-stored-none n xs ys zs = record { addresses = refl; words = refl; marks = refl }
+abbrev pub backAt : ℕ → List ℕ → List ℕ → List ℕ
+backAt v l last = putMid v (length l - v) l last
 
-module _ (code d : Code) (n : ℕ) {xs ys zs : List ℕ} (e : code ≡ d) where
-  pub room-for : Room (n + codeLength code) xs ys zs → Room (n + codeLength d) xs ys zs
-  room-for r = rw e at r
-
-  pub put-done : {xs′ ys′ zs′ : List ℕ} (a m : ℕ) → m ≡ n + codeLength d → Stored n (placesOf a d) xs ys zs xs′ ys′ zs′
-      → (m ≡ n + codeLength code) × Stored n (placesOf a code) xs ys zs xs′ ys′ zs′
-  put-done a m f s = rw e (f, s)
-
--- ---- one field of the list, as a column
-pub record Field (f : Place → ℕ) (full left : List Place) (n : ℕ) (old xs : List ℕ) : Type 0 where
-  pub column : Column (map f full) (map f left) n old xs
-
-pub field-start : (f : Place → ℕ) (l : List Place) (old : List ℕ) → length l ≤ length old → Field f l l 0 old old
-field-start f l old h = record { column = column-start (map f l) old (rw (length-map l f) h) }
-
-module _ {f : Place → ℕ} {full left : List Place} {n : ℕ} {old xs : List ℕ} (a : ℕ) (code : Code) (rest : List Place)
-    (k : Field f full left n old xs) (e : left ≡ placesOf a code ++ rest) where
-  pub field-length : length (map f (placesOf a code)) ≡ codeLength code
-  field-length = length-map (placesOf a code) f ∙ code-words a code
-
-  field-split : map f left ≡ map f (placesOf a code) ++ map f rest
-  field-split = ap (map f) e ∙ map-append f (placesOf a code) rest
-
-  -- a code's words fit
-  pub field-room : n + codeLength code ≤ length xs
-  field-room = omega (arith, k .column .long, k .column .fits, k .column .room, ap length field-split, length-append (map f (placesOf a code)) (map f rest), field-length)
-
-  module _ {xs′ : List ℕ} (s : xs′ ≡ sets xs n (map f (placesOf a code))) where
-    -- they are stored
-    pub field-more : Field f full rest (n + codeLength code) old xs′
-    field-more =
-        let c = rw field-split at (k .column) in
-        record { column = rw (s, ← field-length) (column-more (map f full) (map f (placesOf a code)) (map f rest) n old xs c) }
-
-    -- they are the last
-    pub field-all : rest ≡ [] → xs′ ≡ over (map f full) old
-    field-all z = column-end (map f full) _ old xs′ (rw z at (field-more .column))
+-- it was lent, from v on, and came back
+pub put-lent : (v m : ℕ) (l : List Place) (xs ys zs xs′ ys′ zs′ : List ℕ) → slices xs′ ys′ zs′ ≡ putFrom m l (slices (restOf v xs) (restOf v ys) (restOf v zs))
+    → slices (backAt v xs xs′) (backAt v ys ys′) (backAt v zs zs′) ≡ putFrom (v + m) l (slices xs ys zs)
+unfolding putFrom
+put-lent v m l xs ys zs xs′ ys′ zs′ e =
+    rw (
+      sets-lent v m (map (λ p. p .address) l) xs xs′ (ap (λ s. s .addresses) e),
+      sets-lent v m (map (λ p. p .word) l) ys ys′ (ap (λ s. s .words) e),
+      sets-lent v m (map (λ p. p .mark) l) zs zs′ (ap (λ s. s .marks) e),
+    )

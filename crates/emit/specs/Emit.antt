@@ -1,55 +1,70 @@
--- The words of the data and of the instructions of all lines: their places, and the lent slices that hold them. Assumes nothing.
+-- The second pass: what its functions need and give. Words are counted, and put into the three lent slices where they are wanted. Assumes nothing.
 use mathlib.Core.Path.{_≡_}
 use mathlib.Core.Bool.{Bool, true, false}
-use mathlib.Core.List.{List, [], _++_, map, flatMap}
-use Prim.Native.Nat.{ℕ, _≤_, _<_}
+use mathlib.Core.List.{List, [], map}
+use Prim.Native.Nat.{ℕ, _+_, _^_, _≤_, _<_}
 use lib.ListN.{length}
+use lib.Seq.{sets}
 use Rattle.rules.specs.Limits.{maxSource, addressLimit}
 use Rattle.rules.specs.Text.{Text}
-use Rattle.rules.specs.Label.{Table}
-use Rattle.rules.specs.Assemble.{Put, Place, linesOf, dataPlaces, codePlaces, over}
-use Rattle.label.specs.Table.{tableOf, Held, AllBelow}
-use Rattle.scan.specs.Walk.{walk, low}
+use Rattle.rules.specs.Assemble.{Put, Place, Slices, codePlaces, secondPass}
+use Rattle.label.specs.Table.{tableOf}
+use Rattle.line.specs.Line.{taskAt, TaskIn}
+use Rattle.line.specs.declared.Task.{Task}
+use Rattle.cells.specs.Cells.{dataWords}
+use Rattle.first.specs.Pass.{passIn, Holds}
+use Rattle.first.specs.declared.Pass.{Pass}
+use Rattle.encode.specs.Near.{Near}
+use Rattle.emit.specs.declared.Turn.{Turn}
 
--- which words: data words come first, and instruction words behind them
-pub data Part : Type 0 where
-  Values : Part
-  Instructions : Part
-
--- what a put comes to in a part
-abbrev pub partPlaces : Part → Table → Put → List Place
-partPlaces Values t p = dataPlaces p
-partPlaces Instructions t p = codePlaces t p
-
--- a part's list, by the labels t
-abbrev pub listOf : Part → Table → ℕ → Text → List Place
-listOf part t base source = flatMap (partPlaces part t) (walk base base (linesOf source))
-
--- the list by the labels t: data words, and instruction words behind them
-abbrev pub listBy : Table → ℕ → Text → List Place
-listBy t base source = listOf Values t base source ++ listOf Instructions t base source
-
+-- ---- words in the slices
 -- the list where it is to be written, else nothing
 abbrev pub wanted : Bool → List Place → List Place
 wanted true l = l
 wanted false l = []
 
--- what the pass over the lines needs: the labels are held, and every address stays below 2^30
-pub record Walking (source : Text) (base : ℕ) (cells : List ℕ) (count : ℕ) : Type 0 where
-  pub short : length source ≤ maxSource
-  pub base-below : base < addressLimit
-  pub held : Held source cells count
-  pub labels-below : AllBelow addressLimit (tableOf source cells count)
-  pub stays : low base base (linesOf source) ≡ true
+-- the slices with a list put into them from place n on
+unfoldable pub putFrom : ℕ → List Place → Slices → Slices
+putFrom n l x =
+    record {
+      addresses = sets (x .addresses) n (map (λ p. p .address) l);
+      words = sets (x .words) n (map (λ p. p .word) l);
+      marks = sets (x .marks) n (map (λ p. p .mark) l);
+    }
 
 -- n words fit into each slice
-pub record Room (n : ℕ) (xs ys zs : List ℕ) : Type 0 where
-  pub addresses : n ≤ length xs
-  pub words : n ≤ length ys
-  pub marks : n ≤ length zs
+pub record Room (n : ℕ) (x : Slices) : Type 0 where
+  pub addresses : n ≤ length (x .addresses)
+  pub words : n ≤ length (x .words)
+  pub marks : n ≤ length (x .marks)
 
--- the slices hold the list l over what they held
-pub record Written (l : List Place) (xs ys zs xs′ ys′ zs′ : List ℕ) : Type 0 where
-  pub addresses : xs′ ≡ over (map (λ p. p .address) l) xs
-  pub words : ys′ ≡ over (map (λ p. p .word) l) ys
-  pub marks : zs′ ≡ over (map (λ p. p .mark) l) zs
+-- n words can be counted, and fit where they are to be written
+pub record RoomIf (write : Bool) (n : ℕ) (x : Slices) : Type 0 where
+  pub few : n < 2 ^ 64
+  pub room : write ≡ true → Room n x
+
+-- the words l after n others: how many there are then, and the slices with them
+pub record Taken (write : Bool) (n : ℕ) (l : List Place) (x : Slices) (r : ℕ) (x′ : Slices) : Type 0 where
+  pub count : r ≡ n + length l
+  pub put : x′ ≡ putFrom n (wanted write l) x
+
+-- ---- one line
+-- what a task asks at an address
+abbrev pub putOf : Text → ℕ → Task → Put
+putOf source a task = record { address = a; task = taskAt source task }
+
+pub record TakeValueNeeds (turn : Turn) (task : Task) (x : Slices) : Type 0 where
+  pub below : turn .address < addressLimit
+  pub room : RoomIf (turn .write) (turn .values + dataWords task) x
+
+pub record EncodeTaskNeeds (source : Text) (table : List ℕ) (labels : ℕ) (turn : Turn) (task : Task) (x : Slices) : Type 0 where
+  pub near : Near source table labels (turn .address)
+  pub short : length source ≤ maxSource
+  pub within : TaskIn source task
+  pub room : RoomIf (turn .write) (turn .words + length (codePlaces (tableOf source table labels) (putOf source (turn .address) task))) x
+
+-- ---- all lines
+-- the table and the cells hold a pass, and its list fits where it is to be written
+pub record EmitWordsNeeds (write : Bool) (source : Text) (table cells : List ℕ) (pass : Pass) (x : Slices) : Type 0 where
+  pub holds : Holds source table cells pass
+  pub room : write ≡ true → Room (length (secondPass (passIn source table cells pass))) x

@@ -1,129 +1,22 @@
 // The second pass: the words of the data and of the instructions, counted or written into three lent slices.
-// It reads the lines that the first pass kept; only an instruction's text is read again.
+// It goes by the lines that the first pass kept; only an instruction's text is read again.
 use encode::Code;
-use kept::Task;
+use first::Pass;
+use line::Task;
 ghost use mathlib.Core.Path.{_≡_};
-ghost use mathlib.Core.Bool.{_||_};
+ghost use mathlib.Core.Bool.{true, cond};
 ghost use mathlib.Core.List.{_∷_, []};
-ghost use Prim.Native.Nat.{_+_, _≤_, _<_};
-ghost use lib.Dec.{eqb};
+ghost use Prim.Native.Nat.{_+_, _<_};
 ghost use lib.ListN.{length};
 ghost use Rattle.rules.specs.Limits.{addressLimit};
 ghost use Rattle.rules.specs.Text.{Text};
+ghost use Rattle.rules.specs.Assemble.{slices, holding, dataPlaces, codePlaces, secondPass};
 ghost use Rattle.label.specs.Table.{tableOf};
-ghost use Rattle.kept.specs.Task.{taskBody, taskEnds, taskAfter};
-ghost use Rattle.kept.specs.Lines.{startOf, AllKept};
-ghost use Rattle.encode.specs.Code.{codeOf, place, placesOf, codeLength};
-ghost use Rattle.encode.specs.Body.{encodeBody};
-ghost use Rattle.emit.specs.Emit.{Values, listOf, listBy, wanted, Walking, Room, Written};
-ghost use Rattle.emit.specs.Read.{dataCode, Encoding, Standing, Reads, Stored, endsAfter, Taking, StoredBoth};
+ghost use Rattle.first.specs.Pass.{passIn};
+ghost use Rattle.encode.specs.Code.{place, placesOf, codeLength};
+ghost use Rattle.emit.specs.Emit.{wanted, putFrom, Room, RoomIf, Taken, putOf, TakeValueNeeds, EncodeTaskNeeds, EmitWordsNeeds};
 
-// ---- The words of a line.
-
-// The words of a line's value, if it has one.
-fn value_code(task: Task) -> Code
-    ensures { λ r. ⌜ ((source : Text) → r ≡ dataCode (taskBody source task)) ⌝ }
-{
-    match task {
-        Task::Nothing => Code::Nothing,
-        Task::End => Code::Nothing,
-        Task::Org(_) => Code::Nothing,
-        Task::Instruction(_, _) => Code::Nothing,
-        Task::Data(_) => Code::Nothing,
-        Task::Value(_, n) => {
-            let high = opcode::word::high_word(n);
-            let low = opcode::word::low_word(n);
-            Code::Value(high, low)
-        }
-    }
-}
-
-// The words of a line's instruction, if it has one.
-fn instruction_code(source: &[u8], table: &[u32], labels: usize, address: u32, task: Task) -> Code
-    requires { ⌜ Encoding (now source) (now table) labels address task ⌝ }
-    ensures { λ r. ⌜ r ≡ codeOf (encodeBody (tableOf (now (source .entry)) (now (table .entry)) labels) address (taskBody (now (source .entry)) task)) ⌝ }
-{
-    match task {
-        Task::Nothing => Code::Nothing,
-        Task::End => Code::Nothing,
-        Task::Org(_) => Code::Nothing,
-        Task::Value(_, _) => Code::Nothing,
-        Task::Data(_) => Code::Nothing,
-        Task::Instruction(_, span) => {
-            let a = span.start;
-            let b = span.end;
-            encode::encode_instruction(source, table, labels, address, &source[a..b])
-        }
-    }
-}
-
-// The address after a line that is read at `address`.
-fn task_after(base: u32, address: u32, task: Task) -> u32
-    requires { ⌜ taskAfter base address task < addressLimit ⌝ }
-    ensures { λ r. ⌜ r ≡ taskAfter base address task ⌝ }
-{
-    match task {
-        Task::Nothing => address,
-        Task::End => address,
-        Task::Org(n) => base + n,
-        Task::Instruction(n, _) => address + n,
-        Task::Value(n, _) => address + n,
-        Task::Data(n) => address + n,
-    }
-}
-
-// No line is read behind this one: it is END, or it ends where the source does.
-fn is_last(task: Task, end: usize, length: usize) -> bool
-    ensures { λ r. ⌜ r ≡ (taskEnds task || eqb end length) ⌝ }
-{
-    match task {
-        Task::End => true,
-        Task::Nothing => end == length,
-        Task::Org(_) => end == length,
-        Task::Instruction(_, _) => end == length,
-        Task::Value(_, _) => end == length,
-        Task::Data(_) => end == length,
-    }
-}
-
-// A line's words, those of its value and those of its instruction; whether it is the last that is read; and the
-// address after it.
-struct Words {
-    value: Code,
-    code: Code,
-    last: bool,
-    after: u32,
-}
-
-// The words of line k.
-fn read_words(
-    source: &[u8],
-    base: u32,
-    table: &[u32],
-    labels: usize,
-    cells: &[u32],
-    k: usize,
-    address: u32,
-) -> Words
-    requires { ⌜ Standing (now source) base (now table) labels (now cells) k address ⌝ }
-    ensures { λ r. ⌜ Reads (tableOf (now (source .entry)) (now (table .entry)) labels) base (now (source .entry)) (startOf (now (source .entry)) k) address r ⌝ }
-{
-    let s = kept::kept_line(cells, k);
-    let end = s.end;
-    let task = s.task;
-    let value = value_code(task);
-    let code = instruction_code(source, table, labels, address, task);
-    let last = is_last(task, end, source.len());
-    let after = task_after(base, address, task);
-    Words {
-        value,
-        code,
-        last,
-        after,
-    }
-}
-
-// ---- The words of a line, put into the slices.
+// ---- Words put into the slices.
 
 // One word into place n.
 fn put(
@@ -135,8 +28,8 @@ fn put(
     word: u16,
     mark: u8,
 )
-    requires { ⌜ Room (n + 1) (now addresses) (now words) (now marks) ⌝ }
-    ensures { λ _. ⌜ Stored n (place address word mark ∷ []) (now (addresses .entry)) (now (words .entry)) (now (marks .entry)) (now (addresses .exit)) (now (words .exit)) (now (marks .exit)) ⌝ }
+    requires { ⌜ Room (n + 1) (slices (now addresses) (now words) (now marks)) ⌝ }
+    ensures { λ _. ⌜ slices (now (addresses .exit)) (now (words .exit)) (now (marks .exit)) ≡ putFrom n (place address word mark ∷ []) (slices (now (addresses .entry)) (now (words .entry)) (now (marks .entry))) ⌝ }
 {
     addresses[n] = address;
     words[n] = word;
@@ -154,14 +47,14 @@ fn put_two(
     second: u16,
     mark: u8,
 )
-    requires { ⌜ (address < addressLimit) × Room (n + 2) (now addresses) (now words) (now marks) ⌝ }
-    ensures { λ _. ⌜ Stored n (place address word 0 ∷ place (address + 2) second mark ∷ []) (now (addresses .entry)) (now (words .entry)) (now (marks .entry)) (now (addresses .exit)) (now (words .exit)) (now (marks .exit)) ⌝ }
+    requires { ⌜ (address < addressLimit) × Room (n + 2) (slices (now addresses) (now words) (now marks)) ⌝ }
+    ensures { λ _. ⌜ slices (now (addresses .exit)) (now (words .exit)) (now (marks .exit)) ≡ putFrom n (place address word 0 ∷ place (address + 2) second mark ∷ []) (slices (now (addresses .entry)) (now (words .entry)) (now (marks .entry))) ⌝ }
 {
     put(addresses, words, marks, n, address, word, 0);
     put(addresses, words, marks, n + 1, address + 2, second, mark);
 }
 
-// A code's words, from place n on; the place behind them.
+// A code's words, from place n on; the place after them.
 fn put_code(
     addresses: &mut [u32],
     words: &mut [u16],
@@ -170,9 +63,8 @@ fn put_code(
     address: u32,
     code: Code,
 ) -> usize
-    requires { ⌜ (address < addressLimit) × Room (n + codeLength code) (now addresses) (now words) (now marks) ⌝ }
-    ensures { λ r. ⌜ r ≡ n + codeLength code ⌝ }
-    ensures { λ _. ⌜ Stored n (placesOf address code) (now (addresses .entry)) (now (words .entry)) (now (marks .entry)) (now (addresses .exit)) (now (words .exit)) (now (marks .exit)) ⌝ }
+    requires { ⌜ (address < addressLimit) × Room (n + codeLength code) (slices (now addresses) (now words) (now marks)) ⌝ }
+    ensures { λ r. ⌜ Taken true n (placesOf address code) (slices (now (addresses .entry)) (now (words .entry)) (now (marks .entry))) r (slices (now (addresses .exit)) (now (words .exit)) (now (marks .exit))) ⌝ }
 {
     match code {
         Code::Nothing => n,
@@ -191,43 +83,6 @@ fn put_code(
     }
 }
 
-// How many places hold data words, and how many behind them hold instruction words.
-struct Ends {
-    values: usize,
-    words: usize,
-}
-
-// A line's words into the slices, those of its value from place `done.values` on. Instruction words go in behind the
-// data words, of which there are `values`.
-fn put_line(
-    addresses: &mut [u32],
-    words: &mut [u16],
-    marks: &mut [u8],
-    values: usize,
-    done: Ends,
-    address: u32,
-    value: Code,
-    code: Code,
-) -> Ends
-    requires { ⌜ (address < addressLimit) × (done .values + codeLength value ≤ values) × Room (values + (done .words + codeLength code)) (now addresses) (now words) (now marks) ⌝ }
-    ensures { λ r. ⌜ r ≡ endsAfter done value code ⌝ }
-    ensures { λ _. ⌜ StoredBoth values (done .values) (placesOf address value) (done .words) (placesOf address code) (now (addresses .entry)) (now (words .entry)) (now (marks .entry)) (now (addresses .exit)) (now (words .exit)) (now (marks .exit)) ⌝ }
-{
-    let n = put_code(addresses, words, marks, done.values, address, value);
-    let m = put_code(
-        &mut addresses[values..],
-        &mut words[values..],
-        &mut marks[values..],
-        done.words,
-        address,
-        code,
-    );
-    Ends {
-        values: n,
-        words: m,
-    }
-}
-
 // How many words a code has.
 fn code_words(code: Code) -> usize
     ensures { λ r. ⌜ r ≡ codeLength code ⌝ }
@@ -240,79 +95,149 @@ fn code_words(code: Code) -> usize
     }
 }
 
-// A line's words, put into the slices if `write` says so, or only counted.
-fn take_line(
+// Where the second pass stands: whether it writes or only counts, the address of the line, how many data words and how many
+// instruction words there are so far.
+struct Turn {
+    write: bool,
+    address: u32,
+    values: usize,
+    words: usize,
+}
+
+// A code's words from place n on, if `write` says so; the place after them.
+fn take_code(
     write: bool,
     addresses: &mut [u32],
     words: &mut [u16],
     marks: &mut [u8],
-    values: usize,
-    done: Ends,
+    n: usize,
     address: u32,
-    value: Code,
     code: Code,
-) -> Ends
-    requires { ⌜ Taking write (now addresses) (now words) (now marks) values done address value code ⌝ }
-    ensures { λ r. ⌜ r ≡ endsAfter done value code ⌝ }
-    ensures { λ _. ⌜ StoredBoth values (done .values) (wanted write (placesOf address value)) (done .words) (wanted write (placesOf address code)) (now (addresses .entry)) (now (words .entry)) (now (marks .entry)) (now (addresses .exit)) (now (words .exit)) (now (marks .exit)) ⌝ }
+) -> usize
+    requires { ⌜ (address < addressLimit) × RoomIf write (n + codeLength code) (slices (now addresses) (now words) (now marks)) ⌝ }
+    ensures { λ r. ⌜ Taken write n (placesOf address code) (slices (now (addresses .entry)) (now (words .entry)) (now (marks .entry))) r (slices (now (addresses .exit)) (now (words .exit)) (now (marks .exit))) ⌝ }
 {
     if write {
-        return put_line(addresses, words, marks, values, done, address, value, code);
+        return put_code(addresses, words, marks, n, address, code);
     }
-    let n = done.values + code_words(value);
-    let m = done.words + code_words(code);
-    Ends {
-        values: n,
-        words: m,
-    }
+    n + code_words(code)
 }
 
-// ---- All lines.
+// ---- One line.
 
-// How many words the list has, of which `values` are data words. They are put into the slices if `write` says so.
-pub fn emit_words(
-    write: bool,
-    source: &[u8],
-    base: u32,
-    table: &[u32],
-    labels: usize,
-    cells: &[u32],
-    values: usize,
+// The words of a line's value into the places after the other data words; how many there are then.
+fn take_value(
+    turn: Turn,
+    task: Task,
     addresses: &mut [u32],
     words: &mut [u16],
     marks: &mut [u8],
 ) -> usize
-    requires { ⌜ Walking (now source) base (now table) labels × (values ≡ length (listOf Values (tableOf (now source) (now table) labels) base (now source))) ⌝ }
-    requires { ⌜ Room (length (wanted write (listBy (tableOf (now source) (now table) labels) base (now source)))) (now addresses) (now words) (now marks) ⌝ }
-    requires { ⌜ AllKept (now source) (now cells) ⌝ }
-    ensures { λ r. ⌜ r ≡ length (listBy (tableOf (now (source .entry)) (now (table .entry)) labels) base (now (source .entry))) ⌝ }
-    ensures { λ _. ⌜ Written (wanted write (listBy (tableOf (now (source .entry)) (now (table .entry)) labels) base (now (source .entry)))) (now (addresses .entry)) (now (words .entry)) (now (marks .entry)) (now (addresses .exit)) (now (words .exit)) (now (marks .exit)) ⌝ }
+    requires { ⌜ TakeValueNeeds turn task (slices (now addresses) (now words) (now marks)) ⌝ }
+    ensures { λ r. ⌜ ((source : Text) → Taken (turn .write) (turn .values) (dataPlaces (putOf source (turn .address) task)) (slices (now (addresses .entry)) (now (words .entry)) (now (marks .entry))) r (slices (now (addresses .exit)) (now (words .exit)) (now (marks .exit)))) ⌝ }
 {
-    let mut k = 0;
-    let mut address = base;
-    let mut done = Ends {
+    let Task::Value(_, v) = task else {
+        return turn.values;
+    };
+    let code = Code::Value(opcode::word::high_word(v), opcode::word::low_word(v));
+    take_code(
+        turn.write,
+        addresses,
+        words,
+        marks,
+        turn.values,
+        turn.address,
+        code,
+    )
+}
+
+// The words of a line's instruction, encoded from its text into the rest of the slices, after the data words; how many there are then.
+fn encode_task(
+    source: &[u8],
+    table: &[u32],
+    labels: usize,
+    turn: Turn,
+    task: Task,
+    addresses: &mut [u32],
+    words: &mut [u16],
+    marks: &mut [u8],
+) -> usize
+    requires { ⌜ EncodeTaskNeeds (now source) (now table) labels turn task (slices (now addresses) (now words) (now marks)) ⌝ }
+    ensures { λ r. ⌜ Taken (turn .write) (turn .words) (codePlaces (tableOf (now (source .entry)) (now (table .entry)) labels) (putOf (now (source .entry)) (turn .address) task)) (slices (now (addresses .entry)) (now (words .entry)) (now (marks .entry))) r (slices (now (addresses .exit)) (now (words .exit)) (now (marks .exit))) ⌝ }
+{
+    let Task::Instruction(span) = task else {
+        return turn.words;
+    };
+    let a = span.start;
+    let b = span.end;
+    let code = encode::encode_instruction(source, table, labels, turn.address, &source[a..b]);
+    take_code(
+        turn.write,
+        addresses,
+        words,
+        marks,
+        turn.words,
+        turn.address,
+        code,
+    )
+}
+
+// ---- All lines.
+
+// Where instruction words go: after the data words, of which there are `values`; nothing is cut off where they are only counted.
+fn rest_start(written: bool, values: usize) -> usize
+    ensures { λ r. ⌜ r ≡ cond written values 0 ⌝ }
+{
+    if written {
+        return values;
+    }
+    0
+}
+
+// How many words the list has. They are put into the slices if `write` says so.
+pub fn emit_words(
+    write: bool,
+    source: &[u8],
+    table: &[u32],
+    cells: &[u32],
+    pass: Pass,
+    addresses: &mut [u32],
+    words: &mut [u16],
+    marks: &mut [u8],
+) -> usize
+    requires { ⌜ EmitWordsNeeds write (now source) (now table) (now cells) pass (slices (now addresses) (now words) (now marks)) ⌝ }
+    ensures { λ r. ⌜ r ≡ length (secondPass (passIn (now (source .entry)) (now (table .entry)) (now (cells .entry)) pass)) ⌝ }
+    ensures { λ _. ⌜ slices (now (addresses .exit)) (now (words .exit)) (now (marks .exit)) ≡ holding (wanted write (secondPass (passIn (now (source .entry)) (now (table .entry)) (now (cells .entry)) pass))) (slices (now (addresses .entry)) (now (words .entry)) (now (marks .entry))) ⌝ }
+{
+    let rest = rest_start(write, pass.values);
+    let mut turn = Turn {
+        write,
+        address: pass.base,
         values: 0,
         words: 0,
     };
-    loop {
-        let w = read_words(source, base, table, labels, cells, k, address);
-        let value = w.value;
-        let code = w.code;
-        done = take_line(
-            write,
-            addresses,
-            words,
-            marks,
-            values,
-            done,
-            address,
-            value,
-            code,
+    let mut k = 0;
+    while k < pass.lines {
+        let kept = cells::kept_line(cells, k);
+        let task = kept.task;
+        let values = take_value(turn, task, addresses, words, marks);
+        let n = encode_task(
+            source,
+            table,
+            pass.labels,
+            turn,
+            task,
+            &mut addresses[rest..],
+            &mut words[rest..],
+            &mut marks[rest..],
         );
-        if w.last {
-            return values + done.words;
-        }
+        turn = Turn {
+            write,
+            address: cells::address_after(kept, pass.base, turn.address) as u32,
+            values,
+            words: n,
+        };
         k += 1;
-        address = w.after;
     }
+    pass.values + turn.words
 }

@@ -1,5 +1,5 @@
--- Laws of step 5: the size and the value, and the line of a label and a directive. Assumes nothing.
-use mathlib.Core.Path.{_≡_, refl}
+-- Laws of steps 3 and 5: the tasks by their numbers, and the line of a label and a directive. Assumes nothing.
+use mathlib.Core.Path.{_≡_, refl, ap, _∙_}
 use mathlib.Core.Bool.{Bool, true, false, not, _||_, cond}
 use mathlib.Core.Option.{Option, none, some}
 use mathlib.Core.List.{append-nil}
@@ -9,23 +9,32 @@ use borrow.Author.Tests.{not-true, not-false}
 use lib.ListN.{length, take, drop}
 use lib.Seq.{length-take-le}
 use Rattle.rules.specs.Text.{Text, bytes, uppers, pieces, contains, nth}
-use Rattle.rules.specs.Line.{org, numberIn, dataSize, dataValue, dataBody, nonempty, dataLine}
+use Rattle.rules.specs.Line.{numberIn, dataSize, dataValue, sized, dataTask, nonempty, dataLine, orgTask}
+use Rattle.text.specs.Spans.{part, PartIn}
+use Rattle.text.proofs.Spans.{part-front, length-part}
 use Rattle.numeral.specs.Number.{numberOf}
 use Rattle.numeral.specs.declared.unsigned.Number.{Number}
-use Rattle.numeral.specs.declared.unsigned.Number.the-variants.{Unreadable}
-use Rattle.line.specs.Line.{part, namesAt, valueOf, bodyAt, Part, NamesIn, Says}
-use Rattle.line.specs.Steps.{Trimmed, withName, orgOf, dataOf, Headed}
+use Rattle.line.specs.Line.{namesAt, taskAt, NamesIn, TaskIn, Says}
+use Rattle.line.specs.Steps.{Trimmed, withName, orgOf, dataBy, dataOf, PieceHeadGives}
 use Rattle.line.specs.declared.Names.{Names}
-use Rattle.line.specs.declared.Body.{Body}
-use Rattle.line.specs.declared.Body.the-variants.{Data}
-use Rattle.line.specs.declared.Line.the-variants.{Item}
-use Rattle.line.specs.declared.Head.{Head}
-use Rattle.line.proofs.Parts.{part-front, length-part}
+use Rattle.line.specs.declared.Task.{Task}
+use Rattle.line.specs.declared.Task.the-variants.{Space}
+use Rattle.line.specs.declared.DataHead.{DataHead}
 use Rattle.line.proofs.Labels.{names-more, names-in, more-names}
 use Rattle.line.proofs.Directive.{nonempty-some}
 
--- ---- what a body says
-pub size-most : (u : Text) → dataSize u ≤ 4
+-- ---- step 3 by its number
+pub org-is : (source : Text) (x : Option ℕ) → taskAt source (orgOf (numberOf x)) ≡ orgTask x
+unfolding orgTask
+org-is source none = refl
+org-is source (some v) = refl
+
+pub org-in : (source : Text) (x : Option ℕ) → TaskIn source (orgOf (numberOf x))
+org-in source none = Prim.tt
+org-in source (some v) = Prim.tt
+
+-- ---- data by its number
+size-most : (u : Text) → dataSize u ≤ 4
 unfolding dataSize
 size-most u = go (contains (bytes "DC.L") u || contains (bytes "DS.L") u) (contains (bytes "DC.W") u || contains (bytes "DS.W") u) (contains (bytes "DC.B") u || contains (bytes "DS.B") u)
   where
@@ -35,49 +44,56 @@ size-most u = go (contains (bytes "DC.L") u || contains (bytes "DS.L") u) (conta
     go false false true = omega arith
     go false false false = omega arith
 
--- what the code answers, against the rules
-pub valueOf-number : (x : Option ℕ) → valueOf (numberOf x) ≡ x
-valueOf-number none = refl
-valueOf-number (some v) = refl
+by-is : (source : Text) (n : ℕ) (x : Option ℕ) → taskAt source (dataBy n (numberOf x)) ≡ sized n x
+unfolding sized
+by-is source n none = refl
+by-is source n (some v) = refl
 
-pub body-is : (line t d : Text) → bodyAt line (dataOf t d) ≡ dataBody t d
-unfolding dataBody
-body-is line t d = rw (valueOf-number (dataValue (uppers t) d))
+by-in : (source : Text) (n : ℕ) (x : Option ℕ) → n ≤ 4 → TaskIn source (dataBy n (numberOf x))
+by-in source n none h = h
+by-in source n (some v) h = h
 
--- the body as the code makes it: of size s, with a value v only where `DC.` stands
+module _ (source t d : Text) where
+  data-is : taskAt source (dataOf t d) ≡ dataTask t d
+  unfolding dataTask
+  data-is = by-is source (dataSize (uppers t)) (dataValue (uppers t) d)
+
+  data-in : TaskIn source (dataOf t d)
+  data-in = by-in source (dataSize (uppers t)) (dataValue (uppers t) d) (size-most (uppers t))
+
+-- as the code makes it: of size s, with a value only where `DC.` stands
 module _ (t d : Text) {s : ℕ} (p : s ≡ dataSize (uppers t)) {y : Bool} (q : y ≡ contains (bytes "DC.") (uppers t)) where
-  pub body-none : not y ≡ true → Data s Unreadable ≡ dataOf t d
+  pub task-none : not y ≡ true → Space s ≡ dataOf t d
   unfolding dataValue
-  body-none e = rw (p, ← q, not-true y e)
+  task-none e = rw (p, ← q, not-true y e)
 
-  pub body-some : {v : Number} → not y ≡ false → v ≡ numberOf (numberIn (nth 1 (pieces d))) → Data s v ≡ dataOf t d
+  pub task-some : {v : Number} → not y ≡ false → v ≡ numberOf (numberIn (nth 1 (pieces d))) → dataBy s v ≡ dataOf t d
   unfolding dataValue
-  body-some e w = rw (p, ← q, not-false y e, w)
+  task-some e w = rw (p, ← q, not-false y e, w)
 
 -- ---- the line
-module _ (line : Text) (ns : Names) (a e : ℕ) (tr : Trimmed line a e) (h : NamesIn line 1 ns) (hd : Head) (x : Headed (part line a e) hd)
-    (b : Body) (y : b ≡ dataOf (part line a e) (drop (hd .directive) (part line a e))) where
-  pub data-bare : hd .label ≤ 0 → Says line (dataLine (namesAt line ns) a (part line a e)) (Item ns b)
+module _ {source : Text} {ns : Names} {a e : ℕ} (tr : Trimmed source a e) (h : NamesIn source 1 ns) {hd : DataHead} (x : PieceHeadGives (part source a e) hd)
+    {k : Task} (y : k ≡ dataOf (part source a e) (drop (hd .directive) (part source a e))) where
+  task-is : taskAt source k ≡ dataTask (part source a e) (drop (hd .directive) (part source a e))
+  task-is = ap (taskAt source) y ∙ data-is source (part source a e) (drop (hd .directive) (part source a e))
+
+  task-in : TaskIn source k
+  task-in = rw y (data-in source (part source a e) (drop (hd .directive) (part source a e)))
+
+  pub data-bare : hd .label ≤ 0 → Says source (dataLine (namesAt source ns) a (part source a e)) (record { names = ns; task = k })
   unfolding nonempty
   data-bare l =
       let z : hd .label ≡ 0 = omega arith in
-      rw y (record {
-        says = rw (x .says (namesAt line ns) a, z, append-nil (namesAt line ns), body-is line (part line a e) (drop (hd .directive) (part line a e)));
-        within = (more-names line ns h, size-most (uppers (part line a e)));
-      })
+      record { says = rw (x .says (namesAt source ns) a, z, append-nil (namesAt source ns), task-is); names-in = more-names h; task-in = task-in }
 
-  pub data-named : (r : Names) → r ≡ withName ns a (a + hd .label) → 0 < hd .label → Says line (dataLine (namesAt line ns) a (part line a e)) (Item r b)
-  data-named r w l =
-      let t : Text = part line a e in
-      let k : hd .label ≤ e - a = omega (arith, x .label-in, length-part line a e (tr .placed)) in
-      let p : Part line a (a + hd .label) = record { ordered = omega arith; inside = omega (arith, tr .placed) } in
+  pub data-named : {r : Names} → r ≡ withName ns a (a + hd .label) → 0 < hd .label → Says source (dataLine (namesAt source ns) a (part source a e)) (record { names = r; task = k })
+  data-named w l =
+      let t : Text = part source a e in
+      let m : hd .label ≤ e - a = omega (arith, x .label-in, length-part source a e (tr .placed)) in
+      let p : PartIn source a (a + hd .label) = record { ordered = omega arith; inside = omega (arith, tr .placed) } in
       let g : 0 < length (take (hd .label) t) = rw (length-take-le (hd .label) t (x .label-in)) l in
-      rw (y, w) (record {
-        says = rw (x .says (namesAt line ns) a, nonempty-some a (take (hd .label) t) g, part-front line a e (hd .label) k, names-more line ns h a (a + hd .label) p, body-is line t (drop (hd .directive) t));
-        within = (names-in line ns h a (a + hd .label) p, size-most (uppers t));
+      rw w (record {
+        says = rw (x .says (namesAt source ns) a, nonempty-some a (take (hd .label) t) g, part-front source a e (hd .label) m, names-more h p, task-is);
+        names-in = names-in h p;
+        task-in = task-in;
       })
-
--- step 3 by its number
-pub org-says : (line : Text) (x : Option ℕ) → Says line (org x) (orgOf (numberOf x))
-org-says line none = record { says = refl; within = Prim.tt }
-org-says line (some v) = record { says = refl; within = Prim.tt }

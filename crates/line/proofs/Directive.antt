@@ -1,7 +1,6 @@
 -- Laws of step 5's label and directive: around a colon, or by the pieces. Assumes nothing.
 use mathlib.Core.Path.{_≡_, refl, ap, _∙_}
 use mathlib.Core.Bool.{Bool, true, false}
-use mathlib.Core.Option.{none, some}
 use mathlib.Core.List.{List, [], _∷_, append-nil}
 use Prim.Native.Nat.{ℕ, suc, _+_, _-_, _≤_, _<_}
 use native.Mathlib.Numerals.{add-one}
@@ -11,20 +10,21 @@ use lib.Dec.{ltb}
 use lib.ListN.{length, take, drop}
 use lib.Seq.{length-take-le}
 use Rattle.rules.specs.Text.{Text, leading, trim, pieces, joined, uncut, firstCut}
-use Rattle.rules.specs.Line.{Name, name, item, dataValue, dataBody, isDirective, dataPieces, nonempty, dataLine}
+use Rattle.rules.specs.Line.{Name, name, line as lineWith, dataValue, dataTask, isDirective, dataPieces, nonempty, dataLine}
 use Rattle.text.specs.declared.Span.{Span}
 use Rattle.text.specs.Pieces.{nextPiece}
+use Rattle.text.specs.Spans.{PartIn}
 use Rattle.text.proofs.Find.{Indexed}
 use Rattle.text.proofs.Pieces.{Next, next-none, next-some, pieces-trim}
 use Rattle.text.proofs.Joined.{pieces-words, pieces-joined}
-use Rattle.line.specs.Line.{Part}
-use Rattle.line.specs.Steps.{Headed}
+use Rattle.line.specs.Steps.{PieceHeadGives}
 use Rattle.line.proofs.Parts.{trim-front, trim-front-le}
+use Rattle.line.proofs.Clauses.{data-pieces, data-colon}
 use Rattle.line.proofs.Next.{next-part, piece-none, piece-some}
 
 -- a directive counts by its pieces
-pub body-pieces : (t d f : Text) → pieces d ≡ pieces f → dataBody t d ≡ dataBody t f
-unfolding dataBody dataValue
+pub body-pieces : (t d f : Text) → pieces d ≡ pieces f → dataTask t d ≡ dataTask t f
+unfolding dataTask dataValue
 body-pieces t d f e = rw e
 
 pub nonempty-some : (i : ℕ) (t : Text) → 0 < length t → nonempty i t ≡ name i t ∷ []
@@ -32,45 +32,40 @@ unfolding nonempty
 nonempty-some i [] h = absurd (omega arith)
 nonempty-some i (b ∷ t) h = refl
 
-pub headed-colon : (t : Text) (i n d : ℕ) → leading t ≡ 0 → Indexed 58 t i → n ≡ length (trim (take i t)) → d ≡ i + 1 → Headed t (record { label = n; directive = d })
-unfolding dataLine
-headed-colon t i n d z x p q =
+pub head-colon : (t : Text) (i n d : ℕ) → leading t ≡ 0 → Indexed 58 t i → n ≡ length (trim (take i t)) → d ≡ i + 1 → PieceHeadGives t (record { label = n; directive = d })
+head-colon t i n d z x p q =
     rw (p, q) (record {
       label-in = trim-front-le i t;
       directive-in = omega (arith, x .within);
-      says = λ ns j. rw (x .cut, dataLine, ← trim-front i t z, body-pieces t (trim (drop (suc i) t)) (drop (i + 1) t) (pieces-trim (drop (suc i) t) ∙ rw (add-one i)));
+      says = λ ns j. data-colon ns j t (x .cut) ∙ rw (← trim-front i t z, body-pieces t (trim (drop (suc i) t)) (drop (i + 1) t) (pieces-trim (drop (suc i) t) ∙ rw (add-one i)));
     })
 
-uncut-line : (ns : List Name) (i : ℕ) (t : Text) → firstCut 58 t ≡ uncut → dataLine ns i t ≡ dataPieces ns i t (pieces t)
-unfolding dataLine
-uncut-line ns i t e = rw (e, dataLine)
-
 -- no label: the text itself is the directive
-headed-none : (t : Text) → ((ns : List Name) (i : ℕ) → dataLine ns i t ≡ item ns (dataBody t t)) → Headed t (record { label = 0; directive = 0 })
+head-none : (t : Text) → ((ns : List Name) (i : ℕ) → dataLine ns i t ≡ lineWith ns (dataTask t t)) → PieceHeadGives t (record { label = 0; directive = 0 })
 unfolding nonempty
-headed-none t e = record { label-in = omega arith; directive-in = omega arith; says = λ ns i. rw (append-nil ns) (e ns i) }
+head-none t e = record { label-in = omega arith; directive-in = omega arith; says = λ ns i. rw (append-nil ns) (e ns i) }
 
--- f and s: the first piece, and the one behind it
+-- f and s: the first piece, and the one after it
 module _ (t : Text) (z : leading t ≡ 0) (u : firstCut 58 t ≡ uncut) (f s : Span) (p : f ≡ nextPiece t 0) (q : s ≡ nextPiece t (f .end)) where
-  front : Part t (f .start) (f .end)
+  front : PartIn t (f .start) (f .end)
   front = next-part t 0 f p (omega arith)
 
   first-end : f .end ≤ length t
   first-end = front .inside
 
   -- fewer than two pieces
-  single : pieces (drop (f .end) t) ≡ [] → (ns : List Name) (i : ℕ) → dataPieces ns i t (pieces t) ≡ item ns (dataBody t t)
+  single : pieces (drop (f .end) t) ≡ [] → (ns : List Name) (i : ℕ) → dataPieces ns i t (pieces t) ≡ lineWith ns (dataTask t t)
   unfolding dataPieces
   single e ns i = go (ltb (f .start) (length t)) refl
     where
-      go : (y : Bool) → ltb (f .start) (length t) ≡ y → dataPieces ns i t (pieces t) ≡ item ns (dataBody t t)
+      go : (y : Bool) → ltb (f .start) (length t) ≡ y → dataPieces ns i t (pieces t) ≡ lineWith ns (dataTask t t)
       go true h = rw (next-some t 0 f p (ltb-true (f .start) (length t) h) .parts, e)
       go false h = rw (next-none t 0 f p (ltb-false (f .start) (length t) h))
 
-  pub headed-single : s .start ≡ s .end → Headed t (record { label = 0; directive = 0 })
-  headed-single e =
+  pub head-single : s .start ≡ s .end → PieceHeadGives t (record { label = 0; directive = 0 })
+  head-single e =
       let none : pieces (drop (f .end) t) ≡ [] = next-none t (f .end) s q (piece-none t (f .end) s q first-end e) in
-      headed-none t (λ ns i. uncut-line ns i t u ∙ single none ns i)
+      head-none t (λ ns i. data-pieces ns i t u ∙ single none ns i)
 
   module _ (d : s .start ≡ s .end → ⊥) {y : Bool} (g : y ≡ isDirective (take (f .end) t)) where
     second : Next t (f .end) s
@@ -85,18 +80,18 @@ module _ (t : Text) (z : leading t ≡ 0) (u : firstCut 58 t ≡ uncut) (f s : S
         let n : f .end - 0 ≡ f .end = omega arith in
         rw (z, n) at (first .parts)
 
-    pub headed-directive : y ≡ true → Headed t (record { label = 0; directive = 0 })
+    pub head-directive : y ≡ true → PieceHeadGives t (record { label = 0; directive = 0 })
     unfolding dataPieces
-    headed-directive e = headed-none t (λ ns i. uncut-line ns i t u ∙ rw (two, second .parts, ← g, e))
+    head-directive e = head-none t (λ ns i. data-pieces ns i t u ∙ rw (two, second .parts, ← g, e))
 
-    pub headed-piece : y ≡ false → Headed t (record { label = f .end; directive = f .end })
+    pub head-piece : y ≡ false → PieceHeadGives t (record { label = f .end; directive = f .end })
     unfolding dataPieces
-    headed-piece e =
+    head-piece e =
         let rest : List Text = pieces (drop (f .end) t) in
         let same : pieces (joined rest) ≡ rest = pieces-joined rest (pieces-words (drop (f .end) t)) in
         let some : 0 < length (take (f .end) t) = rw (length-take-le (f .end) t first-end) (omega (arith, first)) in
         record {
           label-in = first-end;
           directive-in = first-end;
-          says = λ ns i. uncut-line ns i t u ∙ rw (two, second .parts, ← g, e, ← second .parts, nonempty-some i (take (f .end) t) some, body-pieces t (joined rest) (drop (f .end) t) same);
+          says = λ ns i. data-pieces ns i t u ∙ rw (two, second .parts, ← g, e, ← second .parts, nonempty-some i (take (f .end) t) some, body-pieces t (joined rest) (drop (f .end) t) same);
         }

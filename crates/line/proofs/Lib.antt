@@ -1,7 +1,9 @@
 pub mod Parts
 pub mod Next
 pub mod Labels
+pub mod Clauses
+pub mod Shift
 pub mod Directive
 pub mod Data
-pub mod Outlines
-pub mod Lines
+pub mod Texts
+pub mod Answers

@@ -16,7 +16,7 @@ use Rattle.text.proofs.Until.{until-le}
 use Rattle.text.proofs.Pieces.{Next, next-start, next-none, next-some}
 use Rattle.numeral.specs.Number.{numberOf}
 use Rattle.numeral.specs.declared.unsigned.Number.the-variants.{Unreadable}
-use Rattle.line.specs.Line.{part, Part}
+use Rattle.text.specs.Spans.{part, PartIn}
 
 pub pieces-empty : pieces [] ≡ []
 unfolding pieces cutWhere dropEmpty
@@ -26,7 +26,7 @@ module _ (t : Text) (at : ℕ) (r : Span) (e : r ≡ nextPiece t at) (h : at ≤
   ends : r .end ≡ r .start + run (drop (r .start) t)
   ends = let s : r .start ≡ at + leading (drop at t) = ap (λ (x : Span). x .start) e in ap (λ (x : Span). x .end) e ∙ rw s
 
-  pub next-part : Part t (r .start) (r .end)
+  pub next-part : PartIn t (r .start) (r .end)
   next-part = record { ordered = omega (arith, ends); inside = omega (arith, ends, next-start t at r e h, until-le blank (drop (r .start) t), length-drop (r .start) t) }
 
   -- an empty one is none
@@ -40,10 +40,10 @@ module _ (t : Text) (at : ℕ) (r : Span) (e : r ≡ nextPiece t at) (h : at ≤
   pub piece-some : (r .start ≡ r .end → ⊥) → Next t at r
   piece-some d = next-some t at r e (omega (arith, next-part))
 
-  -- the second piece from here is the first behind this one
-  pub nth-behind : nth 1 (pieces (drop at t)) ≡ nth 0 (pieces (drop (r .end) t))
+  -- the second piece from here is the first after this one
+  pub nth-after : nth 1 (pieces (drop at t)) ≡ nth 0 (pieces (drop (r .end) t))
   unfolding nth
-  nth-behind = go (ltb (r .start) (length t)) refl
+  nth-after = go (ltb (r .start) (length t)) refl
     where
       go : (y : Bool) → ltb (r .start) (length t) ≡ y → nth 1 (pieces (drop at t)) ≡ nth 0 (pieces (drop (r .end) t))
       go true q = rw (next-some t at r e (ltb-true (r .start) (length t) q) .parts)
@@ -57,13 +57,13 @@ module _ (t : Text) (at : ℕ) (f s : Span) (p : f ≡ nextPiece t at) (q : s �
   end-in : f .end ≤ length t
   end-in = next-part t at f p h .inside
 
-  pub second-part : Part t (s .start) (s .end)
+  pub second-part : PartIn t (s .start) (s .end)
   second-part = next-part t (f .end) s q end-in
 
   pub second-none : s .start ≡ s .end → Unreadable ≡ numberOf (numberIn (nth 1 (pieces (drop at t))))
   unfolding nth numberIn
-  second-none z = rw (nth-behind t at f p h, next-none t (f .end) s q (piece-none t (f .end) s q end-in z))
+  second-none z = rw (nth-after t at f p h, next-none t (f .end) s q (piece-none t (f .end) s q end-in z))
 
   pub second-some : (s .start ≡ s .end → ⊥) → numberOf (number32 (part t (s .start) (s .end))) ≡ numberOf (numberIn (nth 1 (pieces (drop at t))))
   unfolding nth numberIn
-  second-some d = rw (nth-behind t at f p h, piece-some t (f .end) s q end-in d .parts)
+  second-some d = rw (nth-after t at f p h, piece-some t (f .end) s q end-in d .parts)

@@ -1,83 +1,73 @@
--- What the code answers about a line, read against the line's text. Assumes nothing.
+-- What the code answers about a line, read against the source. Assumes nothing.
 use mathlib.Core.Path.{_≡_}
-use Prim.Native.Nat.{ℕ, zero, suc, _-_, _≤_}
-use mathlib.Core.Option.{Option, none, some}
-use mathlib.Core.List.{List, [], _∷_}
-use lib.ListN.{length, take, drop}
+use Prim.Native.Nat.{ℕ, zero, suc, _+_, _≤_}
+use mathlib.Core.List.{List, [], _∷_, map}
 use Rattle.rules.specs.Text.{Text}
-use Rattle.rules.specs.Line.{Name, name, Body as SaidBody, bare, directive, instructionOf, Line as Said, skipped, end, org, item}
+use Rattle.rules.specs.Line.{Name, name, Task as SaidTask, skipped, end, org, noOrg, labelOnly, instruction, value, space, instructionOf, Line as Said, lineOf}
 use Rattle.text.specs.declared.Span.{Span}
-use Rattle.numeral.specs.declared.unsigned.Number.{Number}
-use Rattle.numeral.specs.declared.unsigned.Number.the-variants.{Value, Unreadable}
+use Rattle.text.specs.Spans.{spanText, SpanIn}
+use Rattle.outline.specs.Lines.{lineFrom}
 use Rattle.line.specs.declared.Names.{Names}
-use Rattle.line.specs.declared.Body.{Body}
-use Rattle.line.specs.declared.Body.the-variants.{Bare, Data, Instruction}
+use Rattle.line.specs.declared.Task.{Task}
+use Rattle.line.specs.declared.Task.the-variants.{Skipped, End, Org, NoOrg, LabelOnly, Instruction, Value, Space}
 use Rattle.line.specs.declared.Line.{Line}
-use Rattle.line.specs.declared.Line.the-variants.{Skipped, End, Org, NoOrg, Item}
 
--- the bytes of a line from a to before e
-abbrev pub part : Text → ℕ → ℕ → Text
-part line a e = take (e - a) (drop a line)
-
-abbrev pub spanText : Text → Span → Text
-spanText line s = part line (s .start) (s .end)
-
+-- a label by its place in the source
 abbrev pub nameAt : Text → Span → Name
-nameAt line s = name (s .start) (spanText line s)
+nameAt source s = name (s .start) (spanText source s)
 
 -- as many of the two labels as the count says
 abbrev pub namesFor : Text → ℕ → Span → Span → List Name
-namesFor line zero a b = []
-namesFor line (suc zero) a b = nameAt line a ∷ []
-namesFor line (suc (suc n)) a b = nameAt line a ∷ nameAt line b ∷ []
+namesFor source zero a b = []
+namesFor source (suc zero) a b = nameAt source a ∷ []
+namesFor source (suc (suc n)) a b = nameAt source a ∷ nameAt source b ∷ []
 
 abbrev pub namesAt : Text → Names → List Name
-namesAt line ns = namesFor line (ns .count) (ns .first) (ns .second)
+namesAt source ns = namesFor source (ns .count) (ns .first) (ns .second)
 
-abbrev pub valueOf : Number → Option ℕ
-valueOf (Value v) = some v
-valueOf Unreadable = none
-
-abbrev pub bodyAt : Text → Body → SaidBody
-bodyAt line Bare = bare
-bodyAt line (Data n v) = directive n (valueOf v)
-bodyAt line (Instruction s) = instructionOf (spanText line s)
+abbrev pub taskAt : Text → Task → SaidTask
+taskAt source Skipped = skipped
+taskAt source End = end
+taskAt source (Org v) = org v
+taskAt source NoOrg = noOrg
+taskAt source LabelOnly = labelOnly
+taskAt source (Instruction s) = instruction (instructionOf (spanText source s))
+taskAt source (Value n v) = value n v
+taskAt source (Space n) = space n
 
 abbrev pub lineAt : Text → Line → Said
-lineAt line Skipped = skipped
-lineAt line End = end
-lineAt line (Org v) = org (some v)
-lineAt line NoOrg = org none
-lineAt line (Item ns b) = item (namesAt line ns) (bodyAt line b)
+lineAt source r = record { names = namesAt source (r .names); task = taskAt source (r .task) }
 
--- from a to before e is a place in the line
-pub record Part (line : Text) (a e : ℕ) : Type 0 where
-  pub ordered : a ≤ e
-  pub inside : e ≤ length line
-
-abbrev pub SpanIn : Text → Span → Type 0
-SpanIn line s = Part line (s .start) (s .end)
-
--- labels, at most so many
-pub record NamesIn (line : Text) (most : ℕ) (ns : Names) : Type 0 where
+-- labels, at most so many, that lie in the source
+pub record NamesIn (source : Text) (most : ℕ) (ns : Names) : Type 0 where
   pub few : ns .count ≤ most
-  pub first : SpanIn line (ns .first)
-  pub second : SpanIn line (ns .second)
+  pub first : SpanIn source (ns .first)
+  pub second : SpanIn source (ns .second)
 
-abbrev pub BodyIn : Text → Body → Type 0
-BodyIn line Bare = Unit
-BodyIn line (Data n v) = n ≤ 4
-BodyIn line (Instruction s) = SpanIn line s
+-- an instruction's text lies in the source, and data have a size of at most 4
+abbrev pub TaskIn : Text → Task → Type 0
+TaskIn source Skipped = Unit
+TaskIn source End = Unit
+TaskIn source (Org v) = Unit
+TaskIn source NoOrg = Unit
+TaskIn source LabelOnly = Unit
+TaskIn source (Instruction s) = SpanIn source s
+TaskIn source (Value n v) = n ≤ 4
+TaskIn source (Space n) = n ≤ 4
 
--- every place in an answer is one in the line
-abbrev pub Within : Text → Line → Type 0
-Within line Skipped = Unit
-Within line End = Unit
-Within line (Org v) = Unit
-Within line NoOrg = Unit
-Within line (Item ns b) = NamesIn line 2 ns × BodyIn line b
+-- the answer says what the rules say, its labels' starts counted in the source
+pub record Says (source : Text) (said : Said) (r : Line) : Type 0 where
+  pub says : lineAt source r ≡ said
+  pub names-in : NamesIn source 2 (r .names)
+  pub task-in : TaskIn source (r .task)
 
--- the answer says, of this line, what the rules say
-pub record Says (line : Text) (said : Said) (r : Line) : Type 0 where
-  pub says : lineAt line r ≡ said
-  pub within : Within line r
+-- what the rules say of a line, with its labels' starts counted from i bytes before it
+abbrev pub nameFrom : ℕ → Name → Name
+nameFrom i n = name (i + n .start) (n .text)
+
+abbrev pub from : ℕ → Said → Said
+from i l = record { names = map (nameFrom i) (l .names); task = l .task }
+
+-- the line that starts at i
+abbrev pub ReadLineGives : Text → ℕ → Line → Type 0
+ReadLineGives source i r = Says source (from i (lineOf (lineFrom source i))) r

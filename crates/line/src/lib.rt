@@ -1,16 +1,19 @@
-// What a line says: paper 01's six steps, answered by value with places in the line.
+// What a line says: paper 01's six steps, answered by value: the labels that it records and its task, with places in the source.
 use numeral::unsigned::Number;
+use outline::Outline;
 use text::Span;
 ghost use mathlib.Core.Path.{_≡_};
-ghost use mathlib.Core.Bool.{_||_};
+ghost use mathlib.Core.Bool.{true, _||_};
 ghost use Prim.Native.Nat.{_≤_};
 ghost use lib.ListN.{length, take, drop};
-ghost use Rattle.rules.specs.Text.{uppers, leading, trim, pieces, uncut, firstCut, contains, nth};
-ghost use Rattle.rules.specs.Line.{numberIn, dataSize, isDirective, dataLine, isData, restLine, labelLine, lineOf};
+ghost use Rattle.rules.specs.Text.{Text, uppers, leading, trim, pieces, uncut, firstCut, contains, nth};
+ghost use Rattle.rules.specs.Line.{numberIn, dataSize, isDirective, dataLine, isData, restLine, labelLine};
+ghost use Rattle.rules.specs.Assemble.{isEnd};
+ghost use Rattle.text.specs.Spans.{part, PartIn};
 ghost use Rattle.numeral.specs.Number.{numberOf};
-ghost use Rattle.line.specs.Line.{part, namesAt, Part, NamesIn, Says};
-ghost use Rattle.line.specs.Outline.{Outlined};
-ghost use Rattle.line.specs.Steps.{Trimmed, Whole, trimmedPart, noNames, withName, orgOf, dataOf, Headed, Goes};
+ghost use Rattle.outline.specs.Outline.{OutlineLineGives};
+ghost use Rattle.line.specs.Line.{namesAt, taskAt, NamesIn, Says, ReadLineGives};
+ghost use Rattle.line.specs.Steps.{Trimmed, Whole, trimmedPart, noNames, withName, plainLine, orgOf, dataOf, PieceHeadGives, SplitLabelGives};
 
 // The labels of a line: as many of the two as the count says.
 pub struct Names {
@@ -19,23 +22,46 @@ pub struct Names {
     pub second: Span,
 }
 
-// What stands behind the labels.
-pub enum Body {
-    Bare,
-    // Its size, and its value if it has one.
-    Data(u32, Number),
-    // Where its text stands in the line.
-    Instruction(Span),
-}
-
-// A line: nothing to do, the end, an address, or labels and what stands behind them.
-pub enum Line {
+// What a line asks of the passes.
+pub enum Task {
+    // Nothing: it is empty or a comment.
     Skipped,
+    // That no further line is read.
     End,
+    // Another address, by ORG's number.
     Org(u32),
     // ORG without a number.
     NoOrg,
-    Item(Names, Body),
+    // Nothing but its label.
+    LabelOnly,
+    // The words of the instruction whose text stands there.
+    Instruction(Span),
+    // Data: its size and its value.
+    Value(u32, u32),
+    // Data without a value: its size.
+    Space(u32),
+}
+
+// A line: its labels and its task.
+pub struct Line {
+    pub names: Names,
+    pub task: Task,
+}
+
+// Whether a task ends the passes.
+pub fn is_end(task: Task) -> bool
+    ensures { λ r. ⌜ ((source : Text) → r ≡ isEnd (taskAt source task)) ⌝ }
+{
+    match task {
+        Task::End => true,
+        Task::Skipped => false,
+        Task::Org(_) => false,
+        Task::NoOrg => false,
+        Task::LabelOnly => false,
+        Task::Instruction(_) => false,
+        Task::Value(_, _) => false,
+        Task::Space(_) => false,
+    }
 }
 
 // ---- Labels, and parts of the line.
@@ -72,12 +98,12 @@ fn with_name(names: Names, start: usize, end: usize) -> Names
     }
 }
 
-// A part of the line without its outer blanks.
-fn trimmed_part(line: &[u8], from: usize, to: usize) -> Span
-    requires { ⌜ Part (now line) from to ⌝ }
-    ensures { λ r. ⌜ r ≡ trimmedPart (now (line .entry)) from to ⌝ }
+// A part of the source without its outer blanks.
+fn trimmed_part(source: &[u8], from: usize, to: usize) -> Span
+    requires { ⌜ PartIn (now source) from to ⌝ }
+    ensures { λ r. ⌜ r ≡ trimmedPart (now (source .entry)) from to ⌝ }
 {
-    let t = &line[from..to];
+    let t = &source[from..to];
     let lead = text::leading_blanks(t);
     let start = from + lead;
     let end = start + text::kept_length(&t[lead..]);
@@ -145,30 +171,33 @@ fn data_size(t: &[u8]) -> u32
     2
 }
 
-// The size of the text's data, and the value by its directive, from `at` on.
-fn data_body(t: &[u8], at: usize) -> Body
+// The data of a text: its size, and the value by its directive, from `at` on.
+fn data_task(t: &[u8], at: usize) -> Task
     requires { ⌜ at ≤ length (now t) ⌝ }
     ensures { λ r. ⌜ r ≡ dataOf (now (t .entry)) (drop at (now (t .entry))) ⌝ }
 {
     let size = data_size(t);
     if !text::contains_upper(t, b"DC.") {
-        return Body::Data(size, Number::Unreadable);
+        return Task::Space(size);
     }
-    Body::Data(size, second_number(t, at))
+    match second_number(t, at) {
+        Number::Value(v) => Task::Value(size, v),
+        Number::Unreadable => Task::Space(size),
+    }
 }
 
 // Step 5 on a text: the length of the label in front, 0 without one, and where the directive starts.
-struct Head {
+struct DataHead {
     label: usize,
     directive: usize,
 }
 
 // The label and the directive of a text without a colon.
-fn piece_head(t: &[u8]) -> Head
+fn piece_head(t: &[u8]) -> DataHead
     requires { ⌜ (leading (now t) ≡ 0) × (firstCut 58 (now t) ≡ uncut) ⌝ }
-    ensures { λ r. ⌜ Headed (now (t .entry)) r ⌝ }
+    ensures { λ r. ⌜ PieceHeadGives (now (t .entry)) r ⌝ }
 {
-    let unlabelled = Head {
+    let unlabelled = DataHead {
         label: 0,
         directive: 0,
     };
@@ -181,55 +210,61 @@ fn piece_head(t: &[u8]) -> Head
     if is_directive(&t[..at]) {
         return unlabelled;
     }
-    Head {
+    DataHead {
         label: at,
         directive: at,
     }
 }
 
 // The label and the directive of any text.
-fn data_head(t: &[u8]) -> Head
+fn data_head(t: &[u8]) -> DataHead
     requires { ⌜ leading (now t) ≡ 0 ⌝ }
-    ensures { λ r. ⌜ Headed (now (t .entry)) r ⌝ }
+    ensures { λ r. ⌜ PieceHeadGives (now (t .entry)) r ⌝ }
 {
     let text::Found::At(colon) = text::find_byte(t, b':') else {
         return piece_head(t);
     };
     let label = label_length(t, colon);
-    Head {
+    DataHead {
         label,
         directive: colon + 1,
     }
 }
 
-// Step 5, behind the labels of step 4.
-fn data_line(line: &[u8], names: Names, start: usize, end: usize) -> Line
-    requires { ⌜ Trimmed (now line) start end × NamesIn (now line) 1 names ⌝ }
-    ensures { λ r. ⌜ Says (now (line .entry)) (dataLine (namesAt (now (line .entry)) names) start (part (now (line .entry)) start end)) r ⌝ }
+// Step 5, after the labels of step 4.
+fn data_line(source: &[u8], names: Names, start: usize, end: usize) -> Line
+    requires { ⌜ Trimmed (now source) start end × NamesIn (now source) 1 names ⌝ }
+    ensures { λ r. ⌜ Says (now (source .entry)) (dataLine (namesAt (now (source .entry)) names) start (part (now (source .entry)) start end)) r ⌝ }
 {
-    let t = &line[start..end];
+    let t = &source[start..end];
     let head = data_head(t);
     let label = head.label;
-    let body = data_body(t, head.directive);
+    let task = data_task(t, head.directive);
     if 0 < label {
-        return Line::Item(with_name(names, start, start + label), body);
+        return Line {
+            names: with_name(names, start, start + label),
+            task,
+        };
     }
-    Line::Item(names, body)
+    Line { names, task }
 }
 
 // ---- The six steps.
 
-// Steps 5 and 6, behind the labels of step 4; without DC. or DS. in the line there is none in its rest.
-fn rest_line(line: &[u8], names: Names, start: usize, end: usize, defines: bool) -> Line
-    requires { ⌜ Trimmed (now line) start end × NamesIn (now line) 1 names × (defines ≡ isData (now line)) ⌝ }
-    ensures { λ r. ⌜ Says (now (line .entry)) (restLine (namesAt (now (line .entry)) names) start (part (now (line .entry)) start end)) r ⌝ }
+// Steps 5 and 6, after the labels of step 4; without DC. or DS. in the line there is none in its rest.
+fn rest_line(source: &[u8], names: Names, start: usize, end: usize, defines: bool) -> Line
+    requires { ⌜ Trimmed (now source) start end × NamesIn (now source) 1 names × (isData (part (now source) start end) ≡ true → defines ≡ true) ⌝ }
+    ensures { λ r. ⌜ Says (now (source .entry)) (restLine (namesAt (now (source .entry)) names) start (part (now (source .entry)) start end)) r ⌝ }
 {
     if defines {
-        if contains_either(&line[start..end], b"DC.", b"DS.") {
-            return data_line(line, names, start, end);
+        if contains_either(&source[start..end], b"DC.", b"DS.") {
+            return data_line(source, names, start, end);
         }
     }
-    Line::Item(names, Body::Instruction(Span { start, end }))
+    Line {
+        names,
+        task: Task::Instruction(Span { start, end }),
+    }
 }
 
 // The labels of step 4, and the rest of the line, from `start` to before `end`.
@@ -239,21 +274,21 @@ struct Split {
     end: usize,
 }
 
-// Step 4's cut at the colon.
-fn split_label(line: &[u8], start: usize, end: usize, colon: usize) -> Split
-    requires { ⌜ Whole (now line) start end colon ⌝ }
-    ensures { λ r. ⌜ Goes (now (line .entry)) start end r ⌝ }
+// Step 4's cut at the colon, of a line's text from `start` to before `end`.
+fn split_label(source: &[u8], start: usize, end: usize, colon: usize) -> Split
+    requires { ⌜ Whole (now source) start end colon ⌝ }
+    ensures { λ r. ⌜ SplitLabelGives (now (source .entry)) start end r ⌝ }
 {
-    if line.len() <= colon {
+    if end <= colon {
         return Split {
             names: no_names(),
             start,
             end,
         };
     }
-    let label = text::kept_length(&line[start..colon]);
+    let label = text::kept_length(&source[start..colon]);
     let names = with_name(no_names(), start, start + label);
-    let rest = trimmed_part(line, colon + 1, end);
+    let rest = trimmed_part(source, colon + 1, end);
     Split {
         names,
         start: rest.start,
@@ -262,48 +297,63 @@ fn split_label(line: &[u8], start: usize, end: usize, colon: usize) -> Split
 }
 
 // Step 4, then the others; `rest_line` is called at one place, so that it is inlined.
-fn label_line(line: &[u8], start: usize, end: usize, colon: usize, defines: bool) -> Line
-    requires { ⌜ Whole (now line) start end colon × (defines ≡ isData (now line)) ⌝ }
-    ensures { λ r. ⌜ Says (now (line .entry)) (labelLine start (part (now (line .entry)) start end)) r ⌝ }
+fn label_line(source: &[u8], start: usize, end: usize, colon: usize, defines: bool) -> Line
+    requires { ⌜ Whole (now source) start end colon × (isData (part (now source) start end) ≡ true → defines ≡ true) ⌝ }
+    ensures { λ r. ⌜ Says (now (source .entry)) (labelLine start (part (now (source .entry)) start end)) r ⌝ }
 {
-    let split = split_label(line, start, end, colon);
+    let split = split_label(source, start, end, colon);
     let names = split.names;
     let from = split.start;
     let to = split.end;
     if from == to {
-        return Line::Item(names, Body::Bare);
+        return Line {
+            names,
+            task: Task::LabelOnly,
+        };
     }
-    rest_line(line, names, from, to, defines)
+    rest_line(source, names, from, to, defines)
 }
 
-// Step 3. The number stands in the variant itself: an enum in it would lie across the labels' count.
-fn org_line(number: Number) -> Line
+// Step 3.
+fn org_task(number: Number) -> Task
     ensures { λ r. ⌜ r ≡ orgOf number ⌝ }
 {
     match number {
-        Number::Value(v) => Line::Org(v),
-        Number::Unreadable => Line::NoOrg,
+        Number::Value(v) => Task::Org(v),
+        Number::Unreadable => Task::NoOrg,
     }
 }
 
-// Steps 1 to 3, then the others, on a line of which the caller tells where it starts, its first colon, and whether DC. or DS. is in it.
-pub fn read_line(line: &[u8], start: usize, colon: usize, defines: bool) -> Line
-    requires { ⌜ Outlined (now line) start colon defines ⌝ }
-    ensures { λ r. ⌜ Says (now (line .entry)) (lineOf (now (line .entry))) r ⌝ }
+// A line without labels.
+fn plain_line(task: Task) -> Line
+    ensures { λ r. ⌜ r ≡ plainLine task ⌝ }
 {
-    let end = start + text::kept_length(&line[start..]);
-    let t = &line[start..end];
+    Line {
+        names: no_names(),
+        task,
+    }
+}
+
+// The line that starts at `at`, whose outline is `o`: steps 1 to 3, then the others.
+pub fn read_line(source: &[u8], at: usize, o: Outline) -> Line
+    requires { ⌜ OutlineLineGives (now source) at o × (at ≤ length (now source)) ⌝ }
+    ensures { λ r. ⌜ ReadLineGives (now (source .entry)) at r ⌝ }
+{
+    let start = o.start;
+    let stop = o.end;
+    let end = start + text::kept_length(&source[start..stop]);
+    let t = &source[start..end];
     if t.len() == 0 {
-        return Line::Skipped;
+        return plain_line(Task::Skipped);
     }
     if t[0] == b';' {
-        return Line::Skipped;
+        return plain_line(Task::Skipped);
     }
     if text::starts_upper(t, b"END") {
-        return Line::End;
+        return plain_line(Task::End);
     }
     if text::starts_upper(t, b"ORG") {
-        return org_line(second_number(t, 0));
+        return plain_line(org_task(second_number(t, 0)));
     }
-    label_line(line, start, end, colon, defines)
+    label_line(source, start, end, o.colon, o.defines)
 }

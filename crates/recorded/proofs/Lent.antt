@@ -1,10 +1,10 @@
 -- Slices whose first places were lent and came back. Assumes nothing.
-use Prim.Native.Nat.{ℕ, _≤_}
-use mathlib.Core.Path.{_≡_, refl, sym, ap, _∙_}
+use Prim.Native.Nat.{ℕ}
+use mathlib.Core.Path.{_≡_}
 use mathlib.Core.List.{List, _++_}
 use lib.ListN.{length, take, drop}
 use Rattle.rules.specs.Text.{Text}
-use Rattle.rules.specs.Assemble.{Slices, slices, over}
+use Rattle.rules.specs.Assemble.{slices, over}
 use Rattle.answer.specs.declared.Answer.{Answer}
 use Rattle.assemble.specs.Assembled.{Assembled}
 use Rattle.recorded.specs.Recorded.{front, onto, Called}

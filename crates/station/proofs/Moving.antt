@@ -1,5 +1,5 @@
 -- The mover on slices whose front a list fills: what stands behind the list changes nothing of what is printed. Assumes nothing.
-use Prim.Native.Nat.{ℕ, zero, suc, _+_, _≤_}
+use Prim.Native.Nat.{ℕ, zero, suc, _≤_}
 use mathlib.Core.Path.{_≡_, refl, ap}
 use mathlib.Core.Bool.{Bool, true, false}
 use mathlib.Core.List.{List, [], _∷_, _++_, map}
@@ -22,7 +22,7 @@ use Rattle.listing.specs.declared.reading.Parsed.the-variants.{Count, Bad}
 use Rattle.listing.proofs.RoundTrip.{length-places}
 use Rattle.relocate.specs.Moved.{Moved}
 use Rattle.relocate.proofs.Verdict.{passed}
-use Rattle.relocate.proofs.Moves.{move-keeps-marks, by-slice}
+use Rattle.relocate.proofs.Callers.{move-keeps-marks, by-slice}
 use Rattle.station.specs.Station.{answerText, wrongLineText, filledBy, movedSlicesText, parsedText, movedText}
 
 -- slices that a list fills, and more behind it

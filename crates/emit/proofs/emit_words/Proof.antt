@@ -1,60 +1,95 @@
 -- `emit_words` takes one line after another. Assumes nothing.
-use Prim.Native.Nat.{_-_}
+use Prim.Native.Nat.{_-_, _*_}
+use borrow.Author.Needs.{needs}
+use native.Mathlib.Nat.{le-refl}
 use native.Mathlib.Omega.{arith}
-use lib.ListN.{length}
-use Rattle.label.specs.Table.{tableOf}
-use Rattle.kept.specs.Lines.{startOf}
-use Rattle.emit.specs.Emit.{Values}
-use Rattle.emit.proofs.Callers.{list-short}
-use Rattle.emit.proofs.Passes.{taking, words-fit, lengths-then, emitting-all}
-use Rattle.emit.proofs.Turns.{Turn, first-turn, standing, turn-less, next-turn}
+use Rattle.emit.specs.Emit.{Room}
+use Rattle.rules.specs.Assemble.{slices}
+use Rattle.emit.proofs.Emitting.{Emitting, emitting-start, rest-room, rest-lent, after-fits, value-needs, code-needs, emitting-more, emitting-long, all-counted, count-fits, all-put}
 use Rattle.emit.proofs.emit_words.Statement.{statement}
 use Rattle.emit.proofs.emit_words.Tie as tie
 
 abbrev Inv-loop : tie.InvT-loop
-Inv-loop write source base table labels cells values addresses₀ words₀ marks₀ k₀ address₀ done₀ addresses words marks k address done =
-    Turn write (tableOf source table labels) base source cells values addresses₀ words₀ marks₀ addresses words marks k address done
+Inv-loop write source table cells pass addresses₀ words₀ marks₀ rest turn₀ k₀ addresses words marks turn k =
+    Emitting write source table cells pass rest (slices addresses₀ words₀ marks₀) (slices addresses words marks) turn k
 
 abbrev μ-loop : tie.MeasureT-loop
-μ-loop write source base table labels cells values addresses₀ words₀ marks₀ k₀ address₀ done₀ addresses words marks k address done = length source - startOf source k
+μ-loop write source table cells pass addresses₀ words₀ marks₀ rest turn₀ k₀ addresses words marks turn k = pass .lines - k
 
 loop-holds : tie.Need-loop-holds Inv-loop μ-loop
-loop-holds c = first-turn _ _ _ _ _ _ _ _ _ _ (c .before .before .before .before .before .before .pre .0 .0) (c .before .before .before .before .before .before .pre .0 .1) (c .before .before .before .before .before .before .pre .1 .0) (c .before .before .before .before .before .before .pre .1 .1)
+loop-holds c = emitting-start _ _ _ _ _ _ _ (c .rest-start .ensures)
 
-read-words-requires : tie.Need-read-words-requires Inv-loop μ-loop
-read-words-requires c κs = standing (c .before .before .before .before .before .before .before .pre .0 .0) (c .loop .inv)
+kept-line-requires : tie.Need-kept-line-requires Inv-loop μ-loop
+kept-line-requires c κs = record { room = omega (arith, c .before .before .before .before .before .before .before .before .before .before .pre .holds .lines .room, c .if1 .taken) }
 
-take-line-requires : tie.Need-take-line-requires Inv-loop μ-loop
-take-line-requires c κs = taking (c .before .before .before .before .loop .inv .emits) (c .before .before .before .read-words .ensures) (c .before .before .before .before .before .before .before .before .before .before .before .pre .0 .0 .short)
+take-value-requires : tie.Need-take-value-requires Inv-loop μ-loop
+take-value-requires c κs = value-needs (c .before .before .before .before .before .before .before .before .before .before .before .before .before .before .pre) (c .before .before .before .before .before .before .loop .inv) (c .before .before .before .before .if1 .taken) _ (c .before .before .before .kept-line .ensures) (c .before .before .before .before .before .before .before .before .before .before .before .before .before .before .good .1 .1 .1 .0 .0)
 
-add-result : tie.Need-add-result Inv-loop μ-loop
-add-result c =
-    let s = c .before .before .before .before .before .before .before .before .before .before .before .before .before .before .before .before .before .before .before .before .args in
-    let h = list-short Values (tableOf (s .source .now) (s .table .now) (s .labels)) (s .base) (s .source .now) (c .before .before .before .before .before .before .before .before .before .before .before .before .before .before .before .before .before .before .before .before .pre .0 .0 .short) in
-    let e = c .before .before .before .before .before .before .before .before .before .before .before .before .before .before .before .before .before .before .before .before .pre .0 .1 in
-    let k = words-fit (c .before .before .before .before .before .before .before .before .before .before .before .before .before .loop .inv .emits) (c .before .before .before .before .before .before .before .before .before .before .before .before .read-words .ensures) (c .before .before .before .before .before .before .before .before .take-line .ensures .0) (c .before .before .before .before .before .before .before .before .take-line .ensures .1) (c .before .before .before .before .before .before .before .before .before .before .before .before .before .before .before .before .before .before .before .before .pre .0 .0 .short) in
-    omega arith
+lent : (c : tie.After-slice-known6 Inv-loop μ-loop) → Room (c .before .before .before .before .before .before .before .before .before .before .before .before .before .before .rest-start .result) (slices (c .before .before .before .before .before .before .take-value .last .1 .1 .0) (c .before .before .before .before .before .before .take-value .last .1 .1 .1 .0) (c .before .before .before .before .before .before .take-value .last .1 .1 .1 .1 .0))
+lent c = rest-lent (c .before .before .before .before .before .before .before .before .before .before .before .before .before .before .before .before .before .before .before .before .before .pre) (c .before .before .before .before .before .before .before .before .before .before .before .before .before .loop .inv) (c .before .before .before .before .before .before .before .before .before .before .before .if1 .taken) _ _ _ _ _ (c .before .before .before .before .before .before .take-value .ensures (c .before .before .before .before .before .before .before .before .before .before .before .before .before .before .before .before .before .before .before .before .before .args .source .now) .put)
 
-same-length : tie.Need-same-length Inv-loop μ-loop
-same-length c = lengths-then (c .before .before .before .before .before .before .before .before .before .before .before .before .before .loop .inv .emits) (c .before .before .before .before .before .before .before .before .before .before .before .before .read-words .ensures) (c .before .before .before .before .before .before .before .before .take-line .ensures .0) (c .before .before .before .before .before .before .before .before .take-line .ensures .1) .addresses
+mul-encode-task : tie.Need-mul-encode-task Inv-loop μ-loop
+mul-encode-task c = record { fits = omega (arith, rest-room (c .before .before .before .before .before .before .before .before .before .before .before .before .before .before .before .before .before .before .before .before .before .pre) (c .before .before .before .before .before .before .before .before .before .before .before .before .before .before .rest-start .ensures) .addresses, c .before .before .before .before .before .before .before .before .before .before .before .before .before .before .before .before .before .before .before .before .before .good .1 .1 .1 .1 .1 .0 .1) }
 
-same-length-2 : tie.Need-same-length-2 Inv-loop μ-loop
-same-length-2 c = lengths-then (c .before .before .before .before .before .before .before .before .before .before .before .before .before .loop .inv .emits) (c .before .before .before .before .before .before .before .before .before .before .before .before .read-words .ensures) (c .before .before .before .before .before .before .before .before .take-line .ensures .0) (c .before .before .before .before .before .before .before .before .take-line .ensures .1) .words
+sub-encode-task : tie.Need-sub-encode-task Inv-loop μ-loop
+sub-encode-task c = lent c .addresses
 
-same-length-3 : tie.Need-same-length-3 Inv-loop μ-loop
-same-length-3 c = lengths-then (c .before .before .before .before .before .before .before .before .before .before .before .before .before .loop .inv .emits) (c .before .before .before .before .before .before .before .before .before .before .before .before .read-words .ensures) (c .before .before .before .before .before .before .before .before .take-line .ensures .0) (c .before .before .before .before .before .before .before .before .take-line .ensures .1) .marks
+part-encode-task-start : tie.Need-part-encode-task-start Inv-loop μ-loop
+part-encode-task-start c = lent c .addresses
 
-returns : tie.Need-returns Inv-loop μ-loop
-returns c = emitting-all (c .before .before .before .before .before .before .before .before .before .before .before .before .before .loop .inv .emits) (c .before .before .before .before .before .before .before .before .before .before .before .before .read-words .ensures) (c .before .before .before .before .before .before .before .before .take-line .ensures .0) (c .before .before .before .before .before .before .before .before .take-line .ensures .1) (c .before .if1 .taken) (c .before .before .before .before .before .before .before .before .before .before .before .before .before .before .before .before .before .before .before .before .pre .0 .1)
+part-encode-task-end : tie.Need-part-encode-task-end Inv-loop μ-loop
+part-encode-task-end c = le-refl _
+
+mul-encode-task-2 : tie.Need-mul-encode-task-2 Inv-loop μ-loop
+mul-encode-task-2 c = record { fits = omega (arith, rest-room (c .before .before .before .before .before .before .before .before .before .before .before .before .before .before .before .before .before .before .before .before .before .before .pre) (c .before .before .before .before .before .before .before .before .before .before .before .before .before .before .before .rest-start .ensures) .words, c .before .before .before .before .before .before .before .before .before .before .before .before .before .before .before .before .before .before .before .before .before .before .good .1 .1 .1 .1 .1 .1 .0 .1) }
+
+sub-encode-task-2 : tie.Need-sub-encode-task-2 Inv-loop μ-loop
+sub-encode-task-2 c = lent (c .before) .words
+
+part-encode-task-start-2 : tie.Need-part-encode-task-start-2 Inv-loop μ-loop
+part-encode-task-start-2 c = lent (c .before) .words
+
+part-encode-task-end-2 : tie.Need-part-encode-task-end-2 Inv-loop μ-loop
+part-encode-task-end-2 c = le-refl _
+
+sub-encode-task-3 : tie.Need-sub-encode-task-3 Inv-loop μ-loop
+sub-encode-task-3 c = lent (c .before .before) .marks
+
+part-encode-task-start-3 : tie.Need-part-encode-task-start-3 Inv-loop μ-loop
+part-encode-task-start-3 c = lent (c .before .before) .marks
+
+part-encode-task-end-3 : tie.Need-part-encode-task-end-3 Inv-loop μ-loop
+part-encode-task-end-3 c = le-refl _
+
+encode-task-requires : tie.Need-encode-task-requires Inv-loop μ-loop
+encode-task-requires c κs = code-needs (c .before .before .before .before .before .before .before .before .before .before .before .before .before .before .before .before .before .before .before .before .before .before .before .before .pre) (c .before .before .before .before .before .before .before .before .before .before .before .before .before .before .before .before .loop .inv) (c .before .before .before .before .before .before .before .before .before .before .before .before .before .before .if1 .taken) _ (c .before .before .before .before .before .before .before .before .before .before .before .before .before .kept-line .ensures) (c .before .before .before .before .before .before .before .before .before .before .before .before .before .before .before .before .before .before .before .before .before .before .before .before .good .1 .1 .1 .0 .0) _ _ _ _ _ (c .before .before .before .before .before .before .before .before .before .take-value .ensures (c .before .before .before .before .before .before .before .before .before .before .before .before .before .before .before .before .before .before .before .before .before .before .before .before .args .source .now) .put)
+
+cast-t38 : tie.Need-cast-t38 Inv-loop μ-loop
+cast-t38 c = record { fits = rw (c .address-after .ensures) (after-fits (c .before .before .before .before .before .before .before .before .before .before .before .before .before .before .before .before .before .before .before .before .before .before .before .before .before .before .before .before .before .before .before .before .pre) (c .before .before .before .before .before .before .before .before .before .before .before .before .before .before .before .before .before .before .before .before .before .before .before .before .loop .inv) (c .before .before .before .before .before .before .before .before .before .before .before .before .before .before .before .before .before .before .before .before .before .before .if1 .taken) _ (c .before .before .before .before .before .before .before .before .before .before .before .before .before .before .before .before .before .before .before .before .before .kept-line .ensures) (c .before .before .before .before .before .before .before .before .before .before .before .before .before .before .before .before .before .before .before .before .before .before .before .before .before .before .before .before .before .shared-slice-known3 .given (2 * c .before .before .before .before .before .before .before .before .before .before .before .before .before .before .before .before .before .before .before .before .before .before .before .before .loop .k) .fits)) }
 
 add-k : tie.Need-add-k Inv-loop μ-loop
-add-k c = omega (arith, standing (c .before .before .before .before .before .before .before .before .before .before .before .before .before .before .before .before .before .before .before .pre .0 .0) (c .before .before .before .before .before .before .before .before .before .before .before .before .loop .inv) .stands .few)
+add-k c = omega (arith, c .before .before .before .before .before .before .before .before .before .before .before .before .before .before .before .before .before .before .before .before .before .before .if1 .taken, c .before .before .before .before .before .before .before .before .before .before .before .before .before .before .before .before .before .before .before .before .before .before .before .struct-known .given)
 
 loop-less : tie.Need-loop-less Inv-loop μ-loop
-loop-less c = turn-less (c .before .before .before .before .before .before .before .before .before .before .before .before .loop .inv) (c .before .before .before .before .before .before .before .before .before .before .before .read-words .ensures) (c .if1 .left)
+loop-less c = omega (arith, c .before .before .before .before .before .before .before .before .before .before .before .before .before .before .before .before .before .before .before .before .before .before .if1 .taken)
 
 loop-again : tie.Need-loop-again Inv-loop μ-loop
-loop-again c = next-turn (c .before .before .before .before .before .before .before .before .before .before .before .before .loop .inv) (c .before .before .before .before .before .before .before .before .before .before .before .read-words .ensures) (c .if1 .left) (c .before .before .before .before .before .before .before .take-line .ensures .0) (c .before .before .before .before .before .before .before .take-line .ensures .1)
+loop-again c = emitting-more (c .before .before .before .before .before .before .before .before .before .before .before .before .before .before .before .before .before .before .before .before .before .before .before .before .before .before .before .before .before .before .before .before .pre) (c .before .before .before .before .before .before .before .before .before .before .before .before .before .before .before .before .before .before .before .before .before .before .before .before .loop .inv) (c .before .before .before .before .before .before .before .before .before .before .before .before .before .before .before .before .before .before .before .before .before .before .if1 .taken) _ (c .before .before .before .before .before .before .before .before .before .before .before .before .before .before .before .before .before .before .before .before .before .kept-line .ensures) (c .before .before .before .before .before .before .before .before .before .before .before .before .before .before .before .before .before .take-value .ensures) (c .before .before .before .before .before .before .before .encode-task .ensures) (c .address-after .ensures)
+
+add-result : tie.Need-add-result Inv-loop μ-loop
+add-result c = record { fits = count-fits (c .before .before .before .before .loop .inv) (c .before .before .before .before .before .before .before .before .before .before .before .before .pre) (c .before .before .if1 .left) (c .before .before .before .before .before .before .before .before .before .before .before .before .good .1 .1 .1 .0 .0) }
+
+same-length : tie.Need-same-length Inv-loop μ-loop
+same-length c = emitting-long (c .before .before .before .before .loop .inv) .addresses
+
+same-length-2 : tie.Need-same-length-2 Inv-loop μ-loop
+same-length-2 c = emitting-long (c .before .before .before .before .loop .inv) .words
+
+same-length-3 : tie.Need-same-length-3 Inv-loop μ-loop
+same-length-3 c = emitting-long (c .before .before .before .before .loop .inv) .marks
+
+returns : tie.Need-returns Inv-loop μ-loop
+returns c = (all-counted (c .before .before .before .before .loop .inv) (c .before .before .before .before .before .before .before .before .before .before .before .before .pre) (c .before .before .if1 .left), all-put (c .before .before .before .before .loop .inv) (c .before .before .before .before .before .before .before .before .before .before .before .before .pre) (c .before .before .if1 .left))
 
 pub emit-words-spec : {M : Type 1} → statement M
 emit-words-spec =
@@ -62,14 +97,29 @@ emit-words-spec =
     (tie.spec
     Inv-loop
     μ-loop
+    (λ c κs. search needs)
     loop-holds
-    read-words-requires
-    take-line-requires
+    kept-line-requires
+    take-value-requires
+    mul-encode-task
+    sub-encode-task
+    part-encode-task-start
+    part-encode-task-end
+    mul-encode-task-2
+    sub-encode-task-2
+    part-encode-task-start-2
+    part-encode-task-end-2
+    sub-encode-task-3
+    part-encode-task-start-3
+    part-encode-task-end-3
+    encode-task-requires
+    (λ c κs. search needs)
+    cast-t38
+    add-k
+    loop-less
+    loop-again
     add-result
     same-length
     same-length-2
     same-length-3
-    returns
-    add-k
-    loop-less
-    loop-again)
+    returns)

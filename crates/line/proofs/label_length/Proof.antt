@@ -1,4 +1,4 @@
--- `label_length` meets its contract: the text before a colon, trimmed, and its length. Assumes nothing.
+-- `label_length` trims the text before a colon. Assumes nothing.
 use mathlib.Core.Path.{sym, ap}
 use lib.ListN.{length}
 use lib.Seq.{length-take-le}
@@ -9,11 +9,8 @@ use Rattle.line.proofs.label_length.Tie as tie
 slice-aggregate-trimmed : tie.Need-slice-aggregate-trimmed
 slice-aggregate-trimmed c = sym (length-take-le _ _ (c .before .before .pre))
 
-trimmed-requires : tie.Need-trimmed-requires
-trimmed-requires c κs = search needs
-
 returns : tie.Need-returns
 returns c = ap length (c .trimmed .ensures)
 
 pub label-length-spec : {M : Type 1} → statement M
-label-length-spec = tie.close (tie.spec slice-aggregate-trimmed trimmed-requires returns)
+label-length-spec = tie.close (tie.spec slice-aggregate-trimmed (λ c κs. search needs) returns)

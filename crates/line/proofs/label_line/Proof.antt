@@ -1,5 +1,5 @@
--- `label_line` meets its contract: the line is done behind its label, or its rest goes on. Assumes nothing.
-use Rattle.line.proofs.Lines.{says-label, says-labelled}
+-- `label_line` is done after a label, or its rest goes on. Assumes nothing.
+use Rattle.line.proofs.Answers.{says-label, says-labelled, rest-told}
 use borrow.Author.Needs.{needs}
 use Rattle.line.proofs.label_line.Statement.{statement}
 use Rattle.line.proofs.label_line.Tie as tie
@@ -8,7 +8,7 @@ returns : tie.Need-returns
 returns c = says-label (c .before .before .split-label .ensures) (c .if1 .taken)
 
 rest-line-requires : tie.Need-rest-line-requires
-rest-line-requires c κs = (c .before .before .split-label .ensures .rest-in, c .before .before .split-label .ensures .names-in, c .before .before .before .before .pre .1)
+rest-line-requires c κs = (c .before .before .split-label .ensures .rest-in, c .before .before .split-label .ensures .names-in, rest-told (c .before .before .split-label .ensures) (c .before .before .before .before .pre .1))
 
 returns-2 : tie.Need-returns-2
 returns-2 c = says-labelled (c .before .before .before .split-label .ensures) (c .before .if1 .left) (c .rest-line .ensures)

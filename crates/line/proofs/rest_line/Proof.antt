@@ -1,8 +1,8 @@
--- `rest_line` meets its contract: what stands behind the labels is data, or an instruction. Assumes nothing.
+-- `rest_line` makes data or an instruction of what is after the labels. Assumes nothing.
 use mathlib.Core.Path.{sym, _∙_}
 use Rattle.rules.specs.Text.{bytes}
 use Rattle.rules.specs.Line.{isData}
-use Rattle.line.proofs.Lines.{says-data, says-instruction, says-undefined}
+use Rattle.line.proofs.Answers.{says-data, says-instruction, says-undefined}
 use borrow.Author.Needs.{needs}
 use Rattle.line.proofs.rest_line.Statement.{statement}
 use Rattle.line.proofs.rest_line.Tie as tie

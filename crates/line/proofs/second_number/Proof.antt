@@ -1,12 +1,9 @@
--- `second_number` meets its contract: the second piece is the one behind the next. Assumes nothing.
+-- `second_number` reads the piece after the next. Assumes nothing.
 use mathlib.Core.Path.{_∙_}
 use Rattle.line.proofs.Next.{next-part, second-part, second-none, second-some}
 use borrow.Author.Needs.{needs}
 use Rattle.line.proofs.second_number.Statement.{statement}
 use Rattle.line.proofs.second_number.Tie as tie
-
-next-piece-requires : tie.Need-next-piece-requires
-next-piece-requires c κs = search needs
 
 next-piece-requires-2 : tie.Need-next-piece-requires-2
 next-piece-requires-2 c κs = next-part _ _ _ (c .next-piece .ensures) (c .before .before .pre) .inside
@@ -23,9 +20,6 @@ part-parse-u32-start c = second-part _ _ _ _ (c .before .before .next-piece .ens
 part-parse-u32-end : tie.Need-part-parse-u32-end
 part-parse-u32-end c = second-part _ _ _ _ (c .before .before .next-piece .ensures) (c .before .next-piece2 .ensures) (c .before .before .before .before .pre) .inside
 
-parse-u32-requires : tie.Need-parse-u32-requires
-parse-u32-requires c κs = search needs
-
 returns-2 : tie.Need-returns-2
 returns-2 c = c .parse-u32 .ensures ∙ second-some _ _ _ _ (c .before .before .before .before .next-piece .ensures) (c .before .before .before .next-piece2 .ensures) (c .before .before .before .before .before .before .pre) (c .before .before .if1 .left)
 
@@ -33,11 +27,11 @@ pub second-number-spec : {M : Type 1} → statement M
 second-number-spec =
     tie.close
     (tie.spec
-    next-piece-requires
+    (λ c κs. search needs)
     next-piece-requires-2
     returns
     sub-parse-u32
     part-parse-u32-start
     part-parse-u32-end
-    parse-u32-requires
+    (λ c κs. search needs)
     returns-2)

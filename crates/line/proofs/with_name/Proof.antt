@@ -1,4 +1,4 @@
--- `with_name` meets its contract: one label more: the first where there is none yet, else the second. Assumes nothing.
+-- `with_name` puts the first label where there is none yet, else the second. Assumes nothing.
 use mathlib.Core.Path.{sym}
 use Rattle.line.proofs.Labels.{names-two}
 use Rattle.line.proofs.with_name.Statement.{statement}

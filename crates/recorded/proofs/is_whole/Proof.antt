@@ -1,5 +1,5 @@
 -- `is_whole` meets its contract: each return is one part that is not whole, and past all of them the record is. Assumes nothing.
-use mathlib.Core.Path.{sym, ap, _∙_}
+use mathlib.Core.Path.{sym, _∙_}
 use native.Mathlib.Omega.{arith}
 use borrow.Author.Needs.{needs}
 use borrow.Author.Tests.{leb-true, le-leb}

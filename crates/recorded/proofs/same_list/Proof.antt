@@ -1,6 +1,5 @@
 -- `same_list` meets its contract. The invariant: the two lists agree at every place below i. Assumes nothing.
 use Prim.Native.Nat.{ℕ, _≤_, _<_, _-_}
-use mathlib.Core.List.{List}
 use mathlib.Core.Path.{_≡_, refl, ap}
 use mathlib.Core.Bool.{false≢true}
 use native.Mathlib.Omega.{arith}

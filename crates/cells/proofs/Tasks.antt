@@ -1,0 +1,83 @@
+-- What a task comes to in the rules: its data words, its size, and the address after it. Assumes nothing.
+use mathlib.Core.Path.{_≡_, refl, ap}
+use mathlib.Core.Bool.{Bool, true, false, cond}
+use mathlib.Core.List.{List, [], _∷_}
+use Prim.Native.Nat.{ℕ, suc, _+_, _≤_}
+use native.Mathlib.Omega.{arith}
+use lib.ListN.{length}
+use Rattle.rules.specs.Limits.{maxSource}
+use Rattle.rules.specs.Text.{Text, lastText}
+use Rattle.rules.specs.Line.{Instruction as Said, instructionOf, isLong, instructionSize, size}
+use Rattle.rules.specs.Encode.{Cell}
+use Rattle.rules.specs.Assemble.{addressAfter, dataCells, placesAt, dataPlaces}
+use Rattle.text.specs.Spans.{spanText}
+use Rattle.line.specs.declared.Task.{Task}
+use Rattle.line.specs.declared.Task.the-variants.{Skipped, End, Org, NoOrg, LabelOnly, Instruction, Value, Space}
+use Rattle.line.specs.Line.{taskAt, TaskIn}
+use Rattle.cells.specs.Cells.{dataWords, taskAfter, afterBy, Fits}
+use Rattle.cells.specs.Sizes.{sizeOf}
+use Rattle.cells.specs.declared.Kept.{Kept}
+
+-- ---- data words
+pub data-cells : (source : Text) (t : Task) → dataWords t ≡ length (dataCells (taskAt source t))
+unfolding dataCells
+data-cells source Skipped = refl
+data-cells source End = refl
+data-cells source (Org v) = refl
+data-cells source NoOrg = refl
+data-cells source LabelOnly = refl
+data-cells source (Instruction s) = refl
+data-cells source (Value n v) = refl
+data-cells source (Space n) = refl
+
+places-length : (a : ℕ) (cs : List Cell) → length (placesAt a cs) ≡ length cs
+unfolding placesAt
+places-length a [] = refl
+places-length a (c ∷ cs) = ap suc (places-length (a + 2) cs)
+
+pub data-places : (source : Text) (a : ℕ) (t : Task) → dataWords t ≡ length (dataPlaces (record { address = a; task = taskAt source t }))
+unfolding dataPlaces
+data-places source a t = rw places-length (data-cells source t)
+
+-- ---- the address after it, and sizes
+after-task : (source : Text) (base a : ℕ) (t : Task) → taskAfter base a t (sizeOf source t) ≡ addressAfter size base a (taskAt source t)
+unfolding addressAfter
+after-task source base a Skipped = omega arith
+after-task source base a End = omega arith
+after-task source base a (Org v) = refl
+after-task source base a NoOrg = omega arith
+after-task source base a LabelOnly = omega arith
+after-task source base a (Instruction s) = refl
+after-task source base a (Value n v) = refl
+after-task source base a (Space n) = refl
+
+pub after-kept : (source : Text) (base a : ℕ) (k : Kept) → k .size ≡ sizeOf source (k .task) → afterBy base a k ≡ addressAfter size base a (taskAt source (k .task))
+after-kept source base a k e = rw e (after-task source base a (k .task))
+
+-- a size is at most 4
+long-most : (y : Bool) → cond y 4 2 ≤ 4
+long-most true = omega arith
+long-most false = omega arith
+
+instruction-most : (i : Said) → size i ≤ 4
+unfolding size instructionSize
+instruction-most i = go (i .operands)
+  where
+    go : (ps : List Text) → instructionSize (i .mnemonic) (i .suffix) ps ≤ 4
+    go [] = omega arith
+    go (s ∷ []) = omega arith
+    go (s ∷ t ∷ ps) = long-most (isLong (i .mnemonic) (i .suffix) s (lastText t ps))
+
+-- a task of the source can be kept with its size
+pub task-fits : (source : Text) (k : Kept) → length source ≤ maxSource → TaskIn source (k .task) → k .size ≡ sizeOf source (k .task) → Fits k
+task-fits source k l h e = go (k .task) h e
+  where
+    go : (t : Task) → TaskIn source t → k .size ≡ sizeOf source t → Fits (record { task = t; size = k .size })
+    go Skipped h e = record { small = omega arith; place = tt; sized = tt }
+    go End h e = record { small = omega arith; place = tt; sized = tt }
+    go (Org v) h e = record { small = omega arith; place = tt; sized = tt }
+    go NoOrg h e = record { small = omega arith; place = tt; sized = tt }
+    go LabelOnly h e = record { small = omega arith; place = tt; sized = tt }
+    go (Instruction s) h e = record { small = omega (arith, instruction-most (instructionOf (spanText source s))); place = (omega (arith, h .ordered, h .inside), omega (arith, h .inside)); sized = tt }
+    go (Value n v) h e = record { small = omega arith; place = tt; sized = cc }
+    go (Space n) h e = record { small = omega arith; place = tt; sized = cc }

@@ -1,4 +1,0 @@
-pub mod Collect
-pub mod Names
-pub mod Progress
-pub mod Keeping

@@ -1,0 +1,42 @@
+-- `encode_task` takes the words of an instruction; no other task has any. Assumes nothing.
+use borrow.Author.Needs.{needs}
+use Rattle.emit.proofs.LineCode.{span-in, instruction-near, places-room, instruction-places, no-instruction, taken-as, taken-none}
+use Rattle.emit.proofs.encode_task.Statement.{statement}
+use Rattle.emit.proofs.encode_task.Tie as tie
+
+returns : tie.Need-returns
+returns c = taken-none _ _ _ _ (no-instruction _ (c .before .before .before .before .before .before .args .source .now) _ (c .before .before .before .before .before .before .args .task) (c .match .keys2))
+
+sub-encode-instruction : tie.Need-sub-encode-instruction
+sub-encode-instruction c = span-in _ _ _ (c .before .task .given .1) (c .before .before .before .before .before .before .before .before .pre .within) .ordered
+
+part-encode-instruction-start : tie.Need-part-encode-instruction-start
+part-encode-instruction-start c = span-in _ _ _ (c .before .task .given .1) (c .before .before .before .before .before .before .before .before .pre .within) .ordered
+
+part-encode-instruction-end : tie.Need-part-encode-instruction-end
+part-encode-instruction-end c = span-in _ _ _ (c .before .task .given .1) (c .before .before .before .before .before .before .before .before .pre .within) .inside
+
+encode-instruction-requires : tie.Need-encode-instruction-requires
+encode-instruction-requires c κs = instruction-near _ _ _ (c .before .before .task .given .1) (c .before .before .before .before .before .before .before .before .before .pre)
+
+take-code-requires : tie.Need-take-code-requires
+take-code-requires c κs = (c .before .before .before .before .before .before .before .before .before .before .before .before .before .pre .near .address-below, places-room _ (c .before .before .before .encode-instruction .result) _ _ _ _ (instruction-places _ _ _ _ _ _ (c .before .before .before .before .before .before .task .given .1) (c .before .before .before .encode-instruction .ensures)) (c .before .before .before .before .before .before .before .before .before .before .before .before .before .pre .room))
+
+returns-2 : tie.Need-returns-2
+returns-2 c = taken-as _ (instruction-places _ _ _ _ _ _ (c .before .before .before .before .before .before .before .before .before .before .before .before .before .task .given .1) (c .before .before .before .before .before .before .before .before .before .before .encode-instruction .ensures)) (c .before .before .before .before .before .before .take-code .ensures)
+
+pub encode-task-spec : {M : Type 1} → statement M
+encode-task-spec =
+    tie.close
+    (tie.spec
+    (λ c. search needs)
+    returns
+    sub-encode-instruction
+    part-encode-instruction-start
+    part-encode-instruction-end
+    encode-instruction-requires
+    take-code-requires
+    (λ c. search needs)
+    (λ c. search needs)
+    (λ c. search needs)
+    returns-2)

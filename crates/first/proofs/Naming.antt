@@ -1,0 +1,255 @@
+-- Labels recorded one after another: what one leaves, and what two leave. Assumes nothing.
+use mathlib.Core.Path.{_≡_, refl, sym, ap, _∙_}
+use mathlib.Core.Bool.{Bool, true, false, false≢true}
+use mathlib.Core.Option.{Option, none, some}
+use mathlib.Core.List.{List, [], _∷_, map}
+use Prim.Native.Nat.{ℕ, zero, suc, _+_, _-_, _≤_}
+use native.Mathlib.Nat.{zero-add}
+use native.Mathlib.Omega.{arith}
+use lib.ListN.{length, drop}
+use lib.Seq.{drop-drop}
+use Rattle.rules.specs.Limits.{maxSource}
+use Rattle.rules.specs.Text.{Text, same}
+use Rattle.rules.specs.Line.{SourceLine, Name}
+use Rattle.rules.specs.Label.{Label, Table, find, recorded, hasRoom, recordAll}
+use Rattle.text.specs.declared.Span.{Span}
+use Rattle.text.specs.Spans.{SpanIn}
+use Rattle.label.specs.Table.{cellOf, tableOf, Held}
+use Rattle.label.specs.Record.{Ready, Recording, spanLabel}
+use Rattle.label.specs.declared.Recorded.{Recorded}
+use Rattle.label.specs.declared.Recorded.the-variants.{Count, Full}
+use Rattle.label.proofs.Table.{table-length}
+use Rattle.label.proofs.Record.{Keeps, kept, refused}
+use Rattle.line.specs.declared.Names.{Names}
+use Rattle.line.specs.Line.{nameAt, namesFor, namesAt, nameFrom}
+use Rattle.first.specs.Stopped.{labelOf, recordSome}
+use Rattle.first.specs.Pass.{HoldsLabels, RoomFor}
+use Rattle.first.specs.Names.{RecordNamesNeeds, recordedOf, atStart, Named}
+
+-- ---- recording by the rules
+-- by whether there is room
+module _ (l : SourceLine) (a : ℕ) (n : Name) (ns : List Name) (t : Table) where
+  module _ (e : hasRoom (find (n .text) t) t ≡ true) where
+    record-room : recordAll l a (n ∷ ns) t ≡ recordAll l a ns (recorded (labelOf l a n) t)
+    unfolding recordAll
+    record-room = rw (e, recordAll)
+
+    pub some-room : recordSome l a (n ∷ ns) t ≡ recordSome l a ns (recorded (labelOf l a n) t)
+    unfolding recordSome
+    some-room = rw (e, recordSome)
+
+  module _ (e : hasRoom (find (n .text) t) t ≡ false) where
+    record-full : recordAll l a (n ∷ ns) t ≡ none
+    unfolding recordAll
+    record-full = rw (e, recordAll)
+
+    pub some-full : recordSome l a (n ∷ ns) t ≡ t
+    unfolding recordSome
+    some-full = rw (e, recordSome)
+
+-- labels that are all recorded are those recorded as far as there is room
+pub record-some : (l : SourceLine) (a : ℕ) (ns : List Name) (t t′ : Table) → recordAll l a ns t ≡ some t′ → recordSome l a ns t ≡ t′
+unfolding recordAll recordSome
+record-some l a [] t t′ e = cc
+record-some l a (n ∷ ns) t t′ e = go (hasRoom (find (n .text) t) t) refl (record-some l a ns (recorded (labelOf l a n) t) t′)
+  where
+    go : (y : Bool) → hasRoom (find (n .text) t) t ≡ y
+        → (recordAll l a ns (recorded (labelOf l a n) t) ≡ some t′ → recordSome l a ns (recorded (labelOf l a n) t) ≡ t′)
+        → recordSome l a (n ∷ ns) t ≡ t′
+    go true f ih = some-room l a n ns t f ∙ ih (sym (record-room l a n ns t f) ∙ e)
+    go false f ih = let c = sym (record-full l a n ns t f) ∙ e in absurd (false≢true cc)
+
+-- a label whose start is counted in the source
+at-start : (a : ℕ) (n : Name) → labelOf atStart a n ≡ record { name = n .text; start = n .start; address = a }
+at-start a n = rw (zero-add (n .start))
+
+-- a line's labels recorded, and the same with their starts counted in the source
+module _ (l : SourceLine) (a : ℕ) where
+  abbrev moved : List Name → List Name
+  moved ns = map (nameFrom (l .start)) ns
+
+  pub record-from : (ns : List Name) (t : Table) → recordAll atStart a (map (nameFrom (l .start)) ns) t ≡ recordAll l a ns t
+  unfolding recordAll
+  record-from [] t = refl
+  record-from (n ∷ ns) t = go (hasRoom (find (n .text) t) t) refl (record-from ns (recorded (labelOf l a n) t))
+    where
+      go : (y : Bool) → hasRoom (find (n .text) t) t ≡ y → recordAll atStart a (moved ns) (recorded (labelOf l a n) t) ≡ recordAll l a ns (recorded (labelOf l a n) t)
+          → recordAll atStart a (moved (n ∷ ns)) t ≡ recordAll l a (n ∷ ns) t
+      go true e ih =
+          record-room atStart a (nameFrom (l .start) n) (moved ns) t e ∙ ap (λ (x : Label). recordAll atStart a (moved ns) (recorded x t)) (at-start a (nameFrom (l .start) n))
+          ∙ ih ∙ sym (record-room l a n ns t e)
+      go false e ih = record-full atStart a (nameFrom (l .start) n) (moved ns) t e ∙ sym (record-full l a n ns t e)
+
+  pub some-from : (ns : List Name) (t : Table) → recordSome atStart a (map (nameFrom (l .start)) ns) t ≡ recordSome l a ns t
+  unfolding recordSome
+  some-from [] t = refl
+  some-from (n ∷ ns) t = go (hasRoom (find (n .text) t) t) refl (some-from ns (recorded (labelOf l a n) t))
+    where
+      go : (y : Bool) → hasRoom (find (n .text) t) t ≡ y → recordSome atStart a (moved ns) (recorded (labelOf l a n) t) ≡ recordSome l a ns (recorded (labelOf l a n) t)
+          → recordSome atStart a (moved (n ∷ ns)) t ≡ recordSome l a (n ∷ ns) t
+      go true e ih =
+          some-room atStart a (nameFrom (l .start) n) (moved ns) t e ∙ ap (λ (x : Label). recordSome atStart a (moved ns) (recorded x t)) (at-start a (nameFrom (l .start) n))
+          ∙ ih ∙ sym (some-room l a n ns t e)
+      go false e ih = some-full atStart a (nameFrom (l .start) n) (moved ns) t e ∙ sym (some-full l a n ns t e)
+
+-- ---- recording loses no label, and adds at most one
+recorded-most : (x : Label) (t : Table) → length (recorded x t) ≤ suc (length t)
+unfolding recorded
+recorded-most x [] = omega arith
+recorded-most x (l ∷ t) = go (same (x .name) (l .name)) refl (recorded-most x t)
+  where
+    go : (y : Bool) → same (x .name) (l .name) ≡ y → length (recorded x t) ≤ suc (length t) → length (recorded x (l ∷ t)) ≤ suc (length (l ∷ t))
+    go true e ih = rw (e, recorded) (omega arith)
+    go false e ih = rw (e, recorded) (omega arith)
+
+recorded-longer : (x : Label) (t : Table) → length t ≤ length (recorded x t)
+unfolding recorded
+recorded-longer x [] = omega arith
+recorded-longer x (l ∷ t) = go (same (x .name) (l .name)) refl (recorded-longer x t)
+  where
+    go : (y : Bool) → same (x .name) (l .name) ≡ y → length t ≤ length (recorded x t) → length (l ∷ t) ≤ length (recorded x (l ∷ t))
+    go true e ih = rw (e, recorded) (omega arith)
+    go false e ih = rw (e, recorded) (omega arith)
+
+module _ (l : SourceLine) (a : ℕ) where
+  pub some-most : (ns : List Name) (t : Table) → length (recordSome l a ns t) ≤ length t + length ns
+  unfolding recordSome
+  some-most [] t = omega arith
+  some-most (n ∷ ns) t = go (hasRoom (find (n .text) t) t) refl (some-most ns (recorded (labelOf l a n) t))
+    where
+      go : (y : Bool) → hasRoom (find (n .text) t) t ≡ y → length (recordSome l a ns (recorded (labelOf l a n) t)) ≤ length (recorded (labelOf l a n) t) + length ns
+          → length (recordSome l a (n ∷ ns) t) ≤ length t + length (n ∷ ns)
+      go true e ih = rw (some-room l a n ns t e) (omega (arith, recorded-most (labelOf l a n) t))
+      go false e ih = rw (some-full l a n ns t e) (omega arith)
+
+  pub some-longer : (ns : List Name) (t : Table) → length t ≤ length (recordSome l a ns t)
+  unfolding recordSome
+  some-longer [] t = omega arith
+  some-longer (n ∷ ns) t = go (hasRoom (find (n .text) t) t) refl (some-longer ns (recorded (labelOf l a n) t))
+    where
+      go : (y : Bool) → hasRoom (find (n .text) t) t ≡ y → length (recorded (labelOf l a n) t) ≤ length (recordSome l a ns (recorded (labelOf l a n) t))
+          → length t ≤ length (recordSome l a (n ∷ ns) t)
+      go true e ih = rw (some-room l a n ns t e) (omega (arith, recorded-longer (labelOf l a n) t))
+      go false e ih = rw (some-full l a n ns t e) (omega arith)
+
+-- ---- room, and what is unchanged after it
+pub room-less : {n : ℕ} {table : List ℕ} (m : ℕ) → m ≤ n → RoomFor n table → RoomFor m table
+room-less m h r = record { row = λ k l b. r .row k (omega arith) b }
+
+pub room-same : {n : ℕ} {table : List ℕ} (table′ : List ℕ) → length table′ ≡ length table → RoomFor n table → RoomFor n table′
+room-same table′ e r = record { row = λ k l b. omega (arith, r .row k l b) }
+
+-- a slice unchanged after m places is so after more
+pub past-more : (m n : ℕ) (xs ys : List ℕ) → m ≤ n → drop m xs ≡ drop m ys → drop n xs ≡ drop n ys
+past-more m n xs ys h e =
+    let k : m + (n - m) ≡ n = omega arith in
+    rw (← k, ← drop-drop (n - m) m xs, ← drop-drop (n - m) m ys, e)
+
+-- the table as it is holds its rows
+pub holds-same : (source : Text) (table : List ℕ) (count : ℕ) → Held source table count → HoldsLabels source (tableOf source table count) table table
+holds-same source table count h = let n = table-length source table count in record { rows = rw n; held = rw n h; long = refl; past = refl }
+
+-- what a table holds after a middle one is what it holds after the one before, if that had fewer rows
+pub holds-from : (source : Text) (table middle table′ : List ℕ) (m : ℕ) (t : Table) → m ≤ length t → length middle ≡ length table
+    → drop (cellOf m) middle ≡ drop (cellOf m) table → HoldsLabels source t middle table′ → HoldsLabels source t table table′
+holds-from source table middle table′ m t h l e d =
+    record { rows = d .rows; held = d .held; long = d .long ∙ l; past = d .past ∙ past-more (cellOf m) (cellOf (length t)) middle table (omega arith) e }
+
+-- ---- what the code records
+named-none : (source : Text) (table : List ℕ) (count a : ℕ) → Held source table count → Named source table count a [] (Count count) table
+unfolding recordAll recordSome
+named-none source table count a h = record { answered = ap Count (sym (table-length source table count)); stored = holds-same source table count h }
+
+-- ready to record a label
+ready : (source : Text) (table : List ℕ) (count : ℕ) (s : Span) → Held source table count → length source ≤ maxSource → RoomFor (count + 1) table
+    → SpanIn source s → Ready source table count (s .start) (s .end)
+ready source table count s h k r x =
+    record { held = h; ordered = x .ordered; within = x .inside; short = k; room = λ c. r .row count (omega arith) c }
+
+-- one label recorded, and others after it
+module _ (source : Text) (table : List ℕ) (count a : ℕ) (s : Span) (ns : List Name) (y : Ready source table count (s .start) (s .end)) where
+  named-full : {r : Recorded} {table′ : List ℕ} → Recording source table count (s .start) (s .end) a r table′ → r ≡ Full
+      → Named source table count a (nameAt source s ∷ ns) Full table′
+  named-full d e =
+      let f = refused d e in
+      record {
+        answered = ap recordedOf (sym (record-full atStart a (nameAt source s) ns (tableOf source table count) (f .no-room)));
+        stored = rw (some-full atStart a (nameAt source s) ns (tableOf source table count) (f .no-room), f .same) (holds-same source table count (y .held));
+      }
+
+  -- with room for it, what the others leave is what all leave
+  named-then : (next : ℕ) (middle : List ℕ) {r : Recorded} {table′ : List ℕ} → Keeps source table count (s .start) (s .end) a next middle
+      → Named source middle next a ns r table′ → Named source table count a (nameAt source s ∷ ns) r table′
+  named-then next middle k d =
+      let now : tableOf source middle next ≡ recorded (labelOf atStart a (nameAt source s)) (tableOf source table count) = k .table
+      ∙ ap (λ (x : Label). recorded x (tableOf source table count)) (sym (at-start a (nameAt source s))) in
+      let all = record-room atStart a (nameAt source s) ns (tableOf source table count) (k .room) in
+      let n = table-length source middle next in
+      record {
+        answered = d .answered ∙ ap recordedOf (ap (recordAll atStart a ns) now ∙ sym all);
+        stored =
+            rw (some-room atStart a (nameAt source s) ns (tableOf source table count) (k .room), ← now)
+            (holds-from source table middle _ next _ (omega (arith, some-longer atStart a ns (tableOf source middle next), n)) (k .long) (k .past) (d .stored));
+      }
+
+-- the only label
+named-one : (source : Text) (table : List ℕ) (count a : ℕ) (s : Span) → Ready source table count (s .start) (s .end)
+    → (r : Recorded) (table′ : List ℕ) → Recording source table count (s .start) (s .end) a r table′ → Named source table count a (nameAt source s ∷ []) r table′
+named-one source table count a s y r table′ d = go r refl
+  where
+    go : (x : Recorded) → r ≡ x → Named source table count a (nameAt source s ∷ []) r table′
+    go Full e = rw e (named-full source table count a s [] y d e)
+    go (Count m) e =
+        let k : Keeps source table count (s .start) (s .end) a m table′ = kept y d e in
+        rw e (named-then source table count a s [] y m table′ k (named-none source table′ m a (k .held)))
+
+-- two labels or more are two
+names-two : (source : Text) (ns : Names) → (ns .count ≡ 0 → ⊥) → (ns .count ≡ 1 → ⊥) → namesAt source ns ≡ nameAt source (ns .first) ∷ nameAt source (ns .second) ∷ []
+names-two source ns z o = go (ns .count) refl
+  where
+    go : (k : ℕ) → ns .count ≡ k → namesFor source k (ns .first) (ns .second) ≡ nameAt source (ns .first) ∷ nameAt source (ns .second) ∷ []
+    go zero e = absurd (z e)
+    go (suc zero) e = absurd (o e)
+    go (suc (suc k)) e = refl
+
+-- what `record_names` answers, by how many labels there are
+module _ (source : Text) (table : List ℕ) (count a : ℕ) (ns : Names) (y : RecordNamesNeeds source table count ns) where
+  pub ready-first : Ready source table count (ns .first .start) (ns .first .end)
+  ready-first = ready source table count (ns .first) (y .held) (y .short) (room-less (count + 1) (omega arith) (y .room)) (y .within .first)
+
+  pub named-0 : ns .count ≡ 0 → Named source table count a (namesAt source ns) (Count count) table
+  named-0 e = rw e (named-none source table count a (y .held))
+
+  pub named-1 : (r : Recorded) (table′ : List ℕ) → ns .count ≡ 1 → Recording source table count (ns .first .start) (ns .first .end) a r table′
+      → Named source table count a (namesAt source ns) r table′
+  named-1 r table′ e d = rw e (named-one source table count a (ns .first) ready-first r table′ d)
+
+  module _ (z : ns .count ≡ 0 → ⊥) (o : ns .count ≡ 1 → ⊥) (x : Recorded) (middle : List ℕ)
+      (d : Recording source table count (ns .first .start) (ns .first .end) a x middle) where
+    pub named-2-full : x ≡ Full → Named source table count a (namesAt source ns) Full middle
+    named-2-full e = rw (names-two source ns z o) (named-full source table count a (ns .first) (nameAt source (ns .second) ∷ []) ready-first d e)
+
+    module _ (next : ℕ) (e : x ≡ Count next) where
+      middle-kept : Keeps source table count (ns .first .start) (ns .first .end) a next middle
+      middle-kept = kept ready-first d e
+
+      pub ready-second : Ready source middle next (ns .second .start) (ns .second .end)
+      ready-second =
+          let k : next + 1 ≤ count + 2 = omega (arith, middle-kept .total, recorded-most (spanLabel source (ns .first .start) (ns .first .end) a) (tableOf source table count), table-length source table count) in
+          ready source middle next (ns .second) (middle-kept .held) (y .short) (room-less (next + 1) k (room-same middle (middle-kept .long) (y .room))) (y .within .second)
+
+      pub named-2 : (r : Recorded) (table′ : List ℕ) → Recording source middle next (ns .second .start) (ns .second .end) a r table′
+          → Named source table count a (namesAt source ns) r table′
+      named-2 r table′ f =
+          rw (names-two source ns z o)
+          (named-then source table count a (ns .first) (nameAt source (ns .second) ∷ []) ready-first next middle middle-kept
+          (named-one source middle next a (ns .second) ready-second r table′ f))
+
+-- ---- what its answer says of the rules' one
+pub recorded-full : (o : Option Table) → Full ≡ recordedOf o → o ≡ none
+recorded-full none e = refl
+recorded-full (some t) e = absurd (false≢true cc)
+
+pub recorded-count : (o : Option Table) (n : ℕ) → Count n ≡ recordedOf o → (t : Table) × (o ≡ some t) × (n ≡ length t)
+recorded-count none n e = absurd (false≢true cc)
+recorded-count (some t) n e = (t, refl, cc)

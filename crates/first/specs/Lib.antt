@@ -1,0 +1,4 @@
+pub mod Stopped
+pub mod Pass
+pub mod Names
+pub mod Progress

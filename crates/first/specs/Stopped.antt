@@ -1,0 +1,48 @@
+-- What the first pass has recorded and kept when it stops, at its end or at a refusal. Assumes nothing.
+use Prim.Native.Nat.{ℕ, _+_}
+use mathlib.Core.Bool.{true, false}
+use mathlib.Core.List.{List, [], _∷_}
+use lib.Dec.{ltb, leb}
+use Rattle.rules.specs.Limits.{addressLimit}
+use Rattle.rules.specs.Text.{Text}
+use Rattle.rules.specs.Line.{SourceLine, linesOf, Name, lineOf}
+use Rattle.rules.specs.Label.{Label, Table, find, recorded, hasRoom}
+use Rattle.rules.specs.Answer.{Answer, accepted, refused, refuseIf}
+use Rattle.rules.specs.Assemble.{Pass, Put, halt, full, next, step, checks}
+
+-- a label of the source line l, at the address a
+abbrev pub labelOf : SourceLine → ℕ → Name → Label
+labelOf l a n = record { name = n .text; start = l .start + n .start; address = a }
+
+-- labels recorded in order, up to the first for which there is no room
+unfoldable pub recordSome : SourceLine → ℕ → List Name → Table → Table
+recordSome l a [] t = t
+recordSome l a (n ∷ ns) t =
+    elim (hasRoom (find (n .text) t) t) [ true ↦ recordSome l a ns (recorded (labelOf l a n) t) | false ↦ t ]
+
+abbrev pub only : Table → Pass
+only t = record { labels = t; puts = [] }
+
+unfoldable pub before : Put → Pass → Pass
+before p q = record { labels = q .labels; puts = p ∷ q .puts }
+
+-- the labels recorded, and the lines taken, when the pass over these lines stops
+unfoldable pub stopped : ℕ → ℕ → Table → List SourceLine → Pass
+stopped base a t [] = only t
+stopped base a t (l ∷ ls) =
+    elim (step base a t l (lineOf (l .text))) [
+      | halt ↦ only t
+      | full ↦ only (recordSome l a (lineOf (l .text) .names) t)
+      | next a′ t′ ↦ elim (ltb a′ addressLimit) [
+        | true ↦ before (record { address = a; task = lineOf (l .text) .task }) (stopped base a′ t′ ls)
+        | false ↦ only t′
+      ]
+    ]
+
+-- the same of a source at a base: nothing where refusals 1 to 4 come first
+unfoldable pub orNothing : Answer Pass → Pass
+orNothing (accepted p) = p
+orNothing (refused n p) = only []
+
+unfoldable pub stoppedAt : ℕ → Text → Pass
+stoppedAt base s = orNothing (checks s (refuseIf (leb addressLimit base) 4 0 (accepted (stopped base base [] (linesOf s)))))

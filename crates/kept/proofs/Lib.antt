@@ -1,3 +1,0 @@
-pub mod Tasks
-pub mod Cells
-pub mod Telling

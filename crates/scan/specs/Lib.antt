@@ -1,4 +1,0 @@
-pub mod Lines
-pub mod Walk
-pub mod Scan
-pub mod Outline

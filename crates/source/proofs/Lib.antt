@@ -1,0 +1,4 @@
+pub mod Loops
+pub mod Seen
+pub mod Checks
+pub mod Callers
