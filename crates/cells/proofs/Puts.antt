@@ -10,9 +10,9 @@ use lib.Seq.{drop-cons, getD-append-seam}
 use borrow.Author.Tests.{ltb-true, ltb-false}
 use Rattle.rules.specs.Text.{Text}
 use Rattle.rules.specs.Assemble.{Put}
-use Rattle.line.specs.Line.{taskAt, TaskIn}
+use Rattle.line.specs.Line.{taskAt}
 use Rattle.cells.specs.Cells.{afterBy, headCell, tailCell, keptAt, InCells, Fits}
-use Rattle.cells.specs.Puts.{addressAt, putAt, putsOf, LinesIn}
+use Rattle.cells.specs.Puts.{addressAt, putAt, putsOf, Tells, LinesIn}
 use Rattle.cells.specs.declared.Kept.{Kept}
 use Rattle.cells.proofs.Cells.{with-length, with-other, withKept, with-back}
 
@@ -54,16 +54,16 @@ module _ (cells : List ℕ) (n : ℕ) (r : Kept) (room : InCells cells n) (fits 
   unfolding putsOf
   puts-more source base = more-same source (puts-same base _ cells source n same-before) (address-same base _ cells n same-before) (with-back cells n r room fits)
 
-  pub lines-more : (source : Text) → LinesIn source cells n → TaskIn source (r .task) → LinesIn source (withKept cells n r) (suc n)
+  pub lines-more : (source : Text) → LinesIn source cells n → Tells source r → LinesIn source (withKept cells n r) (suc n)
   lines-more source h t =
-      record { room = omega (arith, with-length cells n (headCell r) (tailCell (r .task)), room .room); within = λ k l. go k l (ltb k n) refl }
+      record { room = omega (arith, with-length cells n (headCell r) (tailCell (r .task)), room .room); line = λ k l. go k l (ltb k n) refl }
     where
-      go : (k : ℕ) → k < suc n → (y : Bool) → ltb k n ≡ y → TaskIn source (keptAt (withKept cells n r) k .task)
-      go k l true e = rw (ap (λ x. x .task) (same-before k (ltb-true _ _ e))) (h .within k (ltb-true _ _ e))
+      go : (k : ℕ) → k < suc n → (y : Bool) → ltb k n ≡ y → Tells source (keptAt (withKept cells n r) k)
+      go k l true e = rw (same-before k (ltb-true _ _ e)) (h .line k (ltb-true _ _ e))
       go k l false e =
           let z : n ≤ k = ltb-false k n e in
           let m : k ≡ n = omega arith in
-          rw (m, ap (λ x. x .task) (with-back cells n r room fits)) t
+          rw (m, with-back cells n r room fits) t
 
 -- ---- one line after another
 module _ (source : Text) (base : ℕ) (cells : List ℕ) where

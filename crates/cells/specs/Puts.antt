@@ -1,4 +1,5 @@
 -- What the lines ask, as the cells tell it: each line's address by the lines before it, and its task. Assumes nothing.
+use mathlib.Core.Path.{_≡_}
 use Prim.Native.Nat.{ℕ, zero, suc, _*_, _≤_, _<_}
 use mathlib.Core.List.{List, [], _∷_, _++_}
 use lib.ListN.{length}
@@ -6,6 +7,8 @@ use Rattle.rules.specs.Text.{Text}
 use Rattle.rules.specs.Assemble.{Put}
 use Rattle.line.specs.Line.{taskAt, TaskIn}
 use Rattle.cells.specs.Cells.{afterBy, keptAt}
+use Rattle.cells.specs.Sizes.{sizeOf}
+use Rattle.cells.specs.declared.Kept.{Kept}
 
 -- the address of line k
 unfoldable pub addressAt : ℕ → List ℕ → ℕ → ℕ
@@ -21,7 +24,12 @@ unfoldable pub putsOf : Text → ℕ → List ℕ → ℕ → List Put
 putsOf source base cells zero = []
 putsOf source base cells (suc n) = putsOf source base cells n ++ (putAt source base cells n ∷ [])
 
--- n lines are kept: they have their cells, and the places that they name lie in the source
+-- what is kept of a line is true of it: the places that it names lie in the source, and its size is its task's
+pub record Tells (source : Text) (k : Kept) : Type 0 where
+  pub within : TaskIn source (k .task)
+  pub sized : k .size ≡ sizeOf source (k .task)
+
+-- n lines are kept
 pub record LinesIn (source : Text) (cells : List ℕ) (n : ℕ) : Type 0 where
   pub room : 2 * n ≤ length cells
-  pub within : (k : ℕ) → k < n → TaskIn source (keptAt cells k .task)
+  pub line : (k : ℕ) → k < n → Tells source (keptAt cells k)

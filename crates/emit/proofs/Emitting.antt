@@ -18,7 +18,7 @@ use Rattle.cells.specs.Cells.{dataWords, taskAfter, afterBy, keptAt}
 use Rattle.cells.specs.Puts.{addressAt, putAt, putsOf}
 use Rattle.cells.specs.declared.Kept.{Kept}
 use Rattle.cells.proofs.Puts.{puts-length}
-use Rattle.cells.proofs.Tasks.{data-places}
+use Rattle.cells.proofs.Tasks.{after-kept, data-places}
 use Rattle.first.specs.Pass.{passIn}
 use Rattle.first.specs.declared.Pass.{Pass}
 use Rattle.first.proofs.Callers.{bounded}
@@ -105,18 +105,6 @@ room-rest v m xs ys zs r =
       marks = omega (arith, rest-length v zs, r .marks);
     }
 
--- the address after a line fits, also where nothing says that its size is the rules'
-after-small : (source : Text) (base a n : ℕ) → a < 2 ^ 30 → n < 2 ^ 29 → (t : Task) → addressAfter size base a (taskAt source t) < 2 ^ 30 → taskAfter base a t n < 2 ^ 32
-unfolding addressAfter
-after-small source base a n h l Skipped g = omega arith
-after-small source base a n h l End g = omega arith
-after-small source base a n h l (Org v) g = omega arith
-after-small source base a n h l NoOrg g = omega arith
-after-small source base a n h l LabelOnly g = omega arith
-after-small source base a n h l (Instruction s) g = omega arith
-after-small source base a n h l (Value m v) g = omega arith
-after-small source base a n h l (Space m) g = omega arith
-
 -- ---- one line
 module _ {write : Bool} {source : Text} {table cells : List ℕ} {pass : Pass} {x₀ : Slices} (needs : EmitWordsNeeds write source table cells pass x₀)
     {rest : ℕ} {x : Slices} {turn : Turn} {k : ℕ} (inv : Emitting write source table cells pass rest x₀ x turn k) (more : k < pass .lines) where
@@ -151,10 +139,10 @@ module _ {write : Bool} {source : Text} {table cells : List ℕ} {pass : Pass} {
   rest-lent xs ys zs n l p = rw (p, inv .put) (put-room n l rest _ (filled-keeps rest write rest _ _ x₀ (rest-room needs (inv .rest-is))))
 
   module _ (kept : Kept) (e : kept ≡ keptAt cells k) where
-    pub after-fits : getD cells (2 * k) 0 < 2 ^ 32 → afterBy (pass .base) (turn .address) kept < 2 ^ 32
-    after-fits h =
+    pub after-fits : afterBy (pass .base) (turn .address) kept < 2 ^ 32
+    after-fits =
         let b = bounded (needs .holds) .puts k more in
-        rw (inv .stands, e) (after-small source (pass .base) (addressAt (pass .base) cells k) (keptAt cells k .size) (b .here) (omega arith) (keptAt cells k .task) (b .after))
+        rw (inv .stands, e, after-kept source (pass .base) (addressAt (pass .base) cells k) (keptAt cells k) (needs .holds .lines .line k more .sized)) (omega (arith, b .after))
 
     module _ (few : length cells < 2 ^ 64) where
       pub value-needs : TakeValueNeeds turn (kept .task) x
@@ -175,7 +163,7 @@ module _ {write : Bool} {source : Text} {table cells : List ℕ} {pass : Pass} {
           (record {
             near = record { held = needs .holds .labels; labels-below = bounded (needs .holds) .labels; address-below = bounded (needs .holds) .puts k more .here };
             short = bounded (needs .holds) .short;
-            within = needs .holds .lines .within k more;
+            within = needs .holds .lines .line k more .within;
             room = record { few = omega (arith, codes-fit, all-few needs); room = room };
           })
         where

@@ -30,7 +30,7 @@ module _ (source : Text) (base : ℕ) (table cells : List ℕ) (lent : Lent sour
       record {
         answered = rw e;
         labels = rw f (record { rows = refl; held = lent .empty; long = refl; past = refl });
-        lines = rw f (record { puts = refl; kept = record { room = omega arith; within = λ k l. absurd (omega arith) }; long = refl; past = refl });
+        lines = rw f (record { puts = refl; kept = record { room = omega arith; line = λ k l. absurd (omega arith) }; long = refl; past = refl });
       }
 
   module _ (x : Answer) (d : x ≡ answerOf (checks source (accepted (length (cutAt 10 source))))) where

@@ -253,7 +253,7 @@ module _ (source : Text) (base : ℕ) (table cells : List ℕ) (p : Progress) wh
               record {
                 short = needs .stands .short;
                 held = rw (all-recorded .1) (stored .held);
-                kept = lines-more cells (p .lines) keeps in-cells fits-kept source (needs .stands .kept) (r .task-in);
+                kept = lines-more cells (p .lines) keeps in-cells fits-kept source (needs .stands .kept) (record { within = r .task-in; sized = sized });
                 address = says-later ∙ rw (needs .stands .address) (sym (address-more cells (p .lines) keeps in-cells fits-kept base));
                 values = values-now;
                 rows = room-less (n + 2 * length rest) rows-now (room-same table′ (stored .long) (needs .stands .rows));

@@ -52,7 +52,7 @@ module _ (source : Text) (base : ℕ) (table₀ cells₀ : List ℕ) where
         stands = record {
           short = n .short;
           held = n .lent .empty;
-          kept = record { room = omega arith; within = λ k l. absurd (omega arith) };
+          kept = record { room = omega arith; line = λ k l. absurd (omega arith) };
           address = refl;
           values = refl;
           rows = room-less _ (omega (arith, ap length all, count)) (n .lent .labels);

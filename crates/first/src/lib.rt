@@ -150,6 +150,7 @@ fn pass_line(source: &[u8], base: u32, table: &mut [u32], cells: &mut [u32], p: 
 
 // ---- All lines.
 
+// The pass, done where it stands.
 fn pass_of(base: u32, p: Progress) -> Entered
     ensures { λ r. ⌜ r ≡ doneAt base p ⌝ }
 {
@@ -161,7 +162,7 @@ fn pass_of(base: u32, p: Progress) -> Entered
     })
 }
 
-// The first pass over a source within the limits.
+// The first pass over a source that refusals 1 to 4 let pass; refusals 6 and 5 come by line.
 pub fn first_pass(source: &[u8], base: u32, table: &mut [u32], cells: &mut [u32]) -> Entered
     requires { ⌜ FirstPassNeeds (now source) base (now table) (now cells) ⌝ }
     ensures { λ r. ⌜ FirstPassGives (now (source .entry)) base (now (table .entry)) (now (cells .entry)) r (now (table .exit)) (now (cells .exit)) ⌝ }
@@ -189,7 +190,7 @@ pub fn first_pass(source: &[u8], base: u32, table: &mut [u32], cells: &mut [u32]
     pass_of(base, p)
 }
 
-// Checks 1 to 4, then the first pass.
+// Refusals 1 to 4, then the first pass: refusals 6 and 5, or what it leaves in the table and the cells.
 pub fn enter(source: &[u8], base: u32, table: &mut [u32], cells: &mut [u32]) -> Entered
     requires { ⌜ Lent (now source) (now table) (now cells) ⌝ }
     ensures { λ r. ⌜ EnterGives (now (source .entry)) base (now (table .entry)) (now (cells .entry)) r (now (table .exit)) (now (cells .exit)) ⌝ }
