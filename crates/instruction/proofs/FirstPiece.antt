@@ -9,16 +9,17 @@ use native.Mathlib.Omega.{arith}
 use borrow.Author.Tests.{ltb-true, ltb-false, lt-leb, ne-eqb}
 use lib.Dec.{ltb, eqb}
 use lib.ListN.{length, take, drop, getD, length-drop, drop-of-length-le}
-use lib.Seq.{length-take-le, take-nil, take-take, drop-cons, drop-drop}
+use lib.Seq.{length-take-le, take-nil, drop-cons, drop-drop}
 use Rattle.rules.specs.Text.{Text, bytes, blank, uppers, leading, cutWhere, cutAt, onFirst, dropEmpty, pieces, joined, same, nth, firstText, otherTexts}
 use Rattle.rules.specs.Line.{operandsOf, instructionOf}
 use Rattle.text.specs.Pieces.{until, run, nextPiece}
 use Rattle.text.specs.declared.Span.{Span}
-use Rattle.text.proofs.Until.{until-here, until-later, until-le, until-rest, cut-here, cut-later, cut-first}
+use Rattle.text.proofs.Until.{until-here, until-later, until-le, until-rest, cut-here, cut-first}
 use Rattle.text.proofs.Trim.{leading-le}
 use Rattle.text.proofs.Pieces.{Next, next-some, next-none}
 use Rattle.text.specs.Spans.{part}
-use Rattle.instruction.specs.FirstPiece.{suffixText, suffixBy, suffixOf, suffixIn, endsName, headOf, HeadOf}
+use Rattle.text.proofs.Spans.{part-rest, part-front}
+use Rattle.instruction.specs.FirstPiece.{headParts, suffixText, suffixBy, suffixOf, suffixIn, endsName, headOf, HeadOf}
 use Rattle.instruction.specs.declared.Suffix.{Suffix}
 use Rattle.instruction.specs.declared.Suffix.the-variants.{None, Empty, Long, Word, Other}
 use Rattle.instruction.specs.Split.{operandsIn}
@@ -79,11 +80,6 @@ unfolding pieces dropEmpty firstText
 piece-filled b s e = rw (cut-first blank (b ∷ s), until-later blank b s e)
 
 -- ---- the suffix
--- a cut has a first text
-nth-zero : (t : Text) → nth 0 (cutAt 46 t) ≡ some (firstText (cutAt 46 t))
-unfolding cutAt nth firstText
-nth-zero t = rw (cut-first (eqb 46) t)
-
 pub first-later : (b : ℕ) (s : Text) → eqb 46 b ≡ false → firstText (cutAt 46 (b ∷ s)) ≡ b ∷ firstText (cutAt 46 s)
 unfolding cutAt firstText
 first-later b s e = rw (cut-first (eqb 46) (b ∷ s), until-later (eqb 46) b s e, cut-first (eqb 46) s)
@@ -151,6 +147,14 @@ suffix-more (b ∷ c ∷ s) d h e =
     rw (first-later b (c ∷ s) (ne-eqb 46 b (λ q. d (sym q))), first-later c s (ne-eqb 46 c (λ q. e (sym q)))) (two-bytes b c (firstText (cutAt 46 s)))
 
 -- ---- the mnemonic's end
+-- the byte that a search stops at passes its test
+stop-byte : (f : ℕ → Bool) (b : ℕ) (s : Text) → until f (b ∷ s) ≡ 0 → f b ≡ true
+stop-byte f b s h = go (f b) refl
+  where
+    go : (y : Bool) → f b ≡ y → y ≡ true
+    go true e = refl
+    go false e = absurd (omega (arith, until-later f b s e))
+
 module _ (b : ℕ) where
   ends-blank : blank b ≡ true → endsName b ≡ true
   unfolding endsName
@@ -173,32 +177,29 @@ module _ (b : ℕ) where
   unfolding endsName
   ends-rest d q = rw (ne-eqb 46 b (λ e. d (sym e)), or-false) q
 
--- the first piece of a text, cut there: it goes on after the mnemonic as the text does
+-- the mnemonic of a first piece, and the piece goes on after it as the text does
 record Named (s : Text) : Type 0 where
   more : run s ≡ until endsName s + run (drop (until endsName s) s)
-  parts : cutAt 46 (take (run s) s) ≡ take (until endsName s) s ∷ otherTexts (cutAt 46 (take (run (drop (until endsName s) s)) (drop (until endsName s) s)))
+  name : firstText (cutAt 46 (take (run s) s)) ≡ take (until endsName s) s
 
 named : (s : Text) → Named s
-unfolding until cutAt cutWhere otherTexts onFirst
-named [] = record { more = refl; parts = refl }
+unfolding until cutAt cutWhere firstText
+named [] = record { more = refl; name = refl }
 named (b ∷ s) = go (blank b) (eqb 46 b) refl refl (named s)
   where
     go : (x y : Bool) → blank b ≡ x → eqb 46 b ≡ y → Named s → Named (b ∷ s)
-    go true y e d w = let z = until-here endsName b s (ends-blank b e) in record { more = rw z (omega arith); parts = rw (z, until-here blank b s e) }
+    go true y e d w = let z = until-here endsName b s (ends-blank b e) in record { more = rw z (omega arith); name = rw (z, until-here blank b s e) }
     go false true e d w =
         let z = until-here endsName b s (ends-by b e ∙ d) in
-        record { more = rw z (omega arith); parts = rw (z, until-later blank b s e, cut-here (eqb 46) b (take (run s) s) d) }
+        record { more = rw z (omega arith); name = rw (z, until-later blank b s e, first-here b (take (run s) s) d) }
     go false false e d w =
         let z = until-later endsName b s (ends-by b e ∙ d) in
         record {
           more = rw (z, until-later blank b s e) (omega (arith, w .more));
-          parts = rw (z, until-later blank b s e, cut-later (eqb 46) b (take (run s) s) d) (ap (onFirst b) (w .parts));
+          name = rw (z, until-later blank b s e, first-later b (take (run s) s) d, w .name);
         }
 
 -- ---- what `read_head` answers
-pub piece-end : (t : Text) (n : ℕ) {e : ℕ} → n ≤ length t → e ≡ n + run (drop n t) → e ≤ length t
-piece-end t n h q = omega (arith, until-le blank (drop n t), length-drop n t)
-
 module _ (t : Text) (a n : ℕ) (p : a ≡ leading t) (q : n ≡ a + until endsName (drop a t)) where
   after-name : drop (until endsName (drop a t)) (drop a t) ≡ drop n t
   after-name = drop-drop (until endsName (drop a t)) a t ∙ rw (← q)
@@ -219,49 +220,70 @@ module _ (t : Text) (a n : ℕ) (p : a ≡ leading t) (q : n ≡ a + until endsN
   to-tail : a + length (firstText (pieces t)) ≡ n + run (drop n t)
   to-tail = rw (← after-name) (omega (arith, here-first .end, named (drop a t) .more))
 
-  cut-name : cutAt 46 (firstText (pieces t)) ≡ take (n - a) (drop a t) ∷ otherTexts (cutAt 46 (take (run (drop n t)) (drop n t)))
-  cut-name =
+  name-read : firstText (headParts t) ≡ take (n - a) (drop a t)
+  name-read =
       let z : until endsName (drop a t) ≡ n - a = omega arith in
-      rw (← first, ← after-name, ← z) (named (drop a t) .parts)
+      rw (← first, ← z) (named (drop a t) .name)
 
-  -- the head, by the suffix and the piece's end
-  head-by : (x : Suffix) (e : ℕ) → x ≡ suffixOf (suffixText t) → e ≡ n + run (drop n t) → record { start = a; end = n; suffix = x; tail = e } ≡ headOf t
-  unfolding headOf firstText
-  head-by x e u v =
+  -- the head, by the piece's end
+  head-by : (e : ℕ) → e ≡ n + run (drop n t) → record { start = a; end = n; tail = e } ≡ headOf t
+  unfolding headOf
+  head-by e v =
       let k : a + length (take (n - a) (drop a t)) ≡ n = omega (arith, length-take-le (n - a) (drop a t) (omega (arith, name-within, length-drop a t))) in
-      rw (← p, ← u, to-tail, ← v, cut-name, k)
+      rw (← p, to-tail, ← v, name-read, k)
 
   -- the piece ends with the mnemonic
-  plain : run (drop n t) ≡ 0 → record { start = a; end = n; suffix = None; tail = n } ≡ headOf t
-  unfolding nth otherTexts cutAt cutWhere suffixOf
-  plain z = head-by None n (rw (cut-name, z)) (omega arith)
+  plain : run (drop n t) ≡ 0 → record { start = a; end = n; tail = n } ≡ headOf t
+  plain z = head-by n (omega arith)
 
-  pub head-end : length t ≤ n → record { start = a; end = n; suffix = None; tail = n } ≡ headOf t
+  pub head-end : length t ≤ n → record { start = a; end = n; tail = n } ≡ headOf t
   unfolding until
   head-end h = plain (rw (drop-of-length-le t h))
 
   module _ (h : n < length t) where
     stopped : endsName (getD t n 0) ≡ true
-    stopped = go (endsName (getD t n 0)) refl
-      where
-        go : (y : Bool) → endsName (getD t n 0) ≡ y → y ≡ true
-        go true e = refl
-        go false e = absurd (omega (arith, until-later endsName (getD t n 0) (drop (suc n) t) e, rw (after-name, drop-cons t n 0 h) at (until-rest endsName (drop a t))))
+    stopped = stop-byte endsName (getD t n 0) (drop (suc n) t) (rw (after-name, drop-cons t n 0 h) at (until-rest endsName (drop a t)))
 
-    pub head-plain : (getD t n 0 ≡ 46 → ⊥) → record { start = a; end = n; suffix = None; tail = n } ≡ headOf t
+    pub head-plain : (getD t n 0 ≡ 46 → ⊥) → record { start = a; end = n; tail = n } ≡ headOf t
     head-plain d = plain (rw (drop-cons t n 0 h) (until-here blank (getD t n 0) (drop (suc n) t) (ends-rest (getD t n 0) d refl ∙ stopped)))
 
-    pub head-dotted : getD t n 0 ≡ 46 → {e : ℕ} → e ≡ n + 1 + run (drop (n + 1) t) → {x : Suffix} → x ≡ suffixIn (part t (n + 1) e)
-        → record { start = a; end = n; suffix = x; tail = e } ≡ headOf t
-    unfolding nth otherTexts cutAt suffixOf blank
-    head-dotted d {e} u {x} v =
+    pub head-dotted : getD t n 0 ≡ 46 → {e : ℕ} → e ≡ n + 1 + run (drop (n + 1) t) → record { start = a; end = n; tail = e } ≡ headOf t
+    unfolding blank
+    head-dotted d {e} u =
         let s : Text = drop (n + 1) t in
-        let k : e - (n + 1) ≡ run s = omega arith in
         let c : drop n t ≡ 46 ∷ s = drop-cons t n 0 h ∙ rw (d, add-one n) in
         let r : run (drop n t) ≡ suc (run s) = rw c (until-later blank 46 s refl) in
-        head-by x e (rw (cut-name, r, c, cut-here (eqb 46) 46 (take (run s) s) refl, nth-zero (take (run s) s)) (rw k at v)) (omega arith)
+        head-by e (omega arith)
+
+-- ---- the suffix, behind the first dot of a piece w
+-- a cut has a first text
+nth-zero : (t : Text) → nth 0 (cutAt 46 t) ≡ some (firstText (cutAt 46 t))
+unfolding cutAt nth firstText
+nth-zero t = rw (cut-first (eqb 46) t)
+
+module _ (w : Text) where
+  name-length : length (firstText (cutAt 46 w)) ≡ until (eqb 46) w
+  unfolding cutAt firstText
+  name-length = rw (cut-first (eqb 46) w) (length-take-le (until (eqb 46) w) w (until-le (eqb 46) w))
+
+  -- w is all mnemonic where it has no dot
+  undotted : length (firstText (cutAt 46 w)) ≡ length w → None ≡ suffixOf (nth 1 (cutAt 46 w))
+  unfolding cutAt cutWhere nth otherTexts suffixOf
+  undotted h = let l : length w ≤ until (eqb 46) w = omega (arith, name-length) in rw (cut-first (eqb 46) w, drop-of-length-le w l)
+
+  dotted : (length (firstText (cutAt 46 w)) ≡ length w → ⊥) → suffixIn (drop (length (firstText (cutAt 46 w)) + 1) w) ≡ suffixOf (nth 1 (cutAt 46 w))
+  unfolding cutAt nth otherTexts suffixOf
+  dotted d =
+      let n : ℕ = until (eqb 46) w in
+      let h : n < length w = omega (arith, name-length, until-le (eqb 46) w) in
+      let c = cut-here (eqb 46) (getD w n 0) (drop (suc n) w) (stop-byte (eqb 46) (getD w n 0) (drop (suc n) w) (rw (drop-cons w n 0 h) at (until-rest (eqb 46) w))) in
+      rw (name-length, add-one n, cut-first (eqb 46) w, drop-cons w n 0 h, c, nth-zero (drop (suc n) w))
 
 -- ---- for callers
+-- the piece stands between the head's start and its tail
+whole : (t : Text) → part t (leading t) (leading t + length (firstText (pieces t))) ≡ firstText (pieces t)
+whole t = let p = first-piece t (nextPiece t 0) refl in rw (p .end, p .start) at (p .text)
+
 head-piece : (t : Text) (r : Span) → Piece t r → HeadOf t (headOf t)
 unfolding headOf cutAt firstText
 head-piece t r p =
@@ -269,23 +291,31 @@ head-piece t r p =
     let dot : ℕ = until (eqb 46) w in
     let a : ℕ = leading t in
     let m : firstText (cutAt 46 w) ≡ take dot w = rw (cut-first (eqb 46) w) in
-    let l : length (take dot w) ≡ dot = length-take-le dot w (until-le (eqb 46) w) in
-    let k : a + dot - a ≡ dot = omega arith in
-    let z : a + length w - a ≡ length w = omega arith in
-    let g : take (length w) (drop a t) ≡ w = rw (p .end, p .start, z) at (p .text) in
-    let f : take dot (drop a t) ≡ take dot w = sym (take-take dot (length w) (drop a t) (until-le (eqb 46) w)) ∙ ap (take dot) g in
     record {
       ordered = omega arith;
-      before = rw (m, l) (omega (arith, until-le (eqb 46) w));
+      before = omega (arith, name-length w, until-le (eqb 46) w);
       within = omega (arith, p .within, p .end);
-      mnemonic = rw (m, l, k) f;
-      suffix = refl;
+      mnemonic = rw (name-length w) (sym (part-front t a (a + length w) dot (omega (arith, until-le (eqb 46) w))) ∙ ap (take dot) (whole t) ∙ sym m);
       others = rw (p .end) at (p .others);
     }
 
 module _ (t : Text) (h : Head) (e : h ≡ headOf t) where
   pub head-of : HeadOf t h
   head-of = rw e (head-piece t (nextPiece t 0) (first-piece t (nextPiece t 0) refl))
+
+  -- the returns of `suffix_of`
+  pub suffix-absent : h .end ≡ h .tail → None ≡ suffixOf (suffixText t)
+  unfolding headOf
+  suffix-absent q = undotted (firstText (pieces t)) (let z = rw e at q in omega arith)
+
+  pub suffix-there : (h .end ≡ h .tail → ⊥) → {x : Suffix} → x ≡ suffixIn (part t (h .end + 1) (h .tail)) → x ≡ suffixOf (suffixText t)
+  unfolding headOf
+  suffix-there d u =
+      let w : Text = firstText (pieces t) in
+      let n : ℕ = length (firstText (cutAt 46 w)) in
+      let k : leading t + n + 1 ≡ leading t + (n + 1) = omega arith in
+      let c : n ≡ length w → ⊥ = λ q. d (rw (e, q)) in
+      u ∙ rw (e, k, ← part-rest t (leading t) (leading t + length w) (n + 1), whole t) (dotted w c)
 
   -- the operands are those of the joined tail
   pub operands-read : operandsOf t ≡ operandsIn (joined (pieces (drop (h .tail) t)))

@@ -16,7 +16,7 @@ use Rattle.text.specs.Pieces.{run}
 use Rattle.text.proofs.Kept.{rest-is}
 use Rattle.text.proofs.Compare.{eqb-sym, same-is}
 use Rattle.text.specs.Spans.{part, spanText}
-use Rattle.instruction.specs.FirstPiece.{suffixBy, suffixOf, headOf}
+use Rattle.instruction.specs.FirstPiece.{suffixText, suffixBy, suffixOf, headOf}
 use Rattle.instruction.specs.Split.{operandsIn, operandsAt}
 use Rattle.instruction.specs.Size.{saysLong, sizedBy, hasOperands, isLongBy, sizeBy, sizedOf, mayBeLong}
 use Rattle.instruction.specs.declared.Operands.{Operands}
@@ -273,17 +273,17 @@ pub answer-short : (t : Text) {y : Bool} → y ≡ mayBeLong t → not y ≡ tru
 unfolding hasOperands
 answer-short t {y} q p = size-fixed (sizedOf t) _ (rw (rule-short t (sym q ∙ not-true y p))) ∙ sym (size-is t)
 
-module _ (t : Text) (h : Head) (e : h ≡ headOf t) {k : SizeRule} (q : k ≡ sizedBy (uppers (part t (h .start) (h .end))) (h .suffix)) where
+module _ (t : Text) (h : Head) (e : h ≡ headOf t) {x : Suffix} (u : x ≡ suffixOf (suffixText t)) {k : SizeRule} (q : k ≡ sizedBy (uppers (part t (h .start) (h .end))) x) where
   rule-is : k ≡ sizedOf t
   unfolding sizedOf
-  rule-is = q ∙ rw (head-of t h e .mnemonic, head-of t h e .suffix)
+  rule-is = q ∙ rw (head-of t h e .mnemonic, u)
 
   -- by the joined tail
   answer-by : {r : ℕ} → r ≡ sizeBy k (operandsIn (joined (pieces (drop (h .tail) t)))) → r ≡ size (instructionOf t)
   answer-by a = a ∙ rw (head-of t h e .others, rule-is) (sym (size-is t))
 
   pub answer-fixed : {y : Bool} → y ≡ hasOperands k → not y ≡ true → 2 ≡ size (instructionOf t)
-  answer-fixed {y} u p = answer-by (size-fixed k _ (sym u ∙ not-true y p))
+  answer-fixed {y} f p = answer-by (size-fixed k _ (sym f ∙ not-true y p))
 
   pub answer-standing : {r : ℕ} → r ≡ sizeBy k (operandsIn (take (length t - h .tail) (drop (h .tail) t))) → r ≡ size (instructionOf t)
   answer-standing a = answer-by (rw (rest-is t (h .tail)) at a ∙ size-standing k (drop (h .tail) t))

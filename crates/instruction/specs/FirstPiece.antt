@@ -43,7 +43,6 @@ headOf t =
     record {
       start = leading t;
       end = leading t + length (firstText (headParts t));
-      suffix = suffixOf (suffixText t);
       tail = leading t + length (firstText (pieces t));
     }
 
@@ -53,5 +52,4 @@ pub record HeadOf (t : Text) (h : Head) : Type 0 where
   pub before : h .end ≤ h .tail
   pub within : h .tail ≤ length t
   pub mnemonic : part t (h .start) (h .end) ≡ firstText (headParts t)
-  pub suffix : h .suffix ≡ suffixOf (suffixText t)
   pub others : pieces (drop (h .tail) t) ≡ otherTexts (pieces t)

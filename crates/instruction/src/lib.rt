@@ -11,7 +11,7 @@ ghost use Rattle.rules.specs.Line.{instructionOf, isPlain, size};
 ghost use Rattle.rules.specs.Assemble.{over};
 ghost use Rattle.text.specs.Pieces.{until};
 ghost use Rattle.text.specs.Spans.{part};
-ghost use Rattle.instruction.specs.FirstPiece.{suffixIn, endsName, headOf};
+ghost use Rattle.instruction.specs.FirstPiece.{suffixText, suffixOf, suffixIn, endsName, headOf};
 ghost use Rattle.instruction.specs.Tail.{overFrom, space, spaced};
 ghost use Rattle.instruction.specs.Joined.{isSingle, isJoined};
 ghost use Rattle.instruction.specs.Split.{operandsIn, trimmedSpan, operandsAt, withSpan};
@@ -32,11 +32,10 @@ pub enum Suffix {
     Other,
 }
 
-// The mnemonic's place, the suffix, and where the tail starts.
+// The mnemonic's place, and where the tail starts; the suffix stands between them.
 pub struct Head {
     pub start: usize,
     pub end: usize,
-    pub suffix: Suffix,
     pub tail: usize,
 }
 
@@ -68,7 +67,7 @@ fn mnemonic_end(t: &[u8], at: usize) -> usize
     i
 }
 
-// The first piece, cut at dots; what stands after the first is read only where there is one.
+// The first piece, cut at its first dot; what stands after it is stepped over only where there is one.
 pub fn read_head(t: &[u8]) -> Head
     ensures { λ r. ⌜ r ≡ headOf (now (t .entry)) ⌝ }
 {
@@ -78,19 +77,12 @@ pub fn read_head(t: &[u8]) -> Head
         if t[end] == b'.' {
             let after = end + 1;
             let tail = text::skip_piece(t, after);
-            let suffix = read_suffix(&t[after..tail]);
-            return Head {
-                start,
-                end,
-                suffix,
-                tail,
-            };
+            return Head { start, end, tail };
         }
     }
     Head {
         start,
         end,
-        suffix: Suffix::None,
         tail: end,
     }
 }
@@ -129,6 +121,20 @@ fn byte_suffix(b: u8) -> Suffix
         return Suffix::Empty;
     }
     Suffix::Other
+}
+
+// The suffix of an instruction whose head was read: it stands after the mnemonic, where there is a dot.
+pub fn suffix_of(t: &[u8], head: Head) -> Suffix
+    requires { ⌜ head ≡ headOf (now t) ⌝ }
+    ensures { λ r. ⌜ r ≡ suffixOf (suffixText (now (t .entry))) ⌝ }
+{
+    let end = head.end;
+    let tail = head.tail;
+    if end == tail {
+        return Suffix::None;
+    }
+    let after = end + 1;
+    read_suffix(&t[after..tail])
 }
 
 // ---- The tail: the other pieces, joined by one space.
@@ -439,7 +445,7 @@ pub fn instruction_size(t: &[u8]) -> u32
     let head = read_head(t);
     let a = head.start;
     let b = head.end;
-    let suffix = head.suffix;
+    let suffix = suffix_of(t, head);
     let rule = sized(&t[a..b], suffix);
     if !has_operands(rule) {
         return 2;

@@ -1,20 +1,15 @@
 -- `read_head` finds the mnemonic's end, and the piece's end after a dot. Assumes nothing.
-use native.Mathlib.Omega.{arith}
 use borrow.Author.Needs.{needs}
 use Rattle.text.proofs.Kept.{from-leading}
-use Rattle.instruction.proofs.FirstPiece.{piece-end, head-end, head-plain, head-dotted}
+use Rattle.instruction.proofs.FirstPiece.{head-end, head-plain, head-dotted}
 use Rattle.instruction.proofs.read_head.Statement.{statement}
 use Rattle.instruction.proofs.read_head.Tie as tie
 
 mnemonic-end-requires : tie.Need-mnemonic-end-requires
 mnemonic-end-requires c κs = from-leading _ _ (c .leading-blanks .ensures)
 
-part-read-suffix-end : tie.Need-part-read-suffix-end
-part-read-suffix-end c = piece-end _ _ (omega arith) (c .skip-piece .ensures)
-
 returns : tie.Need-returns
-returns c =
-    head-dotted _ _ _ (c .before .before .before .before .before .before .before .leading-blanks .ensures) (c .before .before .before .before .before .before .mnemonic-end .ensures) (c .before .before .before .before .before .if1 .taken) (c .before .before .before .if2 .taken) (c .before .before .skip-piece .ensures) (c .read-suffix .ensures)
+returns c = head-dotted _ _ _ (c .before .before .before .before .before .leading-blanks .ensures) (c .before .before .before .before .mnemonic-end .ensures) (c .before .before .before .if1 .taken) (c .before .if2 .taken) (c .skip-piece .ensures)
 
 returns-2 : tie.Need-returns-2
 returns-2 c = head-plain _ _ _ (c .before .before .before .before .leading-blanks .ensures) (c .before .before .before .mnemonic-end .ensures) (c .before .before .if1 .taken) (c .if2 .left)
@@ -30,10 +25,6 @@ read-head-spec =
     mnemonic-end-requires
     (λ c. search needs)
     (λ c. search needs)
-    (λ c κs. search needs)
-    (λ c. search needs)
-    (λ c. search needs)
-    part-read-suffix-end
     (λ c κs. search needs)
     returns
     returns-2
