@@ -20,11 +20,11 @@ fn main() {
     let library = env::var("LAGVETTU_LIB")
         .map(PathBuf::from)
         .unwrap_or_else(|_| here.join("../target/staticlib"));
-    if library.join("libcapi.a").exists() {
+    if library.join("liblagvettu.a").exists() {
         println!("cargo:rustc-link-search=native={}", library.display());
-        println!("cargo:rustc-link-lib=static=capi");
+        println!("cargo:rustc-link-lib=static=lagvettu");
         println!("cargo:rustc-cfg=linked");
-        println!("cargo:rerun-if-changed={}", library.join("libcapi.a").display());
+        println!("cargo:rerun-if-changed={}", library.join("liblagvettu.a").display());
     }
     println!("cargo:rustc-check-cfg=cfg(linked)");
 }

@@ -1,6 +1,7 @@
 /*
  * Assembles the script on standard input at 0 and prints its list, then moves the list to $2000 and prints it again.
- * A line is a place's address, word and mark; a refusal is the line `refused`, number, place, and status 1.
+ * A line is a place's address, word and mark; a refusal is the line `refused`, number, place, and status 1, with the line
+ * of the script on standard error where it is one line's fault.
  */
 #include <inttypes.h>
 #include <stdio.h>
@@ -15,8 +16,12 @@ static uint8_t marks[LAGVETTU_MAX_PLACES];
 /* Prints a call's answer: the list, or the refusal. Whether the call was accepted. */
 static int print_answer(uint8_t number, size_t place)
 {
-    if (number != 0) {
+    if (number != LAGVETTU_ACCEPTED) {
         printf("refused %" PRIu8 " %zu\n", number, place);
+        if (number == LAGVETTU_ADDRESS_TOO_HIGH)
+            fprintf(stderr, "bezel: line %zu: the address after it is too high\n", place);
+        if (number == LAGVETTU_TOO_MANY_LABELS)
+            fprintf(stderr, "bezel: line %zu: one label too many\n", place);
         return 0;
     }
     for (size_t i = 0; i < place; i++)

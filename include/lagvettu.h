@@ -9,22 +9,8 @@
  * A list stands in the first count places of three slices: addresses, words and marks. A mark is 1 on a word that is a
  * label's address, taken modulo 65,536, and 0 on every other word. Places past the count never change.
  *
- * An answer is a number: 0 for accepted, with the count in *place, or else a refusal's number, with its place in
- * *place. A refused call changes no slice. *place is written by each call.
- *
- * Refusals from the input:
- *    1  source over 32,768 bytes; place its length
- *    2  a byte over 127 anywhere; place the first one's index, from 0
- *    3  over 4,096 lines; place the line count
- *    4  base 2^30 or more; place 0
- *    5  address 2^30 or more after a line; place the line, from 1
- *    6  a new label when 1,024 are recorded; place the line
- * Refusals from the state lent:
- *    7  any slice shorter than the count needed; place that count
- *    8  distance outside +-(2^30 - 1); place 0
- *    9  count over any slice's length; place the count
- *   10  a mark not 0 or 1 in the first count places; place its index, from 0
- *   11  a moved address, in those places, below 0 or above 2^30 + 1; place its index
+ * An answer is a number: LAGVETTU_ACCEPTED, with the count in *place, or else a refusal of enum lagvettu_refusal, with its
+ * place in *place. A refused call changes no slice. *place is written by each call.
  */
 #ifndef LAGVETTU_H
 #define LAGVETTU_H
@@ -35,6 +21,26 @@
 #ifdef __cplusplus
 extern "C" {
 #endif
+
+/* The answers, a refusal with paper 01's words for its condition and its place. */
+enum lagvettu_refusal {
+    LAGVETTU_ACCEPTED = 0,
+
+    /* From the input. */
+    LAGVETTU_SOURCE_TOO_LONG = 1,   /* source over 32,768 bytes; place its length */
+    LAGVETTU_BYTE_NOT_ASCII = 2,    /* a byte over 127 anywhere; place the first one's index, from 0 */
+    LAGVETTU_TOO_MANY_LINES = 3,    /* over 4,096 lines; place the line count */
+    LAGVETTU_BASE_TOO_HIGH = 4,     /* base 2^30 or more; place 0 */
+    LAGVETTU_ADDRESS_TOO_HIGH = 5,  /* address 2^30 or more after a line; place the line, from 1 */
+    LAGVETTU_TOO_MANY_LABELS = 6,   /* a new label when 1,024 are recorded; place the line */
+
+    /* From the state lent. */
+    LAGVETTU_SLICE_TOO_SHORT = 7,   /* any slice shorter than the count needed; place that count */
+    LAGVETTU_DISTANCE_TOO_FAR = 8,  /* distance outside +-(2^30 - 1); place 0 */
+    LAGVETTU_COUNT_TOO_HIGH = 9,    /* count over any slice's length; place the count */
+    LAGVETTU_MARK_UNKNOWN = 10,     /* a mark not 0 or 1 in the first count places; place its index, from 0 */
+    LAGVETTU_MOVED_OUTSIDE = 11     /* a moved address, in those places, below 0 or above 2^30 + 1; place its index */
+};
 
 /* The longest source that is not refused, in bytes. */
 #define LAGVETTU_MAX_SOURCE 32768

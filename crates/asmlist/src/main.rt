@@ -3,34 +3,39 @@
 //   a line for each word, if the script is accepted: address in 8 hexadecimal digits, word in 4, mark; nothing for an empty list;
 //   `refused N P`, the refusal and its place, if not.
 // A script over the limit of 32,768 bytes is read to its end for its length, the place of refusal 1.
-// It says on standard error if standard output does not take all that it prints.
+// If the script cannot be read to its end it prints nothing. It says that on standard error, and there too if standard output
+// does not take all that it prints, or if it is given an argument.
 use libc::STDERR_FILENO;
 use libc::STDIN_FILENO;
 use libc::STDOUT_FILENO;
-use rules::MAX_SOURCE;
 use station::SCRIPT;
 use station::TEXT;
-use station::assemble_text;
+use station::arguments::are_none;
+use station::failure::SAID;
+use station::failure::failure_text;
+use station::input::after_read;
+use station::input::keep_script;
+use station::input::start;
+use station::script_text;
 
 fn main() {
+    if !are_none(os::arg_count()) {
+        io::write_all(STDERR_FILENO, b"usage: asmlist < SCRIPT\n");
+        return;
+    }
     let mut script = [0u8; SCRIPT];
-    let length = io::read_full(STDIN_FILENO, &mut script);
-    let mut total = length;
-    while MAX_SOURCE < total {
-        let mut buffer = io::large_buffer();
-        let more = io::read_full(STDIN_FILENO, &mut buffer);
-        if more == 0 {
-            break;
-        }
-        // No input has as many bytes as a `usize` counts, but the loop must be seen to end.
-        if usize::MAX - total < more {
-            break;
-        }
-        total += more;
+    let mut input = start();
+    while input.more {
+        let mut chunk = io::large_buffer();
+        let got = libc::read(STDIN_FILENO, &mut chunk);
+        let count = io::count(got, &chunk);
+        keep_script(&mut script, input.total, &chunk[..count]);
+        input = after_read(input, got);
     }
     let mut out = [0u8; TEXT];
-    let size = assemble_text(&script[..length], total, &mut out);
-    if !io::write_all(STDOUT_FILENO, &out[..size]) {
-        io::write_all(STDERR_FILENO, b"asmlist: the output is not whole\n");
-    }
+    let size = script_text(&script, input, &mut out);
+    let written = io::write_all(STDOUT_FILENO, &out[..size]);
+    let mut said = [0u8; SAID];
+    let length = failure_text(b"asmlist", input, written, &mut said);
+    io::write_all(STDERR_FILENO, &said[..length]);
 }

@@ -3,26 +3,26 @@
 //   the moved list in the same form, if the mover accepts it;
 //   `refused N P`, the mover's refusal and its place, if not;
 //   `not a list: line N`, if line N is the first that is not of that form, or is the 8,193rd.
-// Nothing but that is printed. With no such argument, or more than one, it reads nothing and says its usage on standard error.
-// It says there too if standard output does not take all that it prints.
+// If the list cannot be read to its end it prints nothing. It says that on standard error, and there too if standard output
+// does not take all that it prints, or if it has no such argument or more than one: it reads nothing then.
 use libc::STDERR_FILENO;
 use libc::STDIN_FILENO;
 use libc::STDOUT_FILENO;
 use listing::distance::Distance;
-use listing::distance::parse_distance;
+use station::LIST;
 use station::TEXT;
-use station::move_text;
-
-// A byte more than the longest list has, so that a line too many is seen.
-const INPUT: usize = TEXT + 1;
+use station::arguments::given_distance;
+use station::failure::SAID;
+use station::failure::failure_text;
+use station::input::after_read;
+use station::input::keep_list;
+use station::input::start;
+use station::list_text;
 
 fn main() {
-    let mut given = Distance::Bad;
-    if os::arg_count() == 2 {
-        let mut text = io::buffer();
-        let length = os::arg(1, &mut text);
-        given = parse_distance(&text[..length]);
-    }
+    let mut text = io::buffer();
+    let size = os::arg(1, &mut text);
+    let given = given_distance(os::arg_count(), &text[..size]);
     let Distance::Value(distance) = given else {
         io::write_all(
             STDERR_FILENO,
@@ -30,11 +30,19 @@ fn main() {
         );
         return;
     };
-    let mut input = [0u8; INPUT];
-    let length = io::read_full(STDIN_FILENO, &mut input);
-    let mut out = [0u8; TEXT];
-    let size = move_text(&input[..length], distance, &mut out);
-    if !io::write_all(STDOUT_FILENO, &out[..size]) {
-        io::write_all(STDERR_FILENO, b"movelist: the output is not whole\n");
+    let mut list = [0u8; LIST];
+    let mut input = start();
+    while input.more {
+        let mut chunk = io::large_buffer();
+        let got = libc::read(STDIN_FILENO, &mut chunk);
+        let count = io::count(got, &chunk);
+        keep_list(&mut list, input.total, &chunk[..count]);
+        input = after_read(input, got);
     }
+    let mut out = [0u8; TEXT];
+    let size = list_text(&list, input, distance, &mut out);
+    let written = io::write_all(STDOUT_FILENO, &out[..size]);
+    let mut said = [0u8; SAID];
+    let length = failure_text(b"movelist", input, written, &mut said);
+    io::write_all(STDERR_FILENO, &said[..length]);
 }

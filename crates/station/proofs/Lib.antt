@@ -1,5 +1,9 @@
 pub mod Printed
 pub mod Moving
 pub mod Script
+pub mod Front
+pub mod Kept
+pub mod After
+pub mod Said
 pub mod WrongLine
 pub mod Examples

@@ -27,6 +27,10 @@ printed s r x y e f =
     let front : take r y ≡ s = rw f (take-at s (drop (length s) x) r (sym e)) in
     record { answer = e; after = f; front = front; within = omega arith; whole = rw front e }
 
+pub printed-none : (x : List ℕ) → Printed [] 0 x x
+unfolding over
+printed-none x = printed [] 0 x x refl refl
+
 -- ---- the list in slices, with a count that may be above their length
 listed-all : (n : ℕ) (xs ws ms : List ℕ) → length xs ≤ n → listIn (length xs) xs ws ms ≡ listIn n xs ws ms
 unfolding listIn

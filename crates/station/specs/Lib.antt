@@ -1,3 +1,4 @@
 pub mod Station
 pub mod Printed
+pub mod Reads
 pub mod Examples

@@ -1,13 +1,13 @@
 -- The texts that the programs at the station print: `asmlist` for a script, `movelist` for a text and a distance. Assumes nothing.
-use Prim.Native.Nat.{ℕ, _+_}
-use mathlib.Core.Path.{_≡_}
-use mathlib.Core.Bool.{cond}
+use Prim.Native.Nat.{ℕ, _^_}
+use mathlib.Core.Bool.{Bool, cond}
 use mathlib.Core.List.{List, [], _∷_, _++_, map}
 use lib.IntN.{ℤ}
-use lib.Dec.{ltb}
-use lib.ListN.{length, take}
+use lib.Dec.{eqb, ltb}
+use lib.ListN.{take}
 use Rattle.rules.specs.Limits.{maxSource}
 use Rattle.rules.specs.Text.{Text, bytes}
+use Rattle.rules.specs.Number.{signed}
 use Rattle.rules.specs.Answer.{Answer as Ruled, accepted, refused}
 use Rattle.rules.specs.Assemble.{Place, Slices, slices, assemble}
 use Rattle.rules.specs.Relocate.{moveAnswer, moveSlices}
@@ -17,8 +17,12 @@ use Rattle.answer.specs.declared.Answer.the-variants.{Accepted, Refused}
 use Rattle.answer.specs.Answer.{answerOf}
 use Rattle.listing.specs.Listing.{decimal, listText, refusedText}
 use Rattle.listing.specs.Reading.{readList, placesIn}
+use Rattle.listing.specs.Distance.{distanceOf}
+use Rattle.listing.specs.declared.distance.Distance.{Distance}
+use Rattle.listing.specs.declared.distance.Distance.the-variants.{Bad as NoDistance}
 use Rattle.listing.specs.declared.reading.Parsed.{Parsed}
 use Rattle.listing.specs.declared.reading.Parsed.the-variants.{Count, Bad}
+use Rattle.station.specs.declared.input.Input.{Input}
 
 -- "a line per word" of the list that the slices hold; "a refusal prints the one line"
 unfoldable pub answerText : Answer → Slices → Text
@@ -34,13 +38,15 @@ listedText (refused r p) = refusedText r p
 unfoldable pub scriptText : Text → Text
 scriptText t = listedText (assemble 0 t)
 
--- what it prints for an input of `total` bytes of which it read t: over the limit only the length counts
-unfoldable pub inputText : ℕ → Text → Text
-inputText total t = cond (ltb maxSource total) (refusedText 1 total) (scriptText t)
+-- ---- what is printed for an input, of which a buffer keeps the front
 
--- for every script it is enough to read a byte more than the longest has
-unfoldable pub FrontIsEnough : Type 0
-FrontIsEnough = (t : Text) → inputText (length t) (take (maxSource + 1) t) ≡ scriptText t
+-- nothing if it could not be read to its end
+unfoldable pub unlessFailed : Input → Text → Text
+unlessFailed i t = cond (i .failed) [] t
+
+-- a script: over the limit only the length counts
+unfoldable pub scriptInputText : Input → List ℕ → Text
+scriptInputText i buffer = unlessFailed i (cond (ltb maxSource (i .total)) (refusedText 1 (i .total)) (scriptText (take (i .total) buffer)))
 
 -- the one line for a text that is no list's: its first wrong line, or the first for which there is no room
 unfoldable pub wrongLineText : ℕ → Text
@@ -62,3 +68,19 @@ parsedText d t (Bad n) = wrongLineText n
 -- what `movelist` prints: "up to 8,192 lines, the longest list there is"
 unfoldable pub movedText : ℤ → Text → Text
 movedText d t = parsedText d t (readList 8192 t)
+
+-- a list
+unfoldable pub listInputText : ℤ → Input → List ℕ → Text
+listInputText d i buffer = unlessFailed i (movedText d (take (i .total) buffer))
+
+-- ---- what a program says on standard error at its end: nothing if all was read and written
+
+unfoldable pub failureText : Text → Input → Bool → Text
+failureText name i written =
+    cond (i .failed) (take 32 name ++ bytes ": the input cannot be read to its end\n") (cond written [] (take 32 name ++ bytes ": the output is not whole\n"))
+
+-- ---- arguments
+
+-- the distance, if there is just one argument besides the program's name, and it is a number of 32 bits with an optional sign
+unfoldable pub givenDistance : ℕ → Text → Distance
+givenDistance count t = cond (eqb count 2) (distanceOf (signed 10 (2 ^ 31) t)) NoDistance

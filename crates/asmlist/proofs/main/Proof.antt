@@ -1,16 +1,17 @@
--- `main` is safe and ends: each turn of its loop adds at least one byte to the total, which stays in a `usize`. Assumes nothing.
-use Prim.Native.Nat.{_-_, _^_, _<_}
+-- `main` is safe and ends: each read leaves less to be read. Assumes nothing.
 use borrow.Author.Needs.{needs}
+use Rattle.station.specs.Reads.{left}
 use Rattle.asmlist.proofs.main.Statement.{statement}
 use Rattle.asmlist.proofs.main.Tie as tie
 
 abbrev Inv-loop : tie.InvT-loop
-Inv-loop script length total₀ t8 total =
-    total < 2 ^ 64
+Inv-loop script₀ input₀ t12 script input = Unit {0}
 
 abbrev μ-loop : tie.MeasureT-loop
-μ-loop script length total₀ t8 total =
-    2 ^ 64 - total
+μ-loop script₀ input₀ t12 script input = left input
+
+loop-less : tie.Need-loop-less Inv-loop μ-loop
+loop-less c = c .after-read .ensures .1 (c .before .before .before .before .before .before .before .before .before .before .loop-test .taken)
 
 pub main-spec : {M : Type 1} → statement M
 main-spec =
@@ -18,6 +19,12 @@ main-spec =
     (tie.spec
     Inv-loop
     μ-loop
+    (λ c κs. search needs)
+    (λ c κs. search needs)
+    (λ c. search needs)
+    (λ c κs. search needs)
+    (λ c. search needs)
+    (λ c κs. search needs)
     (λ c. search needs)
     (λ c κs. search needs)
     (λ c. search needs)
@@ -26,9 +33,9 @@ main-spec =
     (λ c κs. search needs)
     (λ c. search needs)
     (λ c. search needs)
-    (λ c. search needs)
-    (λ c. search needs)
-    (λ c. search needs)
+    (λ c κs. search needs)
+    (λ c κs. search needs)
+    loop-less
     (λ c. search needs)
     (λ c κs. search needs)
     (λ c. search needs)
@@ -37,4 +44,6 @@ main-spec =
     (λ c. search needs)
     (λ c κs. search needs)
     (λ c. search needs)
+    (λ c. search needs)
+    (λ c κs. search needs)
     (λ c. search needs))

@@ -1,8 +1,8 @@
--- `capi::lagvettu_assemble` meets its contract: it passes on the assembler's answer. Assumes nothing.
+-- `lagvettu_assemble` meets its contract: it passes on the assembler's answer. Assumes nothing.
 use borrow.Author.Needs.{needs}
-use Rattle.capi.proofs.Called.{assembles}
-use Rattle.capi.proofs.lagvettu_assemble.Statement.{statement}
-use Rattle.capi.proofs.lagvettu_assemble.Tie as tie
+use Rattle.lagvettu.proofs.Called.{assembles}
+use Rattle.lagvettu.proofs.lagvettu_assemble.Statement.{statement}
+use Rattle.lagvettu.proofs.lagvettu_assemble.Tie as tie
 
 assemble-requires : tie.Need-assemble-requires
 assemble-requires c κs = search needs

@@ -1,9 +1,9 @@
--- `capi::lagvettu_move` meets its contract: it passes on the mover's answer. Assumes nothing.
+-- `lagvettu_move` meets its contract: it passes on the mover's answer. Assumes nothing.
 use borrow.Author.Needs.{needs}
 use mir.Facts.{toZ-ofZ}
-use Rattle.capi.proofs.Called.{moves}
-use Rattle.capi.proofs.lagvettu_move.Statement.{statement}
-use Rattle.capi.proofs.lagvettu_move.Tie as tie
+use Rattle.lagvettu.proofs.Called.{moves}
+use Rattle.lagvettu.proofs.lagvettu_move.Statement.{statement}
+use Rattle.lagvettu.proofs.lagvettu_move.Tie as tie
 
 relocate-requires : tie.Need-relocate-requires
 relocate-requires c κs = search needs

@@ -11,7 +11,7 @@ use Rattle.answer.specs.Answer.{answerOf}
 use Rattle.assemble.specs.Assembled.{Assembled}
 use Rattle.relocate.specs.Moved.{Moved}
 use Rattle.answer.specs.Answer.{numberOf, placeOf}
-use Rattle.capi.specs.Called.{Answers, Assembles, Moves}
+use Rattle.lagvettu.specs.Called.{Answers, Assembles, Moves}
 
 module _ {r : Answer} {n p : ℕ} (hn : n ≡ numberOf r) (hp : p ≡ placeOf r) where
   passed-on : {a : Ruled ℕ} → r ≡ answerOf a → Answers a n p

@@ -2,7 +2,7 @@
 // count in a number that the caller lends. include/lagvettu.h declares the same functions.
 ghost use mathlib.Core.Path.{_≡_};
 ghost use Rattle.rules.specs.Assemble.{slices};
-ghost use Rattle.capi.specs.Called.{Assembles, Moves};
+ghost use Rattle.lagvettu.specs.Called.{Assembles, Moves};
 
 // Assembles a source at a base: the list in the first places of the three slices, or a refusal and nothing written.
 #[no_mangle]
@@ -17,7 +17,8 @@ pub extern "C" fn lagvettu_assemble(
     ensures { λ r. ⌜ Assembles base (now (source .entry)) (slices (now (addresses .entry)) (now (words .entry)) (now (marks .entry))) r (now (place .exit)) (slices (now (addresses .exit)) (now (words .exit)) (now (marks .exit))) ⌝ }
 {
     let answer = assemble::assemble(source, base, addresses, words, marks);
-    *place = answer::place(answer);
+    let count = answer::place(answer);
+    *place = count;
     answer::number(answer)
 }
 

@@ -1,0 +1,56 @@
+-- `main` is safe and ends: each read leaves less to be read. Assumes nothing.
+use borrow.Author.Needs.{needs}
+use Rattle.station.specs.Reads.{left}
+use Rattle.movelist.proofs.main.Statement.{statement}
+use Rattle.movelist.proofs.main.Tie as tie
+
+abbrev Inv-loop : tie.InvT-loop
+Inv-loop size distance list₀ input₀ t16 list input = Unit {0}
+
+abbrev μ-loop : tie.MeasureT-loop
+μ-loop size distance list₀ input₀ t16 list input = left input
+
+loop-less : tie.Need-loop-less Inv-loop μ-loop
+loop-less c = c .after-read .ensures .1 (c .before .before .before .before .before .before .before .before .before .before .loop-test .taken)
+
+pub main-spec : {M : Type 1} → statement M
+main-spec =
+    tie.close
+    (tie.spec
+    Inv-loop
+    μ-loop
+    (λ c κs. search needs)
+    (λ c. search needs)
+    (λ c κs. search needs)
+    (λ c κs. search needs)
+    (λ c. search needs)
+    (λ c. search needs)
+    (λ c κs. search needs)
+    (λ c. search needs)
+    (λ c. search needs)
+    (λ c. search needs)
+    (λ c κs. search needs)
+    (λ c. search needs)
+    (λ c κs. search needs)
+    (λ c. search needs)
+    (λ c κs. search needs)
+    (λ c. search needs)
+    (λ c κs. search needs)
+    (λ c. search needs)
+    (λ c κs. search needs)
+    (λ c. search needs)
+    (λ c. search needs)
+    (λ c κs. search needs)
+    (λ c κs. search needs)
+    loop-less
+    (λ c. search needs)
+    (λ c κs. search needs)
+    (λ c. search needs)
+    (λ c. search needs)
+    (λ c κs. search needs)
+    (λ c. search needs)
+    (λ c κs. search needs)
+    (λ c. search needs)
+    (λ c. search needs)
+    (λ c κs. search needs)
+    (λ c. search needs))
