@@ -1,14 +1,18 @@
 //! Recorded answers: what the replay program runs through the Rattle code. Accepted lists and refusal 5 come from
 //! the Rust original; refusals 1 to 4, 6 and 7 are 01's conditions at their limits, written out here.
 //!
-//! A record, numbers with the low byte first: the source's length (4 bytes) and bytes; the base (4); the lengths of
-//! the three slices lent (4 each); the answer's number, 0 for accepted (1); the count or the place (4); and for an
-//! accepted source `count` times an address (4), a word (2) and a mark (1).
+//! A record, numbers with the low byte first: the number of the call that it records (1 byte), and how many bytes follow (4).
+//! Call 1 assembles a source at a base. Its terms: the source's length (4), the base (4), the lengths of the three slices lent
+//! (4 each), the answer's number, 0 for accepted (1), and the count or the place (4). Then the source; and for an accepted
+//! source `count` times an address (4), a word (2) and a mark (1).
 
 use crate::generate::{script, Random};
 use crate::oracle;
 
 const LIMIT: u32 = 1 << 30;
+
+/// The number of the call that assembles a source at a base.
+const ASSEMBLE: u8 = 1;
 
 /// One recorded call: its input, and the answer it must give.
 pub struct Record {
@@ -28,7 +32,7 @@ pub fn answered(source: &str, base: u32) -> Result<Vec<(u32, u16, u8)>, (u8, u32
         if t.starts_with("END") {
             break;
         }
-        // The address after line k is that of a NOP put behind it.
+        // The address after line k is that of a NOP put after it.
         let probe = oracle::rebased(&(lines[..k].join("\n") + "\nNOP"), base);
         let after = probe.map(|p| oracle::rust(&p).last().unwrap().0);
         if after.map_or(true, |a| a >= LIMIT) {
@@ -175,19 +179,23 @@ pub fn records(count: usize) -> Vec<Record> {
 
 /// The bytes of a record, in the form that the head of this file gives.
 pub fn bytes(record: &Record, out: &mut Vec<u8>) {
-    out.extend((record.source.len() as u32).to_le_bytes());
-    out.extend(&record.source);
-    out.extend(record.base.to_le_bytes());
+    let mut body = Vec::new();
+    body.extend((record.source.len() as u32).to_le_bytes());
+    body.extend(record.base.to_le_bytes());
     for n in record.lent {
-        out.extend(n.to_le_bytes());
+        body.extend(n.to_le_bytes());
     }
-    out.push(record.number);
-    out.extend(record.place.to_le_bytes());
+    body.push(record.number);
+    body.extend(record.place.to_le_bytes());
+    body.extend(&record.source);
     for (address, word, mark) in &record.list {
-        out.extend(address.to_le_bytes());
-        out.extend(word.to_le_bytes());
-        out.push(*mark);
+        body.extend(address.to_le_bytes());
+        body.extend(word.to_le_bytes());
+        body.push(*mark);
     }
+    out.push(ASSEMBLE);
+    out.extend((body.len() as u32).to_le_bytes());
+    out.extend(body);
 }
 
 /// Writes the records to a file, and says what they hold.

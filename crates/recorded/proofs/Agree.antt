@@ -1,4 +1,4 @@
--- When a record agrees: from the call that was made, its answer compared, and the places compared. Assumes nothing.
+-- When a call agrees: from the call that was made, its answer compared, and the places compared. Assumes nothing.
 use Prim.Native.Nat.{ℕ}
 use mathlib.Core.Path.{_≡_, sym, ap, _∙_}
 use mathlib.Core.Bool.{Bool, true, false, false≢true}
@@ -24,16 +24,16 @@ pub record Made (s t : Text) (r : Answer) (y : Slices) : Type 0 where
   pub answer : r ≡ answerOf (assembleAnswer ((termsIn t) .base) s (lent (termsIn t)))
   pub after : y ≡ onto (assembleSlices ((termsIn t) .base) s (lent (termsIn t))) old
 
-pub made : (s t : Text) (base i j k : ℕ) (r : Answer) (y : Slices) → base ≡ numberAt 0 4 t → i ≡ numberAt 4 4 t → j ≡ numberAt 8 4 t → k ≡ numberAt 12 4 t
+pub made : (s t : Text) (base i j k : ℕ) (r : Answer) (y : Slices) → base ≡ numberAt 4 4 t → i ≡ numberAt 8 4 t → j ≡ numberAt 12 4 t → k ≡ numberAt 16 4 t
     → Called base s i j k pattern r y → Made s t r y
 unfolding termsIn lent old
 made s t base i j k r y eb ei ej ek d =
     record { answer = rw (← eb, ← ei, ← ej, ← ek) (d .answer); after = rw (← eb, ← ei, ← ej, ← ek) (d .after) }
 
-module _ (h s t l : Text) (r : Answer) (y : Slices) (m : Made s t r y) (n p : ℕ) (en : n ≡ numberAt 16 1 t) (ep : p ≡ numberAt 17 4 t) (q : Bool)
+module _ (s t l : Text) (r : Answer) (y : Slices) (m : Made s t r y) (n p : ℕ) (en : n ≡ numberAt 20 1 t) (ep : p ≡ numberAt 21 4 t) (q : Bool)
     (told : (q ≡ true) ↔ ((numberOf r ≡ n) × (placeOf r ≡ p))) where
   -- the answer is another
-  pub differs : q ≡ false → ((false ≡ true) ↔ Agrees h s t l)
+  pub differs : q ≡ false → ((false ≡ true) ↔ Agrees s t l)
   unfolding termsIn
   differs e =
       refuses
@@ -48,8 +48,8 @@ module _ (h s t l : Text) (r : Answer) (y : Slices) (m : Made s t r y) (n p : �
   same-place e = sym (ap placeOf (m .answer)) ∙ (told .0 e .1 ∙ ep)
 
   -- the answer is the recorded one, and z holds the recorded list
-  pub compared : Whole h s t l → q ≡ true → (count : ℕ) → count ≡ countOf (termsIn t) → (z : Slices) → z ≡ holding (listIn count l) pattern
-      → (v : Bool) → ((v ≡ true) ↔ (y ≡ z)) → ((v ≡ true) ↔ Agrees h s t l)
+  pub compared : Whole s t l → q ≡ true → (count : ℕ) → count ≡ countOf (termsIn t) → (z : Slices) → z ≡ holding (listIn count l) pattern
+      → (v : Bool) → ((v ≡ true) ↔ (y ≡ z)) → ((v ≡ true) ↔ Agrees s t l)
   compared w e count ec z ez v k =
       let listed : z ≡ holding (listIn (countOf (termsIn t)) l) old = rw (← ec) (is-old (holding (listIn count l)) z ez) in (
         (λ f. record {

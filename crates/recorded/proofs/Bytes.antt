@@ -1,4 +1,4 @@
--- Laws of numbers in bytes: a number is its low byte and 256 times the number behind it. Assumes nothing.
+-- Laws of numbers in bytes: a number is its low byte and 256 times the number after it. Assumes nothing.
 use Prim.Native.Nat.{ℕ, suc, _+_, _*_, _<_, _≤_}
 use mathlib.Core.Path.{_≡_, refl}
 use native.Mathlib.Numerals.{add-one}

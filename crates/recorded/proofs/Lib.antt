@@ -3,3 +3,7 @@ pub mod Rows
 pub mod Lent
 pub mod Parts
 pub mod Agree
+pub mod Decide
+pub mod Judged
+pub mod Fed
+pub mod Counts

@@ -1,4 +1,4 @@
--- Laws of a record's parts: when they are whole, and what that says of the numbers in the terms. Assumes nothing.
+-- Laws of a call's parts: when they are whole, and what that says of the numbers in the terms. Assumes nothing.
 use Prim.Native.Nat.{_*_, _≤_}
 use mathlib.Core.Path.{_≡_}
 use mathlib.Core.Bool.{true, false, false≢true}
@@ -11,18 +11,22 @@ use Rattle.recorded.specs.Recorded.{numberAt, termsIn, countOf, Whole}
 pub refuses : {P : Type 0} → (P → ⊥) → ((false ≡ true) ↔ P)
 refuses k = ((λ e. absurd (false≢true e)), (λ p. absurd (k p)))
 
--- the numbers in the terms that are within the slices
+-- the numbers in the terms that tell how long the parts are
 pub record Within (t : Text) : Type 0 where
-  pub addresses : numberAt 4 4 t ≤ 9000
-  pub words : numberAt 8 4 t ≤ 9000
-  pub marks : numberAt 12 4 t ≤ 9000
+  pub addresses : numberAt 8 4 t ≤ 9000
+  pub words : numberAt 12 4 t ≤ 9000
+  pub marks : numberAt 16 4 t ≤ 9000
 
-pub whole-within : {h s t l : Text} → Whole h s t l → Within t
+pub whole-within : {s t l : Text} → Whole s t l → Within t
 unfolding termsIn
 whole-within w = record { addresses = w .addresses; words = w .words; marks = w .marks }
 
-pub within-whole : (h s t l : Text) → length h ≡ 4 → length s ≡ numberAt 0 4 h → length t ≡ 21 → countOf (termsIn t) ≤ 9000 → length l ≡ 7 * countOf (termsIn t)
-    → Within t → Whole h s t l
+pub whole-source : {s t l : Text} → Whole s t l → length s ≡ numberAt 0 4 t
 unfolding termsIn
-within-whole h s t l p q r n k w =
-    record { head = p; source = q; terms = r; count = n; rows = k; addresses = w .addresses; words = w .words; marks = w .marks }
+whole-source w = w .source
+
+pub within-whole : (s t l : Text) → length t ≡ 25 → length s ≡ numberAt 0 4 t → countOf (termsIn t) ≤ 9000 → length l ≡ 7 * countOf (termsIn t)
+    → Within t → Whole s t l
+unfolding termsIn
+within-whole s t l r q n k w =
+    record { terms = r; source = q; count = n; rows = k; addresses = w .addresses; words = w .words; marks = w .marks }

@@ -1,4 +1,4 @@
--- A recorded call of the assembler: what the bytes of its record say, and when the code's answer agrees with it. Assumes nothing.
+-- A recorded call of the assembler: what its terms, its source and its rows say, and when the code's answer agrees. Assumes nothing.
 use Prim.Native.Nat.{ℕ, zero, suc, _+_, _*_, _≤_}
 use mathlib.Core.Path.{_≡_}
 use mathlib.Core.Bool.{cond}
@@ -30,9 +30,10 @@ unfoldable pub listIn : ℕ → Text → List Place
 listIn zero t = []
 listIn (suc n) t = rowIn t ∷ listIn n (drop 7 t)
 
--- ---- a record's terms: the base, how many places of each slice are lent, the answer's number and its place
+-- ---- a call's terms: the source's size, the base, how many places of each slice are lent, the answer's number and its place
 
 pub record Terms : Type 0 where
+  pub size : ℕ
   pub base : ℕ
   pub addresses : ℕ
   pub words : ℕ
@@ -43,12 +44,13 @@ pub record Terms : Type 0 where
 unfoldable pub termsIn : Text → Terms
 termsIn t =
     record {
-      base = numberAt 0 4 t;
-      addresses = numberAt 4 4 t;
-      words = numberAt 8 4 t;
-      marks = numberAt 12 4 t;
-      number = numberAt 16 1 t;
-      place = numberAt 17 4 t;
+      size = numberAt 0 4 t;
+      base = numberAt 4 4 t;
+      addresses = numberAt 8 4 t;
+      words = numberAt 12 4 t;
+      marks = numberAt 16 4 t;
+      number = numberAt 20 1 t;
+      place = numberAt 21 4 t;
     }
 
 -- how many places the recorded list has: a refusal has no list
@@ -69,7 +71,7 @@ front i j k x = slices (take i (x .addresses)) (take j (x .words)) (take k (x .m
 unfoldable pub onto : Slices → Slices → Slices
 onto y x = slices (over (y .addresses) (x .addresses)) (over (y .words) (x .words)) (over (y .marks) (x .marks))
 
--- what a call owes that lends the first i, j and k places of x to the assembler: those behind stay
+-- what a call owes that lends the first i, j and k places of x to the assembler: those after them stay
 pub record Called (base : ℕ) (source : Text) (i j k : ℕ) (x : Slices) (r : Answer) (y : Slices) : Type 0 where
   pub answer : r ≡ answerOf (assembleAnswer base source (front i j k x))
   pub after : y ≡ onto (assembleSlices base source (front i j k x)) x
@@ -86,24 +88,23 @@ pub record Even (n : ℕ) (a w m : List ℕ) : Type 0 where
   pub words : length w ≡ n
   pub marks : length m ≡ n
 
--- the four parts are as long as they say, and the places are within the slices
-pub record Whole (h s t l : Text) : Type 0 where
-  pub head : length h ≡ 4
-  pub source : length s ≡ numberAt 0 4 h
-  pub terms : length t ≡ 21
+-- the three parts are as long as they say, and the places are within the slices
+pub record Whole (s t l : Text) : Type 0 where
+  pub terms : length t ≡ 25
+  pub source : length s ≡ (termsIn t) .size
   pub count : countOf (termsIn t) ≤ 9000
   pub rows : length l ≡ 7 * countOf (termsIn t)
   pub addresses : (termsIn t) .addresses ≤ 9000
   pub words : (termsIn t) .words ≤ 9000
   pub marks : (termsIn t) .marks ≤ 9000
 
--- the answer is the recorded one, and so is every place: the list, and the pattern behind it
+-- the answer is the recorded one, and so is every place: the list, and the pattern after it
 pub record Same (r : Terms) (source rows : Text) : Type 0 where
   pub number : numberOf (answerOf (assembleAnswer (r .base) source (lent r))) ≡ r .number
   pub place : placeOf (answerOf (assembleAnswer (r .base) source (lent r))) ≡ r .place
   pub after : onto (assembleSlices (r .base) source (lent r)) old ≡ holding (listIn (countOf r) rows) old
 
--- a record of four parts agrees with the assembler
-pub record Agrees (head source terms rows : Text) : Type 0 where
-  pub whole : Whole head source terms rows
+-- a call of three parts agrees with the assembler
+pub record Agrees (source terms rows : Text) : Type 0 where
+  pub whole : Whole source terms rows
   pub same : Same (termsIn terms) source rows

@@ -1,52 +1,44 @@
-// Replays recorded answers: standard input holds sources with the answers that they must get, made by the Rust
-// original and by paper 01's limits. Each source is assembled, and every place of the slices is compared.
+// Replays recorded calls: standard input holds calls with the answers that they must get, made by the Rust original and by
+// paper 01's limits. Each is made again, and every place of the slices is compared. It takes no argument, and prints on standard
+// output how many records agree, in how many words, and the number of the first that differs, if one does.
+// If the input cannot be read to its end it prints nothing. It says that on standard error, and there too if the last record is
+// cut off, if standard output does not take all that it prints, or if it is given an argument.
+use libc::STDERR_FILENO;
 use libc::STDIN_FILENO;
 use libc::STDOUT_FILENO;
-use recorded::HEAD;
-use recorded::ROW;
-use recorded::ROWS;
-use recorded::SOURCE;
-use recorded::TERMS;
-use recorded::agrees;
-use recorded::list_size;
-use recorded::source_size;
+use recorded::COUNTS;
+use recorded::RECORD;
+use recorded::is_cut_off;
+use recorded::replay_chunk;
+use recorded::replay_text;
+use station::arguments::are_none;
+use station::failure::SAID;
+use station::failure::failure_text;
+use station::input::after_read;
+use station::input::start;
 
-// More records than an input has: a proved loop has to end.
-const RECORDS: u64 = 100000;
-
-// Reads the four parts of each record; a part that the input does not hold whole is too short, and the record differs.
 fn main() {
-    let mut records: u64 = 0;
-    let mut agreed: u64 = 0;
-    let mut words: u64 = 0;
-    while records < RECORDS {
-        let mut head = [0u8; HEAD];
-        let mut source = [0u8; SOURCE];
-        let mut terms = [0u8; TERMS];
-        let mut rows = [0u8; ROWS];
-        let h = io::read_full(STDIN_FILENO, &mut head);
-        if h == 0 {
-            break;
-        }
-        let size = source_size(&head);
-        let s = io::read_full(STDIN_FILENO, &mut source[..size]);
-        let t = io::read_full(STDIN_FILENO, &mut terms);
-        let count = list_size(&terms);
-        let length = ROW * count;
-        let r = io::read_full(STDIN_FILENO, &mut rows[..length]);
-        records += 1;
-        if agrees(&head[..h], &source[..s], &terms[..t], &rows[..r]) {
-            agreed += 1;
-            words += count as u64;
-        } else {
-            io::print_decimal(STDOUT_FILENO, records);
-            io::write_all(STDOUT_FILENO, b" differs\n");
-        }
+    if !are_none(os::arg_count()) {
+        io::write_all(STDERR_FILENO, b"usage: replay < RECORDS\n");
+        return;
     }
-    io::print_decimal(STDOUT_FILENO, agreed);
-    io::write_all(STDOUT_FILENO, b" of ");
-    io::print_decimal(STDOUT_FILENO, records);
-    io::write_all(STDOUT_FILENO, b" records agree, ");
-    io::print_decimal(STDOUT_FILENO, words);
-    io::write_all(STDOUT_FILENO, b" words compared\n");
+    let mut bytes = [0u8; RECORD];
+    let mut tally = recorded::start();
+    let mut input = start();
+    while input.more {
+        let mut chunk = io::large_buffer();
+        let got = libc::read(STDIN_FILENO, &mut chunk);
+        let count = io::count(got, &chunk);
+        tally = replay_chunk(tally, &chunk[..count], &mut bytes);
+        input = after_read(input, got);
+    }
+    let mut out = [0u8; COUNTS];
+    let size = replay_text(tally, input, &mut out);
+    let written = io::write_all(STDOUT_FILENO, &out[..size]);
+    let mut said = [0u8; SAID];
+    let length = failure_text(b"replay", input, written, &mut said);
+    io::write_all(STDERR_FILENO, &said[..length]);
+    if is_cut_off(tally, input) {
+        io::write_all(STDERR_FILENO, b"replay: the last record is cut off\n");
+    }
 }

@@ -1,4 +1,4 @@
--- The mover on slices whose front a list fills: what stands behind the list changes nothing of what is printed. Assumes nothing.
+-- The mover on slices whose front a list fills: what stands after the list changes nothing of what is printed. Assumes nothing.
 use Prim.Native.Nat.{ℕ, zero, suc, _≤_}
 use mathlib.Core.Path.{_≡_, refl, ap}
 use mathlib.Core.Bool.{Bool, true, false}
@@ -25,7 +25,7 @@ use Rattle.relocate.proofs.Verdict.{passed}
 use Rattle.relocate.proofs.Callers.{move-keeps-marks, by-slice}
 use Rattle.station.specs.Station.{answerText, wrongLineText, filledBy, movedSlicesText, parsedText, movedText}
 
--- slices that a list fills, and more behind it
+-- slices that a list fills, and more after it
 abbrev filledThen : List Place → List ℕ → List ℕ → List ℕ → Slices
 filledThen l xs ws ms =
     slices (map (λ (p : Place). p .address) l ++ xs) (map (λ (p : Place). p .word) l ++ ws) (map (λ (p : Place). p .mark) l ++ ms)

@@ -1,4 +1,4 @@
--- `agrees` meets its contract: a record that is not whole, an answer that is another, and then the places. Assumes nothing.
+-- `agrees` meets its contract: a call that is not whole, an answer that is another, and then the places. Assumes nothing.
 use native.Mathlib.Omega.{arith}
 use mathlib.Core.Bool.{false≢true}
 use mathlib.Core.Path.{sym, _∙_}
@@ -12,7 +12,7 @@ use Rattle.recorded.proofs.Agree.{Made, made, differs, compared}
 use Rattle.recorded.proofs.agrees.Statement.{statement}
 use Rattle.recorded.proofs.agrees.Tie as tie
 
-whole : (c : tie.Else1) → Whole (c .before .before .before .before .before .before .args .head .now) (c .before .before .before .before .before .before .args .source .now) (c .before .before .before .before .before .before .args .terms .now) (c .before .before .before .before .before .before .args .rows .now)
+whole : (c : tie.Else1) → Whole (c .before .before .before .before .before .args .source .now) (c .before .before .before .before .before .args .terms .now) (c .before .before .before .before .before .args .rows .now)
 whole c = c .before .is-whole .ensures .0 (not-false _ (c .if1 .left))
 
 -- the slices after the call, and those with the recorded list
@@ -22,7 +22,7 @@ after c = slices (c .assemble-lent .last .1 .1 .1 .1 .1 .0) (c .assemble-lent .l
 abbrev recorded : tie.After-read-list → Slices
 recorded c = slices (c .read-list .last .1 .1 .0) (c .read-list .last .1 .1 .1 .0) (c .read-list .last .1 .1 .1 .1 .0)
 
-call : (c : tie.After-assemble-lent) → Made (c .before .before .before .before .before .before .before .before .before .before .before .before .before .before .args .source .now) (c .before .before .before .before .before .before .before .before .before .before .before .before .before .before .args .terms .now) (c .assemble-lent .result) (after c)
+call : (c : tie.After-assemble-lent) → Made (c .before .before .before .before .before .before .before .before .before .before .before .before .before .args .source .now) (c .before .before .before .before .before .before .before .before .before .before .before .before .before .args .terms .now) (c .assemble-lent .result) (after c)
 call c = made _ _ _ _ _ _ _ _ (c .before .before .before .before .number-at4 .ensures) (c .before .before .before .before .before .before .before .number-at .ensures) (c .before .before .before .before .before .before .number-at2 .ensures) (c .before .before .before .before .before .number-at3 .ensures) (c .assemble-lent .ensures)
 
 returns : tie.Need-returns
@@ -54,7 +54,7 @@ number-at-requires-5 c κs = omega (arith, whole (c .before .before .before .bef
 returns-2 : tie.Need-returns-2
 returns-2 c =
     let w = whole (c .before .before .before .before .before .before .before .before .before .before .before .before .before .before .before) in
-    differs _ _ _ _ _ _ (call (c .before .before .before .before .before .before .before)) _ _ (one-byte _ 16 (omega (arith, w .terms))) (c .before .before .number-at5 .ensures) _ (c .before .same-answer .ensures) (not-true _ (c .if2 .taken))
+    differs _ _ _ _ _ (call (c .before .before .before .before .before .before .before)) _ _ (one-byte _ 20 (omega (arith, w .terms))) (c .before .before .number-at5 .ensures) _ (c .before .same-answer .ensures) (not-true _ (c .if2 .taken))
 
 count-requires : tie.Need-count-requires
 count-requires c κs = whole (c .before .before .before .before .before .before .before .before .before .before .before .before .before .before .before) .terms
@@ -68,7 +68,7 @@ read-list-requires c κs =
 returns-3 : tie.Need-returns-3
 returns-3 c =
     let w = whole (c .before .before .before .before .before .before .before .before .before .before .before .before .before .before .before .before .before .before .before .before .before .before .before .before .before .before .before .before .before .before) in
-    compared _ _ _ _ _ _ (call (c .before .before .before .before .before .before .before .before .before .before .before .before .before .before .before .before .before .before .before .before .before .before)) _ _ (one-byte _ 16 (omega (arith, w .terms))) (c .before .before .before .before .before .before .before .before .before .before .before .before .before .before .before .before .before .number-at5 .ensures) _ (c .before .before .before .before .before .before .before .before .before .before .before .before .before .before .before .before .same-answer .ensures) w (not-false _ (c .before .before .before .before .before .before .before .before .before .before .before .before .before .before .before .if2 .left)) _ (c .before .before .before .before .before .before .before .before .before .before .before .before .before .before .count .ensures) (recorded (c .before .before .before .before .before .before .before .before .before .before)) (c .before .before .before .before .before .before .before .before .before .before .read-list .ensures) _ (c .same-list .ensures)
+    compared _ _ _ _ _ (call (c .before .before .before .before .before .before .before .before .before .before .before .before .before .before .before .before .before .before .before .before .before .before)) _ _ (one-byte _ 20 (omega (arith, w .terms))) (c .before .before .before .before .before .before .before .before .before .before .before .before .before .before .before .before .before .number-at5 .ensures) _ (c .before .before .before .before .before .before .before .before .before .before .before .before .before .before .before .before .same-answer .ensures) w (not-false _ (c .before .before .before .before .before .before .before .before .before .before .before .before .before .before .before .if2 .left)) _ (c .before .before .before .before .before .before .before .before .before .before .before .before .before .before .count .ensures) (recorded (c .before .before .before .before .before .before .before .before .before .before)) (c .before .before .before .before .before .before .before .before .before .before .read-list .ensures) _ (c .same-list .ensures)
 
 pub agrees-spec : {M : Type 1} → statement M
 agrees-spec =

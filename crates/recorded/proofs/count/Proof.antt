@@ -9,11 +9,11 @@ use Rattle.recorded.proofs.count.Tie as tie
 
 returns : tie.Need-returns
 unfolding countOf termsIn
-returns c = rw (← (one-byte (c .before .before .before .args .terms .now) 16 (omega arith)), ne-eqb _ _ (c .if1 .taken))
+returns c = rw (← (one-byte (c .before .before .before .args .terms .now) 20 (omega arith)), ne-eqb _ _ (c .if1 .taken))
 
 returns-2 : tie.Need-returns-2
 unfolding countOf termsIn
-returns-2 c = rw (← (one-byte (c .before .before .before .before .args .terms .now) 16 (omega arith)), eq-eqb _ _ (c .before .if1 .left)) (c .number-at .ensures)
+returns-2 c = rw (← (one-byte (c .before .before .before .before .args .terms .now) 20 (omega arith)), eq-eqb _ _ (c .before .if1 .left)) (c .number-at .ensures)
 
 pub count-spec : {M : Type 1} → statement M
 count-spec =

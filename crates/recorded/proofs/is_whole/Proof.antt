@@ -1,46 +1,41 @@
--- `is_whole` meets its contract: each return is one part that is not whole, and past all of them the record is. Assumes nothing.
+-- `is_whole` meets its contract: each return is one part that is not whole, and past all of them the call is. Assumes nothing.
 use mathlib.Core.Path.{sym, _∙_}
 use native.Mathlib.Omega.{arith}
-use borrow.Author.Needs.{needs}
 use borrow.Author.Tests.{leb-true, le-leb}
-use Rattle.recorded.proofs.Parts.{refuses, whole-within, within-whole}
+use Rattle.recorded.proofs.Parts.{refuses, whole-within, whole-source, within-whole}
+use borrow.Author.Needs.{needs}
 use Rattle.recorded.proofs.is_whole.Statement.{statement}
 use Rattle.recorded.proofs.is_whole.Tie as tie
 
 returns : tie.Need-returns
-returns c = refuses (λ w. c .if1 .taken (w .head))
+returns c = refuses (λ w. c .if1 .taken (w .terms))
 
 returns-2 : tie.Need-returns-2
-returns-2 c = refuses (λ w. c .if2 .taken (w .source ∙ sym (c .before .number-at .ensures)))
+returns-2 c = refuses (λ w. c .if2 .taken (whole-source w ∙ sym (c .before .number-at .ensures)))
 
 returns-3 : tie.Need-returns-3
-returns-3 c = refuses (λ w. c .if3 .taken (w .terms))
+returns-3 c = refuses (λ w. omega (arith, w .count, c .before .count .ensures))
 
 returns-4 : tie.Need-returns-4
-returns-4 c = refuses (λ w. omega (arith, w .count, c .before .count .ensures))
+returns-4 c = refuses (λ w. omega (arith, w .rows, c .before .before .count .ensures))
 
 returns-5 : tie.Need-returns-5
-returns-5 c = refuses (λ w. omega (arith, w .rows, c .before .before .count .ensures))
+returns-5 c = refuses (λ w. omega (arith, whole-within w .addresses, c .before .number-at2 .ensures))
 
 returns-6 : tie.Need-returns-6
-returns-6 c = refuses (λ w. omega (arith, whole-within w .addresses, c .before .number-at2 .ensures))
+returns-6 c = refuses (λ w. omega (arith, whole-within w .words, c .before .number-at3 .ensures))
 
 returns-7 : tie.Need-returns-7
-returns-7 c = refuses (λ w. omega (arith, whole-within w .words, c .before .number-at3 .ensures))
-
-returns-8 : tie.Need-returns-8
-returns-8 c =
+returns-7 c =
     let n = c .before .before .before .before .before .before .before .count .ensures in
-    let a = c .before .before .before .before .before .before .before .before .before .before .before .before .before .before .before .before .args in (
+    let a = c .before .before .before .before .before .before .before .before .before .before .before .before .before .before .args in (
       (λ e.
           within-whole
-          (a .head .now)
           (a .source .now)
           (a .terms .now)
           (a .rows .now)
-          (c .before .before .before .before .before .before .before .before .before .before .before .if1 .left)
-          (c .before .before .before .before .before .before .before .before .before .if2 .left ∙ c .before .before .before .before .before .before .before .before .before .before .number-at .ensures)
-          (c .before .before .before .before .before .before .before .before .if3 .left)
+          (c .before .before .before .before .before .before .before .before .before .before .if1 .left)
+          (c .before .before .before .before .before .before .before .before .if2 .left ∙ c .before .before .before .before .before .before .before .before .before .number-at .ensures)
           (omega arith)
           (omega arith)
           (record {
@@ -59,9 +54,11 @@ is-whole-spec =
     (λ c κs. search needs)
     (λ c. search needs)
     returns-2
-    returns-3
     (λ c κs. search needs)
+    returns-3
+    (λ c. search needs)
     returns-4
+    (λ c κs. search needs)
     (λ c. search needs)
     returns-5
     (λ c κs. search needs)
@@ -69,7 +66,4 @@ is-whole-spec =
     returns-6
     (λ c κs. search needs)
     (λ c. search needs)
-    returns-7
-    (λ c κs. search needs)
-    (λ c. search needs)
-    returns-8)
+    returns-7)

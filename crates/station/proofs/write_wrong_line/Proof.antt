@@ -1,4 +1,4 @@
--- `write_wrong_line` meets its contract: the words, and the number behind them. Assumes nothing.
+-- `write_wrong_line` meets its contract: the words, and the number after them. Assumes nothing.
 use native.Mathlib.Omega.{arith}
 use borrow.Author.Needs.{needs}
 use Rattle.rules.specs.Text.{bytes}
