@@ -10,6 +10,7 @@ ghost use Rattle.rules.specs.Label.{find};
 ghost use Rattle.text.specs.Find.{foundOf};
 ghost use Rattle.label.specs.Table.{hashes, hashOf, cellOf, tableOf, Held, rowOf, addressOf};
 ghost use Rattle.label.specs.Record.{withRow, withHead, Ready, Recording};
+ghost use Rattle.label.specs.Numbers.{ReadRowGives};
 
 // The hashes that a name can have.
 const HEADS: usize = 256;
@@ -93,6 +94,26 @@ pub fn find_label(source: &[u8], table: &[u32], count: usize, name: &[u8]) -> Ad
         return Address::Nothing;
     };
     Address::At(table[HEADS + 4 * k + 2])
+}
+
+// A row's numbers: where the label's name starts in the source, how long it is, and the label's address.
+pub struct Row {
+    pub start: usize,
+    pub length: usize,
+    pub address: u32,
+}
+
+// Row k, read.
+pub fn read_row(table: &[u32], k: usize) -> Row
+    requires { ⌜ cellOf k + 2 < length (now table) ⌝ }
+    ensures { λ r. ⌜ ReadRowGives (now (table .entry)) k r ⌝ }
+{
+    let cell = HEADS + 4 * k;
+    Row {
+        start: table[cell] as usize,
+        length: table[cell + 1] as usize,
+        address: table[cell + 2],
+    }
 }
 
 // Row k, written.

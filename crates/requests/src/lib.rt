@@ -1,0 +1,1 @@
+// Paper 02's requests as definitions over `rules`, a file each: what a reader must believe of them stands in specs/.
