@@ -9,11 +9,11 @@ answerOf (accepted n) = Accepted n
 answerOf (refused r p) = Refused r p
 
 -- its number, 0 for accepted
-abbrev pub numberOf : Answer → ℕ
-numberOf (Accepted n) = 0
-numberOf (Refused r p) = r
+abbrev pub answerNumber : Answer → ℕ
+answerNumber (Accepted n) = 0
+answerNumber (Refused r p) = r
 
 -- its place, the count for accepted
-abbrev pub placeOf : Answer → ℕ
-placeOf (Accepted n) = n
-placeOf (Refused r p) = p
+abbrev pub answerPlace : Answer → ℕ
+answerPlace (Accepted n) = n
+answerPlace (Refused r p) = p

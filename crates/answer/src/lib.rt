@@ -1,7 +1,7 @@
 // What a call answers, the count or one of paper 01's refusals; and whether the slices lent to it are too short.
 ghost use mathlib.Core.Path.{_≡_};
 ghost use Rattle.rules.specs.Assemble.{slices, short};
-ghost use Rattle.answer.specs.Answer.{numberOf, placeOf};
+ghost use Rattle.answer.specs.Answer.{answerNumber, answerPlace};
 
 pub enum Answer {
     // Accepted: how many places the list has.
@@ -12,7 +12,7 @@ pub enum Answer {
 
 // The refusal's number, 0 for accepted.
 pub fn number(answer: Answer) -> u8
-    ensures { λ r. ⌜ r ≡ numberOf answer ⌝ }
+    ensures { λ r. ⌜ r ≡ answerNumber answer ⌝ }
 {
     match answer {
         Answer::Accepted(_) => 0,
@@ -22,7 +22,7 @@ pub fn number(answer: Answer) -> u8
 
 // The refusal's place, the count for accepted.
 pub fn place(answer: Answer) -> usize
-    ensures { λ r. ⌜ r ≡ placeOf answer ⌝ }
+    ensures { λ r. ⌜ r ≡ answerPlace answer ⌝ }
 {
     match answer {
         Answer::Accepted(n) => n,

@@ -10,12 +10,12 @@ use Rattle.answer.specs.declared.Answer.{Answer}
 use Rattle.answer.specs.Answer.{answerOf}
 use Rattle.assemble.specs.Assembled.{Assembled}
 use Rattle.relocate.specs.Moved.{Moved}
-use Rattle.answer.specs.Answer.{numberOf, placeOf}
+use Rattle.answer.specs.Answer.{answerNumber, answerPlace}
 use Rattle.lagvettu.specs.Called.{Answers, Assembles, Moves}
 
-module _ {r : Answer} {n p : ℕ} (hn : n ≡ numberOf r) (hp : p ≡ placeOf r) where
+module _ {r : Answer} {n p : ℕ} (hn : n ≡ answerNumber r) (hp : p ≡ answerPlace r) where
   passed-on : {a : Ruled ℕ} → r ≡ answerOf a → Answers a n p
-  passed-on e = record { number = hn ∙ ap numberOf e; place = hp ∙ ap placeOf e }
+  passed-on e = record { number = hn ∙ ap answerNumber e; place = hp ∙ ap answerPlace e }
 
   pub assembles : {base : ℕ} {source : Text} {x y : Slices} → Assembled base source x r y → Assembles base source x n p y
   assembles h = record { answer = passed-on (h .answer); slices = h .slices }

@@ -8,12 +8,12 @@ use Rattle.rules.specs.Answer.{Answer as Ruled}
 use Rattle.rules.specs.Assemble.{Slices, assembleAnswer, assembleSlices}
 use Rattle.rules.specs.Relocate.{moveAnswer, moveSlices}
 use Rattle.answer.specs.Answer.{answerOf}
-use Rattle.answer.specs.Answer.{numberOf, placeOf}
+use Rattle.answer.specs.Answer.{answerNumber, answerPlace}
 
 -- 01's answer a as C gets it: n is what the call returns, p what it leaves in the number that the caller lends
 pub record Answers (a : Ruled ℕ) (n p : ℕ) : Type 0 where
-  pub number : n ≡ numberOf (answerOf a)
-  pub place : p ≡ placeOf (answerOf a)
+  pub number : n ≡ answerNumber (answerOf a)
+  pub place : p ≡ answerPlace (answerOf a)
 
 -- the contract of `lagvettu_assemble`, lent the slices x, which it leaves as y
 pub record Assembles (base : ℕ) (source : Text) (x : Slices) (n p : ℕ) (y : Slices) : Type 0 where

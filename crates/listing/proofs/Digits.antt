@@ -9,7 +9,7 @@ use native.Mathlib.Omega.{arith}
 use borrow.Author.Tests.{lt-ltb, le-ltb, ltb-true, ltb-false}
 use lib.Dec.{ltb}
 use lib.ListN.{length, set, length-append, length-set}
-use Rattle.listing.specs.Listing.{digitByte, digitsOf, decimalPlacesBy, decimalPlaces, decimal, putAt}
+use Rattle.listing.specs.Listing.{digitByte, digitsOf, decimalPlacesBy, decimalPlaces, decimal, overFrom}
 use Rattle.listing.proofs.Put.{put-last, put-nil}
 
 pub length-digits : (base k n : ℕ) → length (digitsOf base k n) ≡ k
@@ -23,7 +23,7 @@ less k = omega arith
 
 -- a turn: the last digit is set, and the others are those of the quotient
 pub digit-put : (i base k n : ℕ) (l : List ℕ) → 0 < k → i + k ≤ length l
-    → putAt i (digitsOf base k n) l ≡ putAt i (digitsOf base (k - 1) (n / base)) (set l (i + (k - 1)) (digitByte (n % base)))
+    → overFrom i (digitsOf base k n) l ≡ overFrom i (digitsOf base (k - 1) (n / base)) (set l (i + (k - 1)) (digitByte (n % base)))
 unfolding digitsOf
 digit-put i base zero n l p h = absurd (omega arith)
 digit-put i base (suc k) n l p h =
@@ -35,7 +35,7 @@ digit-put i base (suc k) n l p h =
 pub record Spelling (start base count n : ℕ) (first : List ℕ) (i rest : ℕ) (l : List ℕ) : Type 0 where
   pub upto : i ≤ count
   pub long : length l ≡ length first
-  pub same : putAt start (digitsOf base count n) first ≡ putAt start (digitsOf base i rest) l
+  pub same : overFrom start (digitsOf base count n) first ≡ overFrom start (digitsOf base i rest) l
 
 pub spelling-start : (start base count n : ℕ) (l : List ℕ) → Spelling start base count n l count n l
 spelling-start start base count n l = record { upto = le-refl count; long = refl; same = refl }
@@ -50,7 +50,7 @@ module _ {start base count n : ℕ} {first : List ℕ} {i rest : ℕ} {l : List 
         same = r .same ∙ rw e (digit-put start base i rest l p (omega (arith, r .upto)));
       }
 
-  pub spelling-end : i ≤ 0 → l ≡ putAt start (digitsOf base count n) first
+  pub spelling-end : i ≤ 0 → l ≡ overFrom start (digitsOf base count n) first
   unfolding digitsOf
   spelling-end h = let none : i ≡ 0 = omega arith in sym (r .same ∙ rw none (put-nil start l))
 
@@ -125,6 +125,6 @@ pub decimal-length : (count n : ℕ) → count ≡ decimalPlaces n → count ≡
 unfolding decimal
 decimal-length count n e = e ∙ sym (length-digits 10 (decimalPlaces n) n)
 
-pub decimal-put : (i count n : ℕ) (l x : List ℕ) → count ≡ decimalPlaces n → x ≡ putAt i (digitsOf 10 count n) l → x ≡ putAt i (decimal n) l
+pub decimal-put : (i count n : ℕ) (l x : List ℕ) → count ≡ decimalPlaces n → x ≡ overFrom i (digitsOf 10 count n) l → x ≡ overFrom i (decimal n) l
 unfolding decimal
 decimal-put i count n l x e h = rw e at h

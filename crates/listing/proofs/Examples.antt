@@ -3,11 +3,11 @@ use mathlib.Core.Path.{refl}
 use mathlib.Core.List.{flatMap}
 use Rattle.rules.specs.Text.{bytes, starts}
 use Rattle.listing.specs.Listing.{digitByte, digitsOf, decimalPlacesBy, decimal, markByte, placeText, listText, refusedText}
-use Rattle.listing.specs.Reading.{digitIn, numberIn, markIn, placeIn, isLine, readLines}
+use Rattle.listing.specs.Reading.{digitIn, hexIn, markIn, placeIn, isLine, readLines}
 use Rattle.listing.specs.Examples.{Examples}
 
 pub examples : Examples
-unfolding bytes starts flatMap digitByte digitsOf decimalPlacesBy decimal markByte placeText listText refusedText digitIn numberIn markIn placeIn isLine readLines
+unfolding bytes starts flatMap digitByte digitsOf decimalPlacesBy decimal markByte placeText listText refusedText digitIn hexIn markIn placeIn isLine readLines
 examples =
     record {
       station = refl;

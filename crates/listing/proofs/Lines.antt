@@ -13,8 +13,8 @@ use lib.Seq.{drop-drop, getD-drop, take-all}
 use Rattle.rules.specs.Text.{Text, starts}
 use Rattle.rules.specs.Assemble.{Place, over}
 use Rattle.text.proofs.Compare.{starts-equal, starts-unequal, starts-short}
-use Rattle.listing.specs.Listing.{place, digitsOf, markByte, placeText, putAt}
-use Rattle.listing.specs.Reading.{numberIn, markIn, placeIn, isLine, readLines, readList}
+use Rattle.listing.specs.Listing.{place, digitsOf, markByte, placeText, overFrom}
+use Rattle.listing.specs.Reading.{hexIn, markIn, placeIn, isLine, readLines, readList}
 use Rattle.listing.specs.declared.reading.Parsed.the-variants.{Count, Bad}
 use Rattle.listing.proofs.Put.{put-both, put-one, put-nil, put-over, length-put}
 use Rattle.listing.proofs.Digits.{length-digits}
@@ -28,9 +28,9 @@ pub next-line : (p : Place) (i : ℕ) → 16 * (i + 1) ≡ 16 * i + length (plac
 next-line p i = rw (length-place p) (omega arith)
 
 -- a line is put part by part: x is the list after the address, y after the word
-pub line-put : (i : ℕ) (p : Place) (l x y : Text) (m : ℕ) → i + 16 ≤ length l → x ≡ putAt i (digitsOf 16 8 (p .address)) l
-    → y ≡ putAt (i + 9) (digitsOf 16 4 (p .word)) (set x (i + 8) 32) → m ≡ markByte (p .mark)
-    → set (set (set y (i + 13) 32) (i + 14) m) (i + 15) 10 ≡ putAt i (placeText p) l
+pub line-put : (i : ℕ) (p : Place) (l x y : Text) (m : ℕ) → i + 16 ≤ length l → x ≡ overFrom i (digitsOf 16 8 (p .address)) l
+    → y ≡ overFrom (i + 9) (digitsOf 16 4 (p .word)) (set x (i + 8) 32) → m ≡ markByte (p .mark)
+    → set (set (set y (i + 13) 32) (i + 14) m) (i + 15) 10 ≡ overFrom i (placeText p) l
 unfolding placeText
 line-put i p l x y m h ex ey em =
     let a = digitsOf 16 8 (p .address) in
@@ -48,10 +48,10 @@ line-put i p l x y m h ex ey em =
     rw (← em)
     (sym
     (put-both i (i + 8) a l (omega arith) (omega arith) (32 ∷ (w ++ (32 ∷ m ∷ 10 ∷ [])))
-    ∙ ap (putAt (i + 8) (32 ∷ (w ++ (32 ∷ m ∷ 10 ∷ [])))) (sym ex)
+    ∙ ap (overFrom (i + 8) (32 ∷ (w ++ (32 ∷ m ∷ 10 ∷ [])))) (sym ex)
     ∙ put-one (i + 8) (i + 9) 32 (w ++ (32 ∷ m ∷ 10 ∷ [])) x (omega arith) (omega arith)
     ∙ put-both (i + 9) (i + 13) w x′ (omega arith) (omega arith) (32 ∷ m ∷ 10 ∷ [])
-    ∙ ap (putAt (i + 13) (32 ∷ m ∷ 10 ∷ [])) (sym ey)
+    ∙ ap (overFrom (i + 13) (32 ∷ m ∷ 10 ∷ [])) (sym ey)
     ∙ put-one (i + 13) (i + 14) 32 (m ∷ 10 ∷ []) y (omega arith) (omega arith)
     ∙ put-one (i + 14) (i + 15) m (10 ∷ []) y′ (omega arith) (omega arith)
     ∙ put-one (i + 15) (i + 16) 10 [] y″ (omega arith) (omega arith)
@@ -74,18 +74,18 @@ starts-split (a ∷ p) (b ∷ t) e = go (eqb a b) refl (λ u. starts-split p t u
     go false q ih = absurd (false≢true (sym (starts-unequal a p b t q) ∙ e))
 
 -- ---- the line of the place that a text shows at an index
-pub placed : (t : Text) (start : ℕ) → placeIn (drop start t) ≡ place (numberIn 0 (take 8 (drop start t))) (numberIn 0 (take 4 (drop (start + 9) t))) (markIn (getD t (start + 14) 0))
+pub placed : (t : Text) (start : ℕ) → placeIn (drop start t) ≡ place (hexIn 0 (take 8 (drop start t))) (hexIn 0 (take 4 (drop (start + 9) t))) (markIn (getD t (start + 14) 0))
 unfolding placeIn
 placed t start = rw (drop-drop 9 start t, getD-drop start t 14 0)
 
 -- a line over all of a list of its length
-pub put-whole : (s l : List ℕ) → length s ≡ length l → putAt 0 s l ≡ s
+pub put-whole : (s l : List ℕ) → length s ≡ length l → overFrom 0 s l ≡ s
 unfolding over
 put-whole s l e = put-over s l ∙ rw (drop-of-length-le l {i = length s} (omega arith)) (append-nil s)
 
 -- the line that is compared is that of the place shown
-pub line-shown : (t : Text) (start : ℕ) (l line : Text) (a w m : ℕ) → length l ≡ 16 → line ≡ putAt 0 (placeText (place a w m)) l
-    → a ≡ numberIn 0 (take 8 (drop start t)) → w ≡ numberIn 0 (take 4 (drop (start + 9) t)) → m ≡ markIn (getD t (start + 14) 0)
+pub line-shown : (t : Text) (start : ℕ) (l line : Text) (a w m : ℕ) → length l ≡ 16 → line ≡ overFrom 0 (placeText (place a w m)) l
+    → a ≡ hexIn 0 (take 8 (drop start t)) → w ≡ hexIn 0 (take 4 (drop (start + 9) t)) → m ≡ markIn (getD t (start + 14) 0)
     → starts line (take (length t - start) (drop start t)) ≡ isLine (drop start t)
 unfolding isLine
 line-shown t start l line a w m h e ea ew em =

@@ -12,7 +12,7 @@ use lib.ListN.{length, take, drop, getD}
 use lib.Seq.{drop-cons}
 use Rattle.rules.specs.Text.{Text}
 use Rattle.listing.specs.Listing.{digitByte, digitsOf, markByte}
-use Rattle.listing.specs.Reading.{digitIn, numberIn, markIn}
+use Rattle.listing.specs.Reading.{digitIn, hexIn, markIn}
 
 -- ---- a digit and a mark, by where the byte lies
 pub digit-below : (b : ℕ) → b < 48 → digitIn b ≡ 0
@@ -60,13 +60,13 @@ pub mark-read : (m : ℕ) → m < 10 → markIn (markByte m) ≡ m
 unfolding markByte
 mark-read m h = rw (lt-ltb m 10 h) (mark-decimal (48 + m) (omega arith) (omega arith) ∙ omega arith)
 
-number-last : (v : ℕ) (s : Text) (b : ℕ) → numberIn v (s ++ (b ∷ [])) ≡ numberIn v s * 16 + digitIn b
-unfolding numberIn
+number-last : (v : ℕ) (s : Text) (b : ℕ) → hexIn v (s ++ (b ∷ [])) ≡ hexIn v s * 16 + digitIn b
+unfolding hexIn
 number-last v [] b = refl
 number-last v (a ∷ s) b = number-last (v * 16 + digitIn a) s b
 
-pub number-read : (k n : ℕ) → n < 16 ^ k → numberIn 0 (digitsOf 16 k n) ≡ n
-unfolding digitsOf numberIn
+pub number-read : (k n : ℕ) → n < 16 ^ k → hexIn 0 (digitsOf 16 k n) ≡ n
+unfolding digitsOf hexIn
 number-read zero n h = omega arith
 number-read (suc k) n h =
     let high = number-read k (n / 16) (omega (arith, pow-suc 16 k)) in
@@ -99,22 +99,22 @@ digit-more v d i h k = omega (arith, pow-suc 16 i)
 pub room-left : (v i : ℕ) → v < 16 ^ i → i < 8 → v < 2 ^ 28
 room-left v i h k = lt-of-lt-of-le h (pow-le-pow-right (zero-lt-suc 15) {i = i} {j = 7} (omega arith))
 
-number-grows : (i k v : ℕ) (t : Text) → v < 16 ^ i → numberIn v (take k t) < 16 ^ (i + k)
-unfolding numberIn
+number-grows : (i k v : ℕ) (t : Text) → v < 16 ^ i → hexIn v (take k t) < 16 ^ (i + k)
+unfolding hexIn
 number-grows i zero v t h = rw (add-zero i) h
 number-grows i (suc k) v [] h = lt-of-lt-of-le h (pow-le-pow-right (zero-lt-suc 15) (omega arith))
 number-grows i (suc k) v (b ∷ t) h =
     let next : i + suc k ≡ suc i + k = omega arith in
     rw next (number-grows (suc i) k (v * 16 + digitIn b) t (digit-more v (digitIn b) i h (digit-small b)))
 
-pub number-small : (k : ℕ) (t : Text) → numberIn 0 (take k t) < 16 ^ k
+pub number-small : (k : ℕ) (t : Text) → hexIn 0 (take k t) < 16 ^ k
 number-small k t = let zeros : 0 + k ≡ k = omega arith in rw zeros at (number-grows 0 k 0 t (omega arith))
 
 -- ---- the loop: what is left to read, behind the value so far, reads as the whole
 pub record Reading (t : Text) (start count v i : ℕ) : Type 0 where
   pub upto : i ≤ count
   pub small : v < 16 ^ i
-  pub same : numberIn 0 (take count (drop start t)) ≡ numberIn v (take (count - i) (drop (start + i) t))
+  pub same : hexIn 0 (take count (drop start t)) ≡ hexIn v (take (count - i) (drop (start + i) t))
 
 pub reading-start : (t : Text) (start count : ℕ) → Reading t start count 0 0
 reading-start t start count =
@@ -123,7 +123,7 @@ reading-start t start count =
 
 pub reading-more : {t : Text} {start count v i : ℕ} → Reading t start count v i → (d : ℕ) → i < count → start + i < length t → d ≡ digitIn (getD t (start + i) 0) → d < 16
     → Reading t start count (v * 16 + d) (i + 1)
-unfolding numberIn
+unfolding hexIn
 reading-more {t} {start} {count} {v} {i} r d h k e l =
     let left : count - i ≡ suc (count - (i + 1)) = omega arith in
     let next : start + (i + 1) ≡ suc (start + i) = omega arith in
@@ -133,8 +133,8 @@ reading-more {t} {start} {count} {v} {i} r d h k e l =
       same = r .same ∙ rw (next, drop-cons t (start + i) 0 k, left, e);
     }
 
-pub reading-end : {t : Text} {start count v i : ℕ} → Reading t start count v i → count ≤ i → (v ≡ numberIn 0 (take count (drop start t))) × (v < 16 ^ count)
-unfolding numberIn
+pub reading-end : {t : Text} {start count v i : ℕ} → Reading t start count v i → count ≤ i → (v ≡ hexIn 0 (take count (drop start t))) × (v < 16 ^ count)
+unfolding hexIn
 reading-end {t} {start} {count} {v} {i} r h =
     let left : count - i ≡ 0 = omega arith in
     let all : i ≡ count = omega (arith, r .upto) in

@@ -51,5 +51,5 @@ unfoldable pub refusedText : ℕ → ℕ → Text
 refusedText number place = bytes "refused " ++ (decimal number ++ (32 ∷ (decimal place ++ (10 ∷ []))))
 
 -- a list put into another, from an index on
-unfoldable pub putAt : ℕ → List ℕ → List ℕ → List ℕ
-putAt i new old = take i old ++ (new ++ drop (i + length new) old)
+unfoldable pub overFrom : ℕ → List ℕ → List ℕ → List ℕ
+overFrom i new old = take i old ++ (new ++ drop (i + length new) old)

@@ -16,9 +16,9 @@ unfoldable pub digitIn : ℕ → ℕ
 digitIn b = cond (leb 48 b && leb b 57) (b - 48) (cond (leb 65 b && leb b 70) (b - 55) 0)
 
 -- the value of hexadecimal digits behind the value so far
-unfoldable pub numberIn : ℕ → Text → ℕ
-numberIn v [] = v
-numberIn v (b ∷ s) = numberIn (v * 16 + digitIn b) s
+unfoldable pub hexIn : ℕ → Text → ℕ
+hexIn v [] = v
+hexIn v (b ∷ s) = hexIn (v * 16 + digitIn b) s
 
 -- the value of a decimal digit, and 0 for any other byte
 unfoldable pub markIn : ℕ → ℕ
@@ -26,7 +26,7 @@ markIn b = cond (leb 48 b && leb b 57) (b - 48) 0
 
 -- the place that the front of a text shows, whatever stands there
 unfoldable pub placeIn : Text → Place
-placeIn t = record { address = numberIn 0 (take 8 t); word = numberIn 0 (take 4 (drop 9 t)); mark = markIn (getD t 14 0) }
+placeIn t = record { address = hexIn 0 (take 8 t); word = hexIn 0 (take 4 (drop 9 t)); mark = markIn (getD t 14 0) }
 
 -- the text begins with a line: the one that the place it shows is written as
 unfoldable pub isLine : Text → Bool

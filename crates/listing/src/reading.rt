@@ -3,7 +3,7 @@ ghost use mathlib.Core.Path.{_≡_};
 ghost use Prim.Native.Nat.{_+_, _*_, _<_, _≤_, _^_, min};
 ghost use lib.ListN.{length, take, drop};
 ghost use Rattle.rules.specs.Assemble.{holding};
-ghost use Rattle.listing.specs.Reading.{digitIn, numberIn, markIn, isLine, readList, placesIn, Read};
+ghost use Rattle.listing.specs.Reading.{digitIn, hexIn, markIn, isLine, readList, placesIn, Read};
 ghost use Rattle.rules.specs.Assemble.{slices};
 use crate::writing::LINE;
 use crate::writing::write_place;
@@ -39,7 +39,7 @@ fn digit_in(b: u8) -> u32
 // The number in `count` digits at an index.
 fn number_at(t: &[u8], at: usize, count: usize) -> u32
     requires { ⌜ (count ≤ 8) × (at + count ≤ length (now t)) ⌝ }
-    ensures { λ r. ⌜ (r ≡ numberIn 0 (take count (drop at (now (t .entry))))) × (r < 16 ^ count) ⌝ }
+    ensures { λ r. ⌜ (r ≡ hexIn 0 (take count (drop at (now (t .entry))))) × (r < 16 ^ count) ⌝ }
 {
     let mut v: u32 = 0;
     let mut i = 0;

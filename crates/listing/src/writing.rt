@@ -4,7 +4,7 @@ ghost use Prim.Native.Nat.{_+_, _*_, _<_, _≤_};
 ghost use lib.ListN.{length};
 ghost use Rattle.rules.specs.Assemble.{over};
 ghost use Rattle.rules.specs.Tally.{listIn};
-ghost use Rattle.listing.specs.Listing.{place, digitByte, digitsOf, decimalPlaces, decimal, markByte, placeText, listText, refusedText, putAt};
+ghost use Rattle.listing.specs.Listing.{place, digitByte, digitsOf, decimalPlaces, decimal, markByte, placeText, listText, refusedText, overFrom};
 
 // The bytes that a line takes.
 pub const LINE: usize = 16;
@@ -20,7 +20,7 @@ fn digit_byte(d: u64) -> u8
 // Puts the last `count` digits of n at an index, from the last one on.
 fn write_digits(out: &mut [u8], at: usize, base: u64, count: usize, n: u64)
     requires { ⌜ (0 < base) × (base ≤ 16) × (at + count ≤ length (now out)) ⌝ }
-    ensures { λ _. ⌜ now (out .exit) ≡ putAt at (digitsOf base count n) (now (out .entry)) ⌝ }
+    ensures { λ _. ⌜ now (out .exit) ≡ overFrom at (digitsOf base count n) (now (out .entry)) ⌝ }
 {
     let mut i = count;
     let mut rest = n;
@@ -34,7 +34,7 @@ fn write_digits(out: &mut [u8], at: usize, base: u64, count: usize, n: u64)
 // Puts a text at an index.
 pub fn write_bytes(out: &mut [u8], at: usize, text: &[u8])
     requires { ⌜ at + length (now text) ≤ length (now out) ⌝ }
-    ensures { λ _. ⌜ now (out .exit) ≡ putAt at (now (text .entry)) (now (out .entry)) ⌝ }
+    ensures { λ _. ⌜ now (out .exit) ≡ overFrom at (now (text .entry)) (now (out .entry)) ⌝ }
 {
     let mut i = 0;
     while i < text.len() {
@@ -53,7 +53,7 @@ fn mark_byte(mark: u8) -> u8
 // Puts the line of a word at an index.
 pub fn write_place(out: &mut [u8], at: usize, address: u32, word: u16, mark: u8)
     requires { ⌜ at + 16 ≤ length (now out) ⌝ }
-    ensures { λ _. ⌜ now (out .exit) ≡ putAt at (placeText (place address word mark)) (now (out .entry)) ⌝ }
+    ensures { λ _. ⌜ now (out .exit) ≡ overFrom at (placeText (place address word mark)) (now (out .entry)) ⌝ }
 {
     write_digits(out, at, 16, 8, address as u64);
     out[at + 8] = b' ';
@@ -98,7 +98,7 @@ fn decimal_places(n: u64) -> usize
 // Puts a number in decimal at an index, and answers the index behind it.
 pub fn write_decimal(out: &mut [u8], at: usize, n: u64) -> usize
     requires { ⌜ at + 20 ≤ length (now out) ⌝ }
-    ensures { λ r. ⌜ (r ≡ at + length (decimal n)) × (r ≤ at + 20) × (now (out .exit) ≡ putAt at (decimal n) (now (out .entry))) ⌝ }
+    ensures { λ r. ⌜ (r ≡ at + length (decimal n)) × (r ≤ at + 20) × (now (out .exit) ≡ overFrom at (decimal n) (now (out .entry))) ⌝ }
 {
     let count = decimal_places(n);
     write_digits(out, at, 10, count, n);

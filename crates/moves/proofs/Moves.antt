@@ -12,7 +12,7 @@ use Rattle.rules.specs.Assemble.{Slices, slices, over}
 use Rattle.rules.specs.Relocate.{moveAnswer, moveSlices}
 use Rattle.rules.specs.Tally.{moves}
 use Rattle.answer.specs.declared.Answer.{Answer}
-use Rattle.answer.specs.Answer.{answerOf, numberOf, placeOf}
+use Rattle.answer.specs.Answer.{answerOf, answerNumber, answerPlace}
 use Rattle.relocate.specs.Moved.{Moved}
 use Rattle.relocate.proofs.Callers.{after-move}
 use Rattle.moves.specs.Moves.{told, slicesAfter, RelocateAllGives}
@@ -47,17 +47,17 @@ pub record Made (n : ℕ) (x₀ x : Slices) (ds : List ℤ) (ns₀ ns ps₀ ps :
   pub addresses : length (x .addresses) ≡ length (x₀ .addresses)
   pub words : length (x .words) ≡ length (x₀ .words)
   pub after : slicesAfter n x₀ ds ≡ slicesAfter n x (drop i ds)
-  pub numbers : Told numberOf n x₀ x ds ns₀ ns i
-  pub places : Told placeOf n x₀ x ds ps₀ ps i
+  pub numbers : Told answerNumber n x₀ x ds ns₀ ns i
+  pub places : Told answerPlace n x₀ x ds ps₀ ps i
 
 pub made-starts : (n : ℕ) (x : Slices) (ds : List ℤ) (ns ps : List ℕ) → Made n x x ds ns ns ps ps 0
 made-starts n x ds ns ps =
-    record { reach = omega arith; addresses = refl; words = refl; after = refl; numbers = told-starts numberOf n x ds ns; places = told-starts placeOf n x ds ps }
+    record { reach = omega arith; addresses = refl; words = refl; after = refl; numbers = told-starts answerNumber n x ds ns; places = told-starts answerPlace n x ds ps }
 
 module _ {n : ℕ} {x₀ : Slices} {xs ws ms : List ℕ} {ds : List ℤ} {ns₀ ns ps₀ ps : List ℕ} {i : ℕ} (m : Made n x₀ (slices xs ws ms) ds ns₀ ns ps₀ ps i) where
   pub made-steps : i < length ds → length ds ≤ length ns₀ → length ds ≤ length ps₀
       → {a : Answer} {xs′ ws′ : List ℕ} → Moved (slices xs ws ms) n (getD ds i (pos 0)) a xs′ ws′ → length xs′ ≡ length xs → length ws′ ≡ length ws
-      → (v p : ℕ) → v ≡ numberOf a → p ≡ placeOf a → Made n x₀ (slices xs′ ws′ ms) ds ns₀ (set ns i v) ps₀ (set ps i p) (i + 1)
+      → (v p : ℕ) → v ≡ answerNumber a → p ≡ answerPlace a → Made n x₀ (slices xs′ ws′ ms) ds ns₀ (set ns i v) ps₀ (set ps i p) (i + 1)
   unfolding slicesAfter
   made-steps h k l r u w v p e f =
       record {
@@ -65,16 +65,16 @@ module _ {n : ℕ} {x₀ : Slices} {xs ws ms : List ℕ} {ds : List ℤ} {ns₀ 
         addresses = u ∙ m .addresses;
         words = w ∙ m .words;
         after = rw (after-move r, add-one i) (m .after ∙ rw (drop-cons ds i (pos 0) h));
-        numbers = rw (after-move r) (told-steps numberOf n x₀ ds ns₀ _ ns i (m .numbers) h k v (e ∙ ap numberOf (r .answer)));
-        places = rw (after-move r) (told-steps placeOf n x₀ ds ps₀ _ ps i (m .places) h l p (f ∙ ap placeOf (r .answer)));
+        numbers = rw (after-move r) (told-steps answerNumber n x₀ ds ns₀ _ ns i (m .numbers) h k v (e ∙ ap answerNumber (r .answer)));
+        places = rw (after-move r) (told-steps answerPlace n x₀ ds ps₀ _ ps i (m .places) h l p (f ∙ ap answerPlace (r .answer)));
       }
 
   pub made-ends : length ds ≤ i → RelocateAllGives x₀ n ds ns₀ ps₀ xs ws ns ps
   unfolding slicesAfter
   made-ends h =
       let e = rw (drop-of-length-le ds h) at (m .after) in
-      let numbers = told-ends numberOf n x₀ ds ns₀ _ ns i (m .numbers) h in
-      let places = told-ends placeOf n x₀ ds ps₀ _ ps i (m .places) h in
+      let numbers = told-ends answerNumber n x₀ ds ns₀ _ ns i (m .numbers) h in
+      let places = told-ends answerPlace n x₀ ds ps₀ _ ps i (m .places) h in
       record {
         addresses = rw e;
         words = rw e;

@@ -9,7 +9,7 @@ use Rattle.rules.specs.Answer.{accepted}
 use Rattle.rules.specs.Assemble.{Place, Slices, slices, over, assemble}
 use Rattle.rules.specs.Relocate.{moveSlices}
 use Rattle.rules.specs.Tally.{Seen, held, moves, Tallied, tallied, seen, tally}
-use Rattle.answer.specs.Answer.{numberOf, placeOf}
+use Rattle.answer.specs.Answer.{answerNumber, answerPlace}
 use Rattle.relocate.proofs.Callers.{by-slice, move-keeps-marks}
 use Rattle.promises.specs.Demand3.{MovesFollowTally, lastList}
 use Rattle.promises.proofs.Demand3.{moves-follow-tally}
@@ -37,7 +37,7 @@ last-seen l (t ∷ ts) = last-seen (t .list) ts
 
 module _ (x : Slices) (n : ℕ) (ds : List ℤ) {ns ps xs ws ns′ ps′ : List ℕ} where
   pub follows : xs ≡ (slicesAfter n x ds) .addresses → ws ≡ (slicesAfter n x ds) .words
-      → ns′ ≡ over (told numberOf (moves n x ds)) ns → ps′ ≡ over (told placeOf (moves n x ds)) ps
+      → ns′ ≡ over (told answerNumber (moves n x ds)) ns → ps′ ≡ over (told answerPlace (moves n x ds)) ps
       → (s : Text) (b : ℕ) (l : List Place) → assemble b s ≡ accepted l → n ≡ length l → held n x ≡ l
       → FollowsTally l ds ns ps (slices xs ws (x .marks)) ns′ ps′
   unfolding MovesFollowTally tally

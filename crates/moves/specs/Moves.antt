@@ -11,7 +11,7 @@ use Rattle.rules.specs.Assemble.{Place, Slices, slices, over, assemble}
 use Rattle.rules.specs.Relocate.{moveSlices}
 use Rattle.rules.specs.Tally.{Seen, held, moves, tallied, tally}
 use Rattle.answer.specs.declared.Answer.{Answer}
-use Rattle.answer.specs.Answer.{answerOf, numberOf, placeOf}
+use Rattle.answer.specs.Answer.{answerOf, answerNumber, answerPlace}
 use Rattle.promises.specs.Demand3.{lastList}
 
 -- the number or the place of each move's answer
@@ -26,8 +26,8 @@ slicesAfter n x (d ∷ ds) = slicesAfter n (moveSlices x n d) ds
 -- the slices x, and those for the answers, after the moves of the list l; before them these held ns and ps
 pub record FollowsTally (l : List Place) (distances : List ℤ) (ns ps : List ℕ) (x : Slices) (ns′ ps′ : List ℕ) : Type 0 where
   pub list : held (length l) x ≡ lastList l (tallied l (pos 0) distances)
-  pub numbers : ns′ ≡ over (told numberOf (tally l (pos 0) distances)) ns
-  pub places : ps′ ≡ over (told placeOf (tally l (pos 0) distances)) ps
+  pub numbers : ns′ ≡ over (told answerNumber (tally l (pos 0) distances)) ns
+  pub places : ps′ ≡ over (told answerPlace (tally l (pos 0) distances)) ps
 
 -- room for each answer
 pub record RelocateAllNeeds (distances : List ℤ) (ns ps : List ℕ) : Type 0 where
@@ -38,8 +38,8 @@ pub record RelocateAllNeeds (distances : List ℤ) (ns ps : List ℕ) : Type 0 w
 pub record RelocateAllGives (x : Slices) (count : ℕ) (distances : List ℤ) (ns ps xs ws ns′ ps′ : List ℕ) : Type 0 where
   pub addresses : xs ≡ (slicesAfter count x distances) .addresses
   pub words : ws ≡ (slicesAfter count x distances) .words
-  pub numbers : ns′ ≡ over (told numberOf (moves count x distances)) ns
-  pub places : ps′ ≡ over (told placeOf (moves count x distances)) ps
+  pub numbers : ns′ ≡ over (told answerNumber (moves count x distances)) ns
+  pub places : ps′ ≡ over (told answerPlace (moves count x distances)) ps
   -- demand 3: "each answer, and the list after each move, is that of 01's tally"
   pub follows : (s : Text) (b : ℕ) (l : List Place) → assemble b s ≡ accepted l → count ≡ length l → held count x ≡ l
       → FollowsTally l distances ns ps (slices xs ws (x .marks)) ns′ ps′

@@ -7,8 +7,8 @@ use lib.ListN.{replicate}
 use Rattle.rules.specs.Text.{Text}
 use Rattle.rules.specs.Assemble.{Slices, slices, holding, assembleAnswer, assembleSlices}
 use Rattle.answer.specs.declared.Answer.{Answer}
-use Rattle.answer.specs.Answer.{answerOf, numberOf, placeOf}
-use Rattle.recorded.specs.Recorded.{numberAt, listIn, termsIn, countOf, old, lent, onto, Called, Whole, Agrees}
+use Rattle.answer.specs.Answer.{answerOf, answerNumber, answerPlace}
+use Rattle.recorded.specs.Recorded.{numberAt, rowsIn, termsIn, countOf, old, lent, onto, Called, WholeRecord, Agrees}
 use Rattle.recorded.proofs.Parts.{refuses}
 
 -- the pattern as the code's arrays have it
@@ -31,27 +31,27 @@ made s t base i j k r y eb ei ej ek d =
     record { answer = rw (← eb, ← ei, ← ej, ← ek) (d .answer); after = rw (← eb, ← ei, ← ej, ← ek) (d .after) }
 
 module _ (s t l : Text) (r : Answer) (y : Slices) (m : Made s t r y) (n p : ℕ) (en : n ≡ numberAt 20 1 t) (ep : p ≡ numberAt 21 4 t) (q : Bool)
-    (told : (q ≡ true) ↔ ((numberOf r ≡ n) × (placeOf r ≡ p))) where
+    (told : (q ≡ true) ↔ ((answerNumber r ≡ n) × (answerPlace r ≡ p))) where
   -- the answer is another
   pub differs : q ≡ false → ((false ≡ true) ↔ Agrees s t l)
   unfolding termsIn
   differs e =
       refuses
-      (λ g. false≢true (sym e ∙ told .1 (ap numberOf (m .answer) ∙ (g .same .number ∙ sym en), ap placeOf (m .answer) ∙ (g .same .place ∙ sym ep))))
+      (λ g. false≢true (sym e ∙ told .1 (ap answerNumber (m .answer) ∙ (g .same .number ∙ sym en), ap answerPlace (m .answer) ∙ (g .same .place ∙ sym ep))))
 
-  same-number : q ≡ true → numberOf (answerOf (assembleAnswer ((termsIn t) .base) s (lent (termsIn t)))) ≡ (termsIn t) .number
+  same-number : q ≡ true → answerNumber (answerOf (assembleAnswer ((termsIn t) .base) s (lent (termsIn t)))) ≡ (termsIn t) .number
   unfolding termsIn
-  same-number e = sym (ap numberOf (m .answer)) ∙ (told .0 e .0 ∙ en)
+  same-number e = sym (ap answerNumber (m .answer)) ∙ (told .0 e .0 ∙ en)
 
-  same-place : q ≡ true → placeOf (answerOf (assembleAnswer ((termsIn t) .base) s (lent (termsIn t)))) ≡ (termsIn t) .place
+  same-place : q ≡ true → answerPlace (answerOf (assembleAnswer ((termsIn t) .base) s (lent (termsIn t)))) ≡ (termsIn t) .place
   unfolding termsIn
-  same-place e = sym (ap placeOf (m .answer)) ∙ (told .0 e .1 ∙ ep)
+  same-place e = sym (ap answerPlace (m .answer)) ∙ (told .0 e .1 ∙ ep)
 
   -- the answer is the recorded one, and z holds the recorded list
-  pub compared : Whole s t l → q ≡ true → (count : ℕ) → count ≡ countOf (termsIn t) → (z : Slices) → z ≡ holding (listIn count l) pattern
+  pub compared : WholeRecord s t l → q ≡ true → (count : ℕ) → count ≡ countOf (termsIn t) → (z : Slices) → z ≡ holding (rowsIn count l) pattern
       → (v : Bool) → ((v ≡ true) ↔ (y ≡ z)) → ((v ≡ true) ↔ Agrees s t l)
   compared w e count ec z ez v k =
-      let listed : z ≡ holding (listIn (countOf (termsIn t)) l) old = rw (← ec) (is-old (holding (listIn count l)) z ez) in (
+      let listed : z ≡ holding (rowsIn (countOf (termsIn t)) l) old = rw (← ec) (is-old (holding (rowsIn count l)) z ez) in (
         (λ f. record {
           whole = w;
           same = record { number = same-number e; place = same-place e; after = sym (m .after) ∙ (k .0 f ∙ listed) };

@@ -6,14 +6,14 @@ use native.Mathlib.Omega.{arith}
 use lib.ListN.{length, getD}
 use lib.Seq.{drop-cons}
 use Rattle.rules.specs.Text.{Text}
-use Rattle.recorded.specs.Recorded.{numberIn, numberAt}
+use Rattle.recorded.specs.Recorded.{littleIn, numberAt}
 
 low : (t : Text) (i j k : ℕ) → j ≡ i + 1 → i < length t → numberAt i (suc k) t ≡ getD t i 0 + 256 * numberAt j k t
-unfolding numberAt numberIn
+unfolding numberAt littleIn
 low t i j k e h = rw (e, add-one i, drop-cons t i 0 h)
 
 none : (t : Text) (i : ℕ) → numberAt i 0 t ≡ 0
-unfolding numberAt numberIn
+unfolding numberAt littleIn
 none t i = refl
 
 pub one-byte : (t : Text) (i : ℕ) → i < length t → getD t i 0 ≡ numberAt i 1 t

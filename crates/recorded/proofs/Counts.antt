@@ -7,7 +7,7 @@ use native.Mathlib.Omega.{arith}
 use lib.ListN.{length, set, length-append}
 use borrow.Author.Tests.{eq-eqb, ne-eqb}
 use Rattle.rules.specs.Text.{Text, bytes}
-use Rattle.listing.specs.Listing.{decimal, putAt}
+use Rattle.listing.specs.Listing.{decimal, overFrom}
 use Rattle.listing.proofs.Put.{put-both, put-one, put-nil, put-over}
 use Rattle.station.specs.Station.{unlessFailed}
 use Rattle.station.specs.Printed.{Printed}
@@ -16,17 +16,17 @@ use Rattle.station.proofs.Printed.{printed, printed-none}
 use Rattle.recorded.specs.Replay.{countsText, firstText, replayText, Written}
 use Rattle.recorded.specs.declared.Tally.{Tally}
 
-pub written-first : (s : Text) (n : ℕ) (x y : List ℕ) → n ≡ 0 + length s → y ≡ putAt 0 s x → Written s n x y
+pub written-first : (s : Text) (n : ℕ) (x y : List ℕ) → n ≡ 0 + length s → y ≡ overFrom 0 s x → Written s n x y
 written-first s n x y e f = record { long = omega arith; after = f ∙ put-over s x }
 
 module _ {s : Text} {n : ℕ} {x y : List ℕ} (w : Written s n x y) where
-  pub written-more : (t : Text) (m : ℕ) (z : List ℕ) → m ≡ n + length t → z ≡ putAt n t y → Written (s ++ t) m x z
+  pub written-more : (t : Text) (m : ℕ) (z : List ℕ) → m ≡ n + length t → z ≡ overFrom n t y → Written (s ++ t) m x z
   written-more t m z e f =
       record {
         long = rw (length-append s t) (omega (arith, w .long));
         after =
             f
-            ∙ (ap (putAt n t) (w .after ∙ sym (put-over s x))
+            ∙ (ap (overFrom n t) (w .after ∙ sym (put-over s x))
             ∙ (sym (put-both 0 n s x (omega (arith, w .long)) (omega arith) t) ∙ put-over (s ++ t) x));
       }
 

@@ -9,8 +9,8 @@ use borrow.Author.Tests.{eqb-true, eq-eqb, leb-true, le-leb}
 use Rattle.rules.specs.Text.{Text, same}
 use Rattle.rules.specs.Assemble.{Slices, holding, assembleAnswer, assembleSlices}
 use Rattle.text.proofs.Compare.{same-is, same-self}
-use Rattle.answer.specs.Answer.{answerOf, numberOf, placeOf}
-use Rattle.recorded.specs.Recorded.{listIn, Terms, termsIn, countOf, old, onto, lent, Whole, Same, Agrees}
+use Rattle.answer.specs.Answer.{answerOf, answerNumber, answerPlace}
+use Rattle.recorded.specs.Recorded.{rowsIn, Terms, termsIn, countOf, old, onto, lent, WholeRecord, Same, Agrees}
 use Rattle.recorded.specs.Replay.{wholeIn, sameSlices, sameIn, agreesIn}
 use Rattle.recorded.proofs.Lent.{by-slice}
 
@@ -44,7 +44,7 @@ below m n = (leb-true m n, le-leb m n)
 alike : (s t : Text) → ((same s t ≡ true) ↔ (s ≡ t))
 alike s t = (same-is s t, (λ e. rw e (same-self t)))
 
-whole-decided : (s t l : Text) → ((wholeIn s t l ≡ true) ↔ Whole s t l)
+whole-decided : (s t l : Text) → ((wholeIn s t l ≡ true) ↔ WholeRecord s t l)
 unfolding wholeIn
 whole-decided s t l =
     let r = termsIn t in
@@ -81,8 +81,8 @@ unfolding sameIn
 same-decided r s l =
     let a = answerOf (assembleAnswer (r .base) s (lent r)) in
     let d =
-    both (equal (numberOf a) (r .number))
-    (both (equal (placeOf a) (r .place)) (slices-decided (onto (assembleSlices (r .base) s (lent r)) old) (holding (listIn (countOf r) l) old)))
+    both (equal (answerNumber a) (r .number))
+    (both (equal (answerPlace a) (r .place)) (slices-decided (onto (assembleSlices (r .base) s (lent r)) old) (holding (rowsIn (countOf r) l) old)))
     in (
       (λ e. let w = d .0 e in record { number = w .0; place = w .1 .0; after = w .1 .1 }),
       (λ w. d .1 (w .number, (w .place, w .after))),

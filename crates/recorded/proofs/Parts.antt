@@ -5,28 +5,28 @@ use mathlib.Core.Bool.{true, false, false≢true}
 use mathlib.Core.Logic.{_↔_}
 use lib.ListN.{length}
 use Rattle.rules.specs.Text.{Text}
-use Rattle.recorded.specs.Recorded.{numberAt, termsIn, countOf, Whole}
+use Rattle.recorded.specs.Recorded.{numberAt, termsIn, countOf, WholeRecord}
 
 -- what does not hold is answered by false
 pub refuses : {P : Type 0} → (P → ⊥) → ((false ≡ true) ↔ P)
 refuses k = ((λ e. absurd (false≢true e)), (λ p. absurd (k p)))
 
 -- the numbers in the terms that tell how long the parts are
-pub record Within (t : Text) : Type 0 where
+pub record PartsIn (t : Text) : Type 0 where
   pub addresses : numberAt 8 4 t ≤ 9000
   pub words : numberAt 12 4 t ≤ 9000
   pub marks : numberAt 16 4 t ≤ 9000
 
-pub whole-within : {s t l : Text} → Whole s t l → Within t
+pub whole-within : {s t l : Text} → WholeRecord s t l → PartsIn t
 unfolding termsIn
 whole-within w = record { addresses = w .addresses; words = w .words; marks = w .marks }
 
-pub whole-source : {s t l : Text} → Whole s t l → length s ≡ numberAt 0 4 t
+pub whole-source : {s t l : Text} → WholeRecord s t l → length s ≡ numberAt 0 4 t
 unfolding termsIn
 whole-source w = w .source
 
 pub within-whole : (s t l : Text) → length t ≡ 25 → length s ≡ numberAt 0 4 t → countOf (termsIn t) ≤ 9000 → length l ≡ 7 * countOf (termsIn t)
-    → Within t → Whole s t l
+    → PartsIn t → WholeRecord s t l
 unfolding termsIn
 within-whole s t l r q n k w =
     record { terms = r; source = q; count = n; rows = k; addresses = w .addresses; words = w .words; marks = w .marks }

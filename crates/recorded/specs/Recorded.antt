@@ -8,27 +8,27 @@ use lib.ListN.{length, take, drop, replicate}
 use Rattle.rules.specs.Text.{Text}
 use Rattle.rules.specs.Assemble.{Place, Slices, slices, over, holding, assembleAnswer, assembleSlices}
 use Rattle.answer.specs.declared.Answer.{Answer}
-use Rattle.answer.specs.Answer.{answerOf, numberOf, placeOf}
+use Rattle.answer.specs.Answer.{answerOf, answerNumber, answerPlace}
 
 -- ---- numbers and lists in bytes
 
 -- the number in bytes, the low one first
-unfoldable pub numberIn : Text → ℕ
-numberIn [] = 0
-numberIn (b ∷ s) = b + 256 * numberIn s
+unfoldable pub littleIn : Text → ℕ
+littleIn [] = 0
+littleIn (b ∷ s) = b + 256 * littleIn s
 
 -- the number in the k bytes from index i on
 unfoldable pub numberAt : ℕ → ℕ → Text → ℕ
-numberAt i k t = numberIn (take k (drop i t))
+numberAt i k t = littleIn (take k (drop i t))
 
 -- the place in a row: four bytes of address, two of word, one of mark
 unfoldable pub rowIn : Text → Place
 rowIn t = record { address = numberAt 0 4 t; word = numberAt 4 2 t; mark = numberAt 6 1 t }
 
 -- the list in n rows
-unfoldable pub listIn : ℕ → Text → List Place
-listIn zero t = []
-listIn (suc n) t = rowIn t ∷ listIn n (drop 7 t)
+unfoldable pub rowsIn : ℕ → Text → List Place
+rowsIn zero t = []
+rowsIn (suc n) t = rowIn t ∷ rowsIn n (drop 7 t)
 
 -- ---- a call's terms: the source's size, the base, how many places of each slice are lent, the answer's number and its place
 
@@ -89,7 +89,7 @@ pub record Even (n : ℕ) (a w m : List ℕ) : Type 0 where
   pub marks : length m ≡ n
 
 -- the three parts are as long as they say, and the places are within the slices
-pub record Whole (s t l : Text) : Type 0 where
+pub record WholeRecord (s t l : Text) : Type 0 where
   pub terms : length t ≡ 25
   pub source : length s ≡ (termsIn t) .size
   pub count : countOf (termsIn t) ≤ 9000
@@ -100,11 +100,11 @@ pub record Whole (s t l : Text) : Type 0 where
 
 -- the answer is the recorded one, and so is every place: the list, and the pattern after it
 pub record Same (r : Terms) (source rows : Text) : Type 0 where
-  pub number : numberOf (answerOf (assembleAnswer (r .base) source (lent r))) ≡ r .number
-  pub place : placeOf (answerOf (assembleAnswer (r .base) source (lent r))) ≡ r .place
-  pub after : onto (assembleSlices (r .base) source (lent r)) old ≡ holding (listIn (countOf r) rows) old
+  pub number : answerNumber (answerOf (assembleAnswer (r .base) source (lent r))) ≡ r .number
+  pub place : answerPlace (answerOf (assembleAnswer (r .base) source (lent r))) ≡ r .place
+  pub after : onto (assembleSlices (r .base) source (lent r)) old ≡ holding (rowsIn (countOf r) rows) old
 
 -- a call of three parts agrees with the assembler
 pub record Agrees (source terms rows : Text) : Type 0 where
-  pub whole : Whole source terms rows
+  pub whole : WholeRecord source terms rows
   pub same : Same (termsIn terms) source rows

@@ -7,11 +7,11 @@ use lib.Dec.{eqb, ltb, leb}
 use lib.ListN.{length, take, drop, set}
 use Rattle.rules.specs.Text.{Text, bytes, same}
 use Rattle.rules.specs.Assemble.{Slices, over, holding, assembleAnswer, assembleSlices}
-use Rattle.answer.specs.Answer.{answerOf, numberOf, placeOf}
+use Rattle.answer.specs.Answer.{answerOf, answerNumber, answerPlace}
 use Rattle.listing.specs.Listing.{decimal}
 use Rattle.station.specs.declared.input.Input.{Input}
 use Rattle.station.specs.Station.{unlessFailed}
-use Rattle.recorded.specs.Recorded.{numberAt, listIn, Terms, termsIn, countOf, old, onto, lent}
+use Rattle.recorded.specs.Recorded.{numberAt, rowsIn, Terms, termsIn, countOf, old, onto, lent}
 use Rattle.recorded.specs.declared.Verdict.{Verdict}
 use Rattle.recorded.specs.declared.Verdict.the-variants.{Agrees, Differs}
 use Rattle.recorded.specs.declared.Tally.{Tally}
@@ -27,7 +27,7 @@ sameSlices x y = same (x .addresses) (y .addresses) && (same (x .words) (y .word
 
 unfoldable pub sameIn : Terms → Text → Text → Bool
 sameIn r s l =
-    eqb (numberOf (answerOf (assembleAnswer (r .base) s (lent r)))) (r .number) && (eqb (placeOf (answerOf (assembleAnswer (r .base) s (lent r)))) (r .place) && sameSlices (onto (assembleSlices (r .base) s (lent r)) old) (holding (listIn (countOf r) l) old))
+    eqb (answerNumber (answerOf (assembleAnswer (r .base) s (lent r)))) (r .number) && (eqb (answerPlace (answerOf (assembleAnswer (r .base) s (lent r)))) (r .place) && sameSlices (onto (assembleSlices (r .base) s (lent r)) old) (holding (rowsIn (countOf r) l) old))
 
 unfoldable pub agreesIn : Text → Text → Text → Bool
 agreesIn s t l = wholeIn s t l && sameIn (termsIn t) s l

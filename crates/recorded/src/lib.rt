@@ -13,9 +13,9 @@ ghost use mathlib.Core.Logic.{_↔_};
 ghost use Prim.Native.Nat.{_+_, _*_, _≤_, min};
 ghost use lib.ListN.{length};
 ghost use Rattle.rules.specs.Assemble.{slices, holding};
-ghost use Rattle.answer.specs.Answer.{numberOf, placeOf};
+ghost use Rattle.answer.specs.Answer.{answerNumber, answerPlace};
 ghost use Rattle.station.specs.Printed.{Printed};
-ghost use Rattle.recorded.specs.Recorded.{numberAt, listIn, termsIn, countOf, Called, Even, Whole, Agrees};
+ghost use Rattle.recorded.specs.Recorded.{numberAt, rowsIn, termsIn, countOf, Called, Even, WholeRecord, Agrees};
 ghost use Rattle.recorded.specs.Replay.{verdictIn, sizeBy, countedBy, replay, tookByte, fed, countsText, replayText, Written, isCutOff};
 
 // The bytes of a head, of terms and of a row.
@@ -91,7 +91,7 @@ fn count(terms: &[u8]) -> usize
 
 // Whether the parts of a call are as long as they say, and its places within the slices.
 fn is_whole(source: &[u8], terms: &[u8], rows: &[u8]) -> bool
-    ensures { λ r. ⌜ (r ≡ true) ↔ Whole (now (source .entry)) (now (terms .entry)) (now (rows .entry)) ⌝ }
+    ensures { λ r. ⌜ (r ≡ true) ↔ WholeRecord (now (source .entry)) (now (terms .entry)) (now (rows .entry)) ⌝ }
 {
     if terms.len() != TERMS {
         return false;
@@ -118,7 +118,7 @@ fn is_whole(source: &[u8], terms: &[u8], rows: &[u8]) -> bool
 // Puts the list in the first `count` rows into the slices.
 fn read_list(rows: &[u8], count: usize, a: &mut [u32], w: &mut [u16], m: &mut [u8])
     requires { ⌜ (7 * count ≤ length (now rows)) × (count ≤ length (now a)) × (count ≤ length (now w)) × (count ≤ length (now m)) ⌝ }
-    ensures { λ _. ⌜ slices (now (a .exit)) (now (w .exit)) (now (m .exit)) ≡ holding (listIn count (now (rows .entry))) (slices (now (a .entry)) (now (w .entry)) (now (m .entry))) ⌝ }
+    ensures { λ _. ⌜ slices (now (a .exit)) (now (w .exit)) (now (m .exit)) ≡ holding (rowsIn count (now (rows .entry))) (slices (now (a .entry)) (now (w .entry)) (now (m .entry))) ⌝ }
 {
     let mut i = 0;
     while i < count {
@@ -149,7 +149,7 @@ fn assemble_lent(
 
 // Whether the answer is the recorded one.
 fn same_answer(answer: Answer, number: u8, place: u32) -> bool
-    ensures { λ r. ⌜ (r ≡ true) ↔ ((numberOf answer ≡ number) × (placeOf answer ≡ place)) ⌝ }
+    ensures { λ r. ⌜ (r ≡ true) ↔ ((answerNumber answer ≡ number) × (answerPlace answer ≡ place)) ⌝ }
 {
     if answer::number(answer) != number {
         return false;

@@ -10,7 +10,7 @@ use lib.ListN.{length, take, drop, length-append, length-take}
 use lib.Seq.{take-nil, take-all, take-at, take-append-le, take-append-add, length-take-le, drop-length}
 use borrow.Author.Tests.{leb-true, leb-false, lt-ltb}
 use Rattle.rules.specs.Text.{Text}
-use Rattle.listing.specs.Listing.{putAt}
+use Rattle.listing.specs.Listing.{overFrom}
 use Rattle.listing.proofs.Put.{put-nil, length-put}
 use Rattle.station.specs.Reads.{afterRead, kept, Reads, ReadsOn}
 use Rattle.station.specs.declared.input.Input.{Input}
@@ -29,9 +29,9 @@ unfolding kept
 kept-full n c buffer h = let none : length buffer - n ≡ 0 = omega arith in rw none (put-nil n buffer)
 
 -- the part of a chunk that there is room for is put
-pub kept-part : (n m : ℕ) (c : Text) (x y : List ℕ) → m ≡ min (length c) (length x - n) → y ≡ putAt n (take m c) x → y ≡ kept n c x
+pub kept-part : (n m : ℕ) (c : Text) (x y : List ℕ) → m ≡ min (length c) (length x - n) → y ≡ overFrom n (take m c) x → y ≡ kept n c x
 unfolding kept
-kept-part n m c x y e f = f ∙ ap (λ (s : Text). putAt n s x) (take-lesser m (length x - n) c e)
+kept-part n m c x y e f = f ∙ ap (λ (s : Text). overFrom n s x) (take-lesser m (length x - n) c e)
 
 -- after a read of so many bytes the total has grown
 total-after : (n : ℕ) (i : Input) → i .total + n < 2 ^ 64 → (afterRead (pos n) i) .total ≡ i .total + n
@@ -53,14 +53,14 @@ length-kept : (n : ℕ) (c : Text) (buffer : List ℕ) → length (kept n c buff
 unfolding kept
 length-kept n c buffer = go (leb n (length buffer)) refl
   where
-    go : (y : Bool) → leb n (length buffer) ≡ y → length (putAt n (take (length buffer - n) c) buffer) ≡ length buffer
+    go : (y : Bool) → leb n (length buffer) ≡ y → length (overFrom n (take (length buffer - n) c) buffer) ≡ length buffer
     go true p = length-put n (take (length buffer - n) c) buffer (omega (arith, leb-true n (length buffer) p, length-take (length buffer - n) c))
     go false p = ap length (kept-full n c buffer (omega (arith, leb-false n (length buffer) p)))
 
 -- the front before, t, and the chunk after it
 module _ (t c : Text) (buffer : List ℕ) (f : take (length buffer) t ≡ take (length t) buffer) where
   grows-within : length t ≤ length buffer → take (length buffer) (t ++ c) ≡ take (length t + length c) (kept (length t) c buffer)
-  unfolding kept putAt
+  unfolding kept overFrom
   grows-within h =
       let room : length buffer ≡ length t + (length buffer - length t) = omega arith in
       let same : t ≡ take (length t) buffer = sym (take-all (length buffer) t h) ∙ f in

@@ -5,14 +5,14 @@ use mathlib.Core.List.{_++_}
 use native.Mathlib.Omega.{arith}
 use lib.ListN.{length, take, length-append, length-take}
 use Rattle.rules.specs.Text.{Text}
-use Rattle.listing.specs.Listing.{putAt}
+use Rattle.listing.specs.Listing.{overFrom}
 use Rattle.listing.proofs.Put.{put-both, put-over}
 use Rattle.station.specs.Printed.{Printed}
 use Rattle.station.proofs.Printed.{printed}
 use Rattle.station.proofs.Kept.{take-lesser}
 
 -- n bytes of the name are put at the front, which gives x, and then the words, which gives y
-pub said : (name words out x y : Text) (n : ℕ) → n ≡ min (length name) 32 → x ≡ putAt 0 (take n name) out → y ≡ putAt n words x
+pub said : (name words out x y : Text) (n : ℕ) → n ≡ min (length name) 32 → x ≡ overFrom 0 (take n name) out → y ≡ overFrom n words x
     → Printed (take 32 name ++ words) (n + length words) out y
 said name words out x y n e ex ey =
     let front : take n name ≡ take 32 name = take-lesser n 32 name e in
@@ -22,5 +22,5 @@ said name words out x y n e ex ey =
     (sym
     (sym (put-over (take 32 name ++ words) out)
     ∙ put-both 0 n (take 32 name) out (omega arith) (omega arith) words
-    ∙ ap (putAt n words) (ap (λ (s : Text). putAt 0 s out) (sym front) ∙ sym ex)
+    ∙ ap (overFrom n words) (ap (λ (s : Text). overFrom 0 s out) (sym front) ∙ sym ex)
     ∙ sym ey))

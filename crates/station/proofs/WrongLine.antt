@@ -5,14 +5,14 @@ use mathlib.Core.List.{[], _∷_, _++_}
 use native.Mathlib.Omega.{arith}
 use lib.ListN.{length, set, length-append}
 use Rattle.rules.specs.Text.{Text, bytes}
-use Rattle.listing.specs.Listing.{decimal, putAt}
+use Rattle.listing.specs.Listing.{decimal, overFrom}
 use Rattle.listing.proofs.Put.{put-both, put-one, put-nil, put-over, length-put}
 use Rattle.station.specs.Station.{wrongLineText}
 use Rattle.station.specs.Printed.{Printed}
 use Rattle.station.proofs.Printed.{printed}
 
 -- x is the slice after the words, y after the number, which ends at k
-pub wrong-line : (n : ℕ) (l x y : Text) (k : ℕ) → k < length l → x ≡ putAt 0 (bytes "not a list: line ") l → y ≡ putAt 17 (decimal n) x → k ≡ 17 + length (decimal n)
+pub wrong-line : (n : ℕ) (l x y : Text) (k : ℕ) → k < length l → x ≡ overFrom 0 (bytes "not a list: line ") l → y ≡ overFrom 17 (decimal n) x → k ≡ 17 + length (decimal n)
     → Printed (wrongLineText n) (k + 1) l (set y k 10)
 unfolding bytes wrongLineText
 wrong-line n l x y k h ex ey ek =
@@ -24,8 +24,8 @@ wrong-line n l x y k h ex ey ek =
     (sym
     (sym (put-over (wrongLineText n) l)
     ∙ put-both 0 17 (bytes "not a list: line ") l refl (omega arith) s
-    ∙ ap (putAt 17 s) (sym ex)
+    ∙ ap (overFrom 17 s) (sym ex)
     ∙ put-both 17 k (decimal n) x ek (omega arith) (10 ∷ [])
-    ∙ ap (putAt k (10 ∷ [])) (sym ey)
+    ∙ ap (overFrom k (10 ∷ [])) (sym ey)
     ∙ put-one k (k + 1) 10 [] y refl (omega arith)
     ∙ put-nil (k + 1) (set y k 10)))

@@ -7,7 +7,7 @@ use lib.IntN.{ℤ, pos, negsuc}
 use lib.Dec.{ltb}
 use lib.ListN.{length, take}
 use Rattle.rules.specs.Text.{Text}
-use Rattle.listing.specs.Listing.{putAt}
+use Rattle.listing.specs.Listing.{overFrom}
 use Rattle.station.specs.declared.input.Input.{Input}
 
 abbrev pub atStart : Input
@@ -30,7 +30,7 @@ left i = cond (i .more) (2 ^ 64 - i .total) 0
 
 -- a chunk put after the first n bytes, as far as there is room
 unfoldable pub kept : ℕ → Text → List ℕ → List ℕ
-kept n chunk buffer = putAt n (take (length buffer - n) chunk) buffer
+kept n chunk buffer = overFrom n (take (length buffer - n) chunk) buffer
 
 -- t was read, and the buffer keeps as much of it as there is room for
 pub record Reads (t : Text) (buffer : List ℕ) (i : Input) : Type 0 where

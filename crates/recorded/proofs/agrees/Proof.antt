@@ -5,14 +5,14 @@ use mathlib.Core.Path.{sym, _∙_}
 use borrow.Author.Needs.{needs}
 use borrow.Author.Tests.{not-true, not-false}
 use Rattle.rules.specs.Assemble.{Slices, slices}
-use Rattle.recorded.specs.Recorded.{Whole}
+use Rattle.recorded.specs.Recorded.{WholeRecord}
 use Rattle.recorded.proofs.Bytes.{one-byte}
 use Rattle.recorded.proofs.Parts.{refuses, whole-within}
 use Rattle.recorded.proofs.Agree.{Made, made, differs, compared}
 use Rattle.recorded.proofs.agrees.Statement.{statement}
 use Rattle.recorded.proofs.agrees.Tie as tie
 
-whole : (c : tie.Else1) → Whole (c .before .before .before .before .before .args .source .now) (c .before .before .before .before .before .args .terms .now) (c .before .before .before .before .before .args .rows .now)
+whole : (c : tie.Else1) → WholeRecord (c .before .before .before .before .before .args .source .now) (c .before .before .before .before .before .args .terms .now) (c .before .before .before .before .before .args .rows .now)
 whole c = c .before .is-whole .ensures .0 (not-false _ (c .if1 .left))
 
 -- the slices after the call, and those with the recorded list

@@ -5,13 +5,13 @@ use native.Mathlib.Omega.{arith}
 use borrow.Author.Needs.{needs}
 use Rattle.rules.specs.Assemble.{holding}
 use Rattle.recorded.proofs.Bytes.{one-byte, two-bytes}
-use Rattle.recorded.proofs.Rows.{Part, part-none, part-more, part-all, row-address, row-word, row-mark}
+use Rattle.recorded.proofs.Rows.{Column, part-none, part-more, part-all, row-address, row-word, row-mark}
 use Rattle.recorded.proofs.read_list.Statement.{statement}
 use Rattle.recorded.proofs.read_list.Tie as tie
 
 abbrev Inv-loop : tie.InvT-loop
 Inv-loop rows count a₀ w₀ m₀ i₀ a w m i =
-    (i ≤ count) × Part (λ p. p .address) rows count i a₀ a × Part (λ p. p .word) rows count i w₀ w × Part (λ p. p .mark) rows count i m₀ m
+    (i ≤ count) × Column (λ p. p .address) rows count i a₀ a × Column (λ p. p .word) rows count i w₀ w × Column (λ p. p .mark) rows count i m₀ m
 
 abbrev μ-loop : tie.MeasureT-loop
 μ-loop rows count a₀ w₀ m₀ i₀ a w m i =
