@@ -40,3 +40,6 @@ pub mod Call
 pub mod Moves
 pub mod Demand3
 pub mod Longest
+pub mod Names
+pub mod Records
+pub mod Nearest
