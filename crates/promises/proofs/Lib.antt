@@ -40,6 +40,7 @@ pub mod Call
 pub mod Moves
 pub mod Demand3
 pub mod Longest
+pub mod Standing
 pub mod Names
 pub mod Records
 pub mod Nearest

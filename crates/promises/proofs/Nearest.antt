@@ -1,9 +1,9 @@
 -- W-201 holds: the search in the table finds the label that its records make the nearest. Assumes nothing.
-use Prim.Native.Nat.{ℕ, suc, _+_, _-_, _<_, _≤_}
+use Prim.Native.Nat.{ℕ, _+_, _-_, _<_, _≤_}
 use mathlib.Core.Path.{_≡_, refl, sym, ap, _∙_}
 use mathlib.Core.Bool.{Bool, true, false, _&&_, _||_, cond}
 use mathlib.Core.Option.{Option, none, some, Option·map}
-use mathlib.Core.List.{List, [], _∷_, map}
+use mathlib.Core.List.{[], _∷_}
 use native.Mathlib.Nat.{add-zero}
 use native.Mathlib.Omega.{arith}
 use borrow.Author.Tests.{ltb-true, ltb-false, lt-ltb, leb-true, leb-false, le-leb, eqb-true, eqb-false, eq-eqb}
@@ -16,17 +16,17 @@ use Rattle.rules.specs.Label.{Label, Table}
 use Rattle.rules.specs.Answer.{Answer, accepted, refused, refuseIf, andThen}
 use Rattle.rules.specs.Assemble.{Pass, firstPassBy, passAtBy, passAt}
 use Rattle.requests.specs.Nearest.{Nearest, nearer, nearerOf, nearestIn, toldNearest, nearest}
-use Rattle.promises.specs.Stages.{Stage, all, Checked}
+use Rattle.promises.specs.Stages.{all, Checked}
 use Rattle.promises.specs.Demand1.{PassCondition, passing, PassRefusesExactly}
 use Rattle.promises.specs.Lawful.{shiftLabel, shiftTable, shiftPass}
-use Rattle.promises.specs.Nearest.{In, first, later, LastRecord, Passes, IsNear, NearestIsNear, NearestCondition, of-pass, none-near, nearing, NearestRefusesExactly, NearestMoves}
+use Rattle.promises.specs.Nearest.{In, head, tail, LastRecord, IsNear, NearestIsNear, NearestCondition, of-pass, none-near, nearing, NearestRefusesExactly, NearestMoves}
 use Rattle.promises.proofs.Compared.{clash}
 use Rattle.promises.proofs.Stages.{isChecked, not-checked, checked-by, still-checked, apart, are-apart, Runs, done, stop, pass, none-holds, and-then, runs-by, refuses-exactly}
 use Rattle.promises.proofs.Demand1Assemble.{pass-known, pass-answered}
 use Rattle.promises.proofs.Demand1.{pass-refuses-exactly}
 use Rattle.promises.proofs.Accepted.{LetThrough, not-refused, checks-passed, checks-pass}
 use Rattle.promises.proofs.Shift.{pass-shift}
-use Rattle.promises.proofs.Records.{Made, LastRecords, labels-are-last}
+use Rattle.promises.proofs.Records.{LastRecords, labels-are-last}
 
 -- l is named before m, or is m
 record Beats (l m : Label) : Type 0 where
@@ -83,34 +83,34 @@ passing-by : (a : ℕ) (l : Label) (t : Table) (o : Option Label) → a < l .add
 passing-by a l t none h (nothing f) = nothing on
   where
     on : (m : Label) → In m (l ∷ t) → a < m .address
-    on m (first e) = rw e h
-    on m (later i) = f m i
-passing-by a l t (some k) h (found f) = found (record { is = later (f .is); at-most = f .at-most; beats = on })
+    on m (head e) = rw e h
+    on m (tail i) = f m i
+passing-by a l t (some k) h (found f) = found (record { is = tail (f .is); at-most = f .at-most; beats = on })
   where
     on : {m : Label} → In m (l ∷ t) → m .address ≤ a → Beats k m
-    on (first e) u = let v = rw e at u in absurd (omega arith)
-    on (later i) u = f .beats i u
+    on (head e) u = let v = rw e at u in absurd (omega arith)
+    on (tail i) u = f .beats i u
 
 taking : (a : ℕ) (l : Label) (t : Table) (o : Option Label) → l .address ≤ a → Searched a t o → Searched a (l ∷ t) (some (nearerOf l o))
 unfolding nearerOf
-taking a l t none h (nothing f) = found (record { is = first refl; at-most = h; beats = on })
+taking a l t none h (nothing f) = found (record { is = head refl; at-most = h; beats = on })
   where
     on : {m : Label} → In m (l ∷ t) → m .address ≤ a → Beats l m
-    on (first e) u = rw e (beats-self l)
-    on {m} (later i) u = let v = f m i in absurd (omega arith)
+    on (head e) u = rw e (beats-self l)
+    on {m} (tail i) u = let v = f m i in absurd (omega arith)
 taking a l t (some k) h (found f) = go (nearer l k) (beats-by l k (nearer l k) refl)
   where
     go : (x : Bool) → Beats (cond x l k) (cond x k l) → Searched a (l ∷ t) (some (cond x l k))
-    go true b = found (record { is = first refl; at-most = h; beats = on })
+    go true b = found (record { is = head refl; at-most = h; beats = on })
       where
         on : {m : Label} → In m (l ∷ t) → m .address ≤ a → Beats l m
-        on (first e) u = rw e (beats-self l)
-        on (later i) u = beats-on b (f .beats i u)
-    go false b = found (record { is = later (f .is); at-most = f .at-most; beats = on })
+        on (head e) u = rw e (beats-self l)
+        on (tail i) u = beats-on b (f .beats i u)
+    go false b = found (record { is = tail (f .is); at-most = f .at-most; beats = on })
       where
         on : {m : Label} → In m (l ∷ t) → m .address ≤ a → Beats k m
-        on (first e) u = rw e b
-        on (later i) u = f .beats i u
+        on (head e) u = rw e b
+        on (tail i) u = f .beats i u
 
 searched : (a : ℕ) (t : Table) → Searched a t (nearestIn a t)
 unfolding nearestIn
@@ -122,12 +122,12 @@ searched a (l ∷ t) = go (leb (l .address) a) refl (searched a t)
     go false e ih = passing-by a l t (nearestIn a t) (leb-false (l .address) a e) ih
 
 -- an accepted source: no condition of refusals 1 to 6 holds, and the other way round
-passes : (base : ℕ) (s : Text) (p : Pass) → passAt base s ≡ accepted p → Passes base s
+clear : (base : ℕ) (s : Text) (p : Pass) → passAt base s ≡ accepted p → (m q : ℕ) → ¬ PassCondition size base s m q
 unfolding apart
-passes base s p e =
+clear base s p e =
     none-holds (PassCondition size base s) passing (are-apart passing refl) (pass-known size base s) p (passAt base s) e (pass-answered size base s)
 
-accepts : (base : ℕ) (s : Text) → Passes base s → (p : Pass) × (passAt base s ≡ accepted p)
+accepts : (base : ℕ) (s : Text) → ((m q : ℕ) → ¬ PassCondition size base s m q) → (p : Pass) × (passAt base s ≡ accepted p)
 unfolding PassRefusesExactly
 accepts base s h = go (passAt base s) refl
   where
@@ -142,13 +142,15 @@ module _ (base : ℕ) (s : Text) (a : ℕ) (t : Table) (law : LastRecords base s
   label-in n i k x h = law .exactly (record { name = n; start = i; address = x }) .1 (k, h)
 
   -- what the search finds is near
-  found-near : (l : Label) → Found a t l → IsNear base s a (record { start = l .start; length = length (l .name); distance = a - l .address })
-  found-near l f =
+  found-near : ((m q : ℕ) → ¬ PassCondition size base s m q) → (l : Label) → Found a t l
+      → IsNear base s a (record { start = l .start; length = length (l .name); distance = a - l .address })
+  found-near c l f =
       let h = law .exactly l .0 (f .is) in
       record {
         name = l .name;
         line = h .0;
         address = l .address;
+        clear = c;
         last = h .1;
         length = refl;
         distance = omega (arith, f .at-most);
@@ -156,7 +158,7 @@ module _ (base : ℕ) (s : Text) (a : ℕ) (t : Table) (law : LastRecords base s
         foremost = λ {n} {i} {k} r. f .beats (label-in n i k (l .address) r) (f .at-most) .foremost refl;
       }
 
-  -- and it is what is near
+  -- and what is near is what it finds
   near-told : (r : Nearest) (o : Option Label) → IsNear base s a r → Searched a t o → toldNearest a o ≡ accepted r
   unfolding toldNearest
   near-told r none h (nothing f) =
@@ -183,19 +185,19 @@ nearest-is-near base s a r = (to, from)
     told p f none (nothing h) e = clash cc
     told p f (some l) (found h) e =
         let u : record { start = l .start; length = length (l .name); distance = a - l .address } ≡ r = cc in
-        rw (← u) (found-near base s a (p .labels) (labels-are-last base s p f) l h)
+        rw (← u) (found-near base s a (p .labels) (labels-are-last base s p f) (clear base s p f) l h)
 
-    to : nearest base s a ≡ accepted r → Passes base s × IsNear base s a r
+    to : nearest base s a ≡ accepted r → IsNear base s a r
     to e = go (passAt base s) refl
       where
-        go : (x : Answer Pass) → passAt base s ≡ x → Passes base s × IsNear base s a r
+        go : (x : Answer Pass) → passAt base s ≡ x → IsNear base s a r
         go (refused n q) f = let g : refused n q ≡ accepted r = rw f at e in clash cc
-        go (accepted p) f = (passes base s p f, told p f (nearestIn a (p .labels)) (searched a (p .labels)) (rw f at e))
+        go (accepted p) f = told p f (nearestIn a (p .labels)) (searched a (p .labels)) (rw f at e)
 
-    from : Passes base s × IsNear base s a r → nearest base s a ≡ accepted r
+    from : IsNear base s a r → nearest base s a ≡ accepted r
     from h =
-        let q = accepts base s (h .0) in
-        rw (q .1) (near-told base s a (q .0 .labels) (labels-are-last base s (q .0) (q .1)) r (nearestIn a (q .0 .labels)) (h .1) (searched a (q .0 .labels)))
+        let q = accepts base s (h .clear) in
+        rw (q .1) (near-told base s a (q .0 .labels) (labels-are-last base s (q .0) (q .1)) r (nearestIn a (q .0 .labels)) h (searched a (q .0 .labels)))
 
 -- 12 after 1 to 6
 module _ (base : ℕ) (s : Text) (a : ℕ) where
@@ -301,10 +303,7 @@ pass-at b s p e = go (firstPassBy size 0 0 [] (linesOf s)) refl (pass-shift size
 
 pub nearest-moves : NearestMoves
 unfolding NearestMoves nearest andThen shiftPass
-nearest-moves b s a h =
-    let p = accepts b s h in
-    let q = pass-at b s (p .0) (p .1) in
-    go (p .0) (q .0) (p .1) (q .1) (q .2)
+nearest-moves b s p e a = let h = pass-at b s p e in go (h .0) (h .1) (h .2)
   where
-    go : (p q : Pass) → passAt b s ≡ accepted p → passAt 0 s ≡ accepted q → p ≡ shiftPass b q → nearest b s (b + a) ≡ nearest 0 s a
-    go p q e f g = rw (e, f, g, nearestIn-shift b a (q .labels)) (told-shift b a (nearestIn a (q .labels)))
+    go : (q : Pass) → passAt 0 s ≡ accepted q → p ≡ shiftPass b q → nearest b s (b + a) ≡ nearest 0 s a
+    go q f g = rw (e, f, g, nearestIn-shift b a (q .labels)) (told-shift b a (nearestIn a (q .labels)))

@@ -8,14 +8,14 @@ use mathlib.Core.List.{List, [], _∷_, map}
 use native.Mathlib.Omega.{arith}
 use borrow.Author.Tests.{eq-eqb}
 use lib.Dec.{eqb}
-use lib.ListN.{length, getElem?, drop}
+use lib.ListN.{length, getElem?, take, drop}
 use Rattle.rules.specs.Text.{Text, cutAt, same}
 use Rattle.rules.specs.Line.{SourceLine, numbered, linesOf, Name, name, Task, end, lineOf, size}
 use Rattle.rules.specs.Label.{Label, Table, find, recorded, hasRoom, recordAll}
 use Rattle.rules.specs.Answer.{Answer, accepted, refused, andThen}
 use Rattle.rules.specs.Assemble.{Pass, addressAfter, putting, firstPassBy, passAtBy, passAt}
-use Rattle.promises.specs.Demand1.{IsLine, nextAddress, namesOf, onTop, Reached, start, further}
-use Rattle.promises.specs.Nearest.{In, first, later, startAfter, Records, records, LastRecord}
+use Rattle.promises.specs.Demand1.{IsLine, namesOf, onTop, Reached, start, further}
+use Rattle.promises.specs.Nearest.{In, head, tail, startAfter, Records, records, LastRecord, RecordsStand}
 use Rattle.promises.proofs.Compared.{clash, Compared, less, more, equal, compared}
 use Rattle.promises.proofs.Accepted.{not-refused, checks-passed}
 use Rattle.promises.proofs.RustText.{same-eq}
@@ -23,7 +23,8 @@ use Rattle.promises.proofs.Tasks.{next-address, pass-line}
 use Rattle.promises.proofs.Shapes.{end-unlabelled}
 use Rattle.promises.proofs.Demand1Lines.{line-at, no-line}
 use Rattle.promises.proofs.Demand1Passes.{reached-once, not-end}
-use Rattle.promises.proofs.Names.{Rising, names-rise}
+use Rattle.promises.proofs.Standing.{at-take, at-in, texts-at}
+use Rattle.promises.proofs.Names.{Rising, over, next, rising-in, names-rise}
 
 -- names that do not compare the same are not equal
 same-self : (s : Text) → same s s ≡ true
@@ -48,23 +49,23 @@ record Taken (x : Label) (t u : Table) : Type 0 where
 
 taken : (x : Label) (t : Table) → Unique t → Taken x t (recorded x t)
 unfolding recorded
-taken x [] u = record { unique = ((λ m. elim [ ]), tt); has = first refl; keeps = λ i d. later i; is = elim [ first e ↦ inl e ] }
+taken x [] u = record { unique = ((λ m. elim [ ]), tt); has = head refl; keeps = λ i d. tail i; is = elim [ head e ↦ inl e ] }
 taken x (l ∷ t) u = go (same (x .name) (l .name)) refl (taken x t (u .1))
   where
     go : (y : Bool) → same (x .name) (l .name) ≡ y → Taken x t (recorded x t) → Taken x (l ∷ t) (recorded x (l ∷ t))
-    go true e ih = rw (e, recorded) (record { unique = (λ m i. rw f (u .0 m i), u .1); has = first refl; keeps = keeps; is = is })
+    go true e ih = rw (e, recorded) (record { unique = (λ m i. rw f (u .0 m i), u .1); has = head refl; keeps = keeps; is = is })
       where
         f : x .name ≡ l .name
         f = same-eq (x .name) (l .name) e
 
         keeps : {y : Label} → In y (l ∷ t) → y .name ≢ x .name → In y (x ∷ t)
-        keeps (first k) d = absurd (d (ap (λ (z : Label). z .name) k ∙ sym f))
-        keeps (later i) d = later i
+        keeps (head k) d = absurd (d (ap (λ (z : Label). z .name) k ∙ sym f))
+        keeps (tail i) d = tail i
 
         is : {y : Label} → In y (x ∷ t) → (y ≡ x) ⊎ (In y (l ∷ t) × (y .name ≢ x .name))
-        is (first k) = inl k
-        is {y} (later i) = inr (later i, rw f (u .0 y i))
-    go false e ih = rw (e, recorded) (record { unique = (apart, ih .unique); has = later (ih .has); keeps = keeps; is = is })
+        is (head k) = inl k
+        is {y} (tail i) = inr (tail i, rw f (u .0 y i))
+    go false e ih = rw (e, recorded) (record { unique = (apart, ih .unique); has = tail (ih .has); keeps = keeps; is = is })
       where
         f : x .name ≢ l .name
         f = not-same (x .name) (l .name) e
@@ -77,16 +78,16 @@ taken x (l ∷ t) u = go (same (x .name) (l .name)) refl (taken x t (u .1))
             on (inr j) = u .0 m (j .0)
 
         keeps : {y : Label} → In y (l ∷ t) → y .name ≢ x .name → In y (l ∷ recorded x t)
-        keeps (first k) d = first k
-        keeps (later i) d = later (ih .keeps i d)
+        keeps (head k) d = head k
+        keeps (tail i) d = tail (ih .keeps i d)
 
         is : {y : Label} → In y (l ∷ recorded x t) → (y ≡ x) ⊎ (In y (l ∷ t) × (y .name ≢ x .name))
-        is (first k) = inr (first k, rw k (λ g. f (sym g)))
-        is {y} (later i) = on (ih .is i)
+        is (head k) = inr (head k, rw k (λ g. f (sym g)))
+        is {y} (tail i) = on (ih .is i)
           where
             on : (y ≡ x) ⊎ (In y t × (y .name ≢ x .name)) → (y ≡ x) ⊎ (In y (l ∷ t) × (y .name ≢ x .name))
             on (inl k) = inl k
-            on (inr j) = inr (later (j .0), j .1)
+            on (inr j) = inr (tail (j .0), j .1)
 
 -- of what P says to be recorded, x is the last of its name
 record Last (P : Label → Type 0) (x : Label) : Type 0 where
@@ -161,16 +162,16 @@ labelOf l a n = record { name = n .text; start = l .start + n .start; address = 
 
 -- the names of a line
 module _ (l : SourceLine) (a : ℕ) where
-  keeps-all : (P : Label → Type 0) (ns : List Name) (b c e : ℕ) (t t′ : Table) → b ≤ l .start + c → Rising c ns e → recordAll l a ns t ≡ some t′
+  keeps-all : (P : Label → Type 0) {ns : List Name} {c e : ℕ} (b : ℕ) (t t′ : Table) → b ≤ l .start + c → Rising (l .text) e c ns → recordAll l a ns t ≡ some t′
       → Keeps P b t → Keeps (λ y. P y ⊎ In y (map (labelOf l a) ns)) (l .start + e) t′
   unfolding recordAll
-  keeps-all P [] b c e t t′ h r f k =
+  keeps-all P {e = e} b t t′ h (over r) f k =
       let g : t ≡ t′ = cc in
       rw (← g) (keeps-by P (λ y. P y ⊎ In y []) b (l .start + e) t (omega arith) (λ x p. inl p) (λ x. elim [ inl p ↦ p | inr i ↦ absurd (nowhere i) ]) k)
     where
       nowhere : {y : Label} → In y [] → ⊥
       nowhere = elim [ ]
-  keeps-all P (n ∷ ns) b c e t t′ h r f k = go (hasRoom (find (n .text) t) t) refl (keeps-all (λ y. P y ⊎ (y ≡ x)) ns)
+  keeps-all P {e = e} b t t′ h (next {m = n} {ms = ns} r w q) f k = go (hasRoom (find (n .text) t) t) refl (λ c u v. keeps-all Q c u t′ v q)
     where
       x : Label
       x = labelOf l a n
@@ -180,30 +181,31 @@ module _ (l : SourceLine) (a : ℕ) where
 
       forth : (y : Label) → Q y ⊎ In y (map (labelOf l a) ns) → P y ⊎ In y (map (labelOf l a) (n ∷ ns))
       forth y (inl (inl p)) = inl p
-      forth y (inl (inr g)) = inr (first g)
-      forth y (inr i) = inr (later i)
+      forth y (inl (inr g)) = inr (head g)
+      forth y (inr i) = inr (tail i)
 
       back : (y : Label) → P y ⊎ In y (map (labelOf l a) (n ∷ ns)) → Q y ⊎ In y (map (labelOf l a) ns)
       back y (inl p) = inl (inl p)
-      back y (inr (first g)) = inl (inr g)
-      back y (inr (later i)) = inr i
+      back y (inr (head g)) = inl (inr g)
+      back y (inr (tail i)) = inr i
 
       go : (y : Bool) → hasRoom (find (n .text) t) t ≡ y
-          → ((b c e : ℕ) (t t′ : Table) → b ≤ l .start + c → Rising c ns e → recordAll l a ns t ≡ some t′ → Keeps Q b t → Keeps (λ y. Q y ⊎ In y (map (labelOf l a) ns)) (l .start + e) t′)
+          → ((c : ℕ) (u : Table) → c ≤ l .start + suc (n .start) → recordAll l a ns u ≡ some t′ → Keeps Q c u
+          → Keeps (λ y. Q y ⊎ In y (map (labelOf l a) ns)) (l .start + e) t′)
           → Keeps (λ y. P y ⊎ In y (map (labelOf l a) (n ∷ ns))) (l .start + e) t′
       go true g ih =
           keeps-by _ _ (l .start + e) (l .start + e) t′ (omega arith) forth back
-          (ih (suc (x .start)) (suc (n .start)) e (recorded x t) t′ (omega arith) (r .1) (rw (g, recordAll) at f) (keeps-one P b t x (omega (arith, r .0)) k))
+          (ih (suc (x .start)) (recorded x t) (omega arith) (rw (g, recordAll) at f) (keeps-one P b t x (omega arith) k))
       go false g ih = let u = rw (g, recordAll) at f in clash cc
 
 -- a label of mapped names
 mapped : (l : SourceLine) (a : ℕ) {y : Label} (ns : List Name) → In y (map (labelOf l a) ns) → (n : Name) × In n ns × (y ≡ labelOf l a n)
-mapped l a (n ∷ ns) (first e) = (n, first refl, e)
-mapped l a (n ∷ ns) (later i) = let h = mapped l a ns i in (h .0, later (h .1), h .2)
+mapped l a (n ∷ ns) (head e) = (n, head refl, e)
+mapped l a (n ∷ ns) (tail i) = let h = mapped l a ns i in (h .0, tail (h .1), h .2)
 
 map-in : (l : SourceLine) (a : ℕ) {n : Name} {ns : List Name} → In n ns → In (labelOf l a n) (map (labelOf l a) ns)
-map-in l a (first e) = first (ap (labelOf l a) e)
-map-in l a (later i) = later (map-in l a i)
+map-in l a (head e) = head (ap (labelOf l a) e)
+map-in l a (tail i) = tail (map-in l a i)
 
 -- the line after starts after its bytes and the byte 10
 start-next : (ls : List Text) (j : ℕ) (l : Text) → getElem? ls j ≡ some l → startAfter (suc j) ls ≡ suc (startAfter j ls + length l)
@@ -315,7 +317,7 @@ module _ (base : ℕ) (s : Text) where
       on : (t′ : Table) → recordAll (here j i a ns l r is p) a (lineOf l .names) t ≡ some t′ → Keeps (Early (suc j)) (suc (i + length l)) t′
       on t′ o =
           keeps-by _ (Early (suc j)) (i + suc (length l)) (suc (i + length l)) t′ (omega arith) (forth j i a ns l r is p) (back j i a ns l r is p)
-          (keeps-all (here j i a ns l r is p) a (Early j) (lineOf l .names) i 0 (suc (length l)) t t′ (omega arith) (names-rise l) o h)
+          (keeps-all (here j i a ns l r is p) a (Early j) i t t′ (omega arith) (names-rise l) o h)
 
   -- before the first line nothing is recorded
   none-early : {x : Label} → Early 0 x → ⊥
@@ -353,3 +355,34 @@ module _ (base : ℕ) (s : Text) where
   labels-are-last p e =
       let f = not-refused _ 4 0 _ p (checks-passed s _ p e .1) .1 in
       kept-last ((rw f at (pass (cutAt 10 s) 0 0 base [] [] refl start refl keeps-none)) .1)
+
+-- a later line starts later
+start-le : (ls : List Text) (j k : ℕ) → j ≤ k → startAfter j ls ≤ startAfter k ls
+unfolding startAfter
+start-le ls zero k h = omega arith
+start-le ls (suc j) zero h = absurd (omega arith)
+start-le [] (suc j) (suc k) h = omega arith
+start-le (l ∷ ls) (suc j) (suc k) h = omega (arith, start-le ls j k (omega arith))
+
+-- records stand where they say, in their order
+stands : {base : ℕ} {s n : Text} {i k a : ℕ} → Records base s n i k a → take (length n) (drop i s) ≡ n
+unfolding cutAt
+stands {base} {s} {i = i} r =
+    let q = apart base s r in
+    let l = texts-at (eqb 10) s (q .index) (q .text) (q .is) in
+    at-take (at-in i (sym (q .starts)) (rising-in (names-rise (q .text)) (q .named) .0) l)
+
+by-lines : {base : ℕ} {s n n′ : Text} {i i′ k k′ a a′ : ℕ} → Records base s n i k a → Records base s n′ i′ k′ a′ → k < k′ → i < i′
+by-lines {base} {s} r r′ h =
+    let q = apart base s r in
+    let q′ = apart base s r′ in
+    let b = rising-in (names-rise (q .text)) (q .named) .1 in
+    let u = start-next (cutAt 10 s) (q .index) (q .text) (q .is) in
+    let v = start-le (cutAt 10 s) (suc (q .index)) (q′ .index) (omega (arith, q .number, q′ .number)) in
+    omega (arith, q .starts, q′ .starts)
+
+on-line : {l : Text} {e b : ℕ} {m m′ : Name} → Rising l e b (m ∷ m′ ∷ []) → m .start < m′ .start
+on-line (next h a (next k c r)) = k
+
+pub records-stand : RecordsStand
+records-stand = record { text = stands; lines = by-lines; names = λ l m m′ e. on-line (rw e at (names-rise l)) }
