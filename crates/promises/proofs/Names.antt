@@ -2,7 +2,7 @@
 use Prim.Native.Nat.{ℕ, suc, _+_, _<_, _≤_}
 use mathlib.Core.Path.{_≡_, refl}
 use mathlib.Core.Bool.{Bool, true, false, cond}
-use mathlib.Core.List.{List, [], _∷_, _++_}
+use mathlib.Core.List.{List, [], _∷_, _++_, append-nil}
 use native.Mathlib.Omega.{arith}
 use lib.Dec.{eqb}
 use lib.ListN.{length}
@@ -16,6 +16,7 @@ pub data Rising (l : Text) (e : ℕ) : ℕ → List Name → Type 0 where
   over : {b : ℕ} → b ≤ e → Rising l e b []
   next : {b : ℕ} {m : Name} {ms : List Name} → b ≤ m .start → At (m .text) (m .start) l → Rising l e (suc (m .start)) ms → Rising l e b (m ∷ ms)
 
+-- one of them
 pub rising-in : {l : Text} {e b : ℕ} {m : Name} {ms : List Name} → Rising l e b ms → In m ms → At (m .text) (m .start) l × (m .start < e)
 rising-in (next h a r) (head f) = rw f (a, before r)
   where
@@ -25,6 +26,7 @@ rising-in (next h a r) (head f) = rw f (a, before r)
 rising-in (next h a r) (tail i) = rising-in r i
 
 module _ (l : Text) where
+  -- more room at the end, and a name there
   wider : {b d e : ℕ} {ms : List Name} → d ≤ e → Rising l d b ms → Rising l e b ms
   wider h (over {b} k) = over {b = b} (omega arith)
   wider h (next k a r) = next k a (wider h r)
@@ -32,10 +34,6 @@ module _ (l : Text) where
   one-more : {i e b : ℕ} {p : Text} {ms : List Name} → i < e → At p i l → Rising l i b ms → Rising l e b (ms ++ (name i p ∷ []))
   one-more h a (over k) = next k a (over h)
   one-more h a (next k c r) = next k c (one-more h a r)
-
-  no-more : {i e b : ℕ} {ms : List Name} → i < e → Rising l i b ms → Rising l e b (ms ++ [])
-  no-more h (over {b} k) = over {b = b} (omega arith)
-  no-more h (next k c r) = next k c (no-more h r)
 
   -- the trimmed text before the first colon of a text that stands at i
   trimmed-front : (i : ℕ) (s : Text) → At s i l → leading s ≡ 0 → (p q : Text) → firstCut 58 s ≡ around p q → At (trim p) i l
@@ -59,7 +57,7 @@ module _ (l : Text) where
 
     a-nonempty : (p : Text) → At p i l → Rising l e 0 (ns ++ nonempty i p)
     unfolding nonempty
-    a-nonempty [] c = no-more h r
+    a-nonempty [] c = rw (append-nil ns) (wider (omega arith) r)
     a-nonempty (b ∷ p) c = one-more h c r
 
     rest-line : Rising l e 0 (restLine ns i s .names)
