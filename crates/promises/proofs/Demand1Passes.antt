@@ -22,7 +22,7 @@ use Rattle.promises.proofs.Shapes.{end-unlabelled}
 
 module _ (z : Sizes) (base : ℕ) (s : Text) where
   -- where the passes stand after j lines is one place
-  reached-once : {j a b : ℕ} {ns ms : List Text} → Reached z base s j a ns → Reached z base s j b ms → (a ≡ b) × (ns ≡ ms)
+  pub reached-once : {j a b : ℕ} {ns ms : List Text} → Reached z base s j a ns → Reached z base s j b ms → (a ≡ b) × (ns ≡ ms)
   reached-once start start = (refl, refl)
   reached-once (further {l = k} r e f) (further {l = l} q g h) =
       let same = reached-once r q in
@@ -32,7 +32,7 @@ module _ (z : Sizes) (base : ℕ) (s : Text) where
       (cc, cc)
 
   -- no line passed is the end
-  not-end : {j a : ℕ} {ns : List Text} → Reached z base s j a ns → (i : ℕ) (l : Text) → i < j → IsLine s i l → lineOf l .task ≢ end
+  pub not-end : {j a : ℕ} {ns : List Text} → Reached z base s j a ns → (i : ℕ) (l : Text) → i < j → IsLine s i l → lineOf l .task ≢ end
   not-end start i l h e = absurd (omega arith)
   not-end (further {j} {l = k} r f g) i l h e = go (compared i j) (λ u v w. not-end r i l u v w)
     where

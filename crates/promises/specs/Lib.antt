@@ -8,3 +8,4 @@ pub mod Demand2Rust
 pub mod Lawful
 pub mod Demand3
 pub mod Longest
+pub mod Nearest

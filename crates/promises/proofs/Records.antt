@@ -1,0 +1,205 @@
+-- The labels that an accepted pass comes to are the last records, one for each name recorded. Assumes nothing.
+use Prim.Native.Nat.{ℕ, zero, suc, _+_, _<_, _≤_}
+use mathlib.Core.Path.{_≡_, refl, sym, _∙_}
+use mathlib.Core.Logic.{_↔_, _⊎_, inl, inr}
+use mathlib.Core.Option.{some}
+use mathlib.Core.List.{List, [], _∷_, map}
+use native.Mathlib.Omega.{arith}
+use lib.Dec.{eqb}
+use lib.ListN.{length, getElem?, take, drop}
+use Rattle.rules.specs.Text.{Text, cutAt}
+use Rattle.rules.specs.Line.{SourceLine, numbered, linesOf, Name, name, Task, end, lineOf, size}
+use Rattle.rules.specs.Label.{Label, Table, recordAll}
+use Rattle.rules.specs.Answer.{Answer, accepted, refused, andThen}
+use Rattle.rules.specs.Assemble.{Pass, addressAfter, putting, firstPassBy, passAtBy, passAt}
+use Rattle.promises.specs.Demand1.{IsLine, namesOf, onTop, Reached, start, further}
+use Rattle.promises.specs.Nearest.{In, startAfter, Records, records, LastRecord, RecordsStand}
+use Rattle.promises.proofs.Compared.{clash, Compared, less, more, equal, compared}
+use Rattle.promises.proofs.Accepted.{not-refused, checks-passed}
+use Rattle.promises.proofs.Tasks.{next-address, pass-line}
+use Rattle.promises.proofs.Shapes.{end-unlabelled}
+use Rattle.promises.proofs.Demand1Lines.{line-at, no-line}
+use Rattle.promises.proofs.Demand1Passes.{reached-once, not-end}
+use Rattle.promises.proofs.Standing.{at-take, at-in, texts-at}
+use Rattle.promises.proofs.Names.{Rising, next, rising-in, names-rise}
+use Rattle.promises.proofs.Kept.{Unique, Last, Keeps, keeps-by, labelOf, keeps-all, mapped, map-in}
+
+-- the line after starts after its bytes and the byte 10
+start-next : (ls : List Text) (j : ℕ) (l : Text) → getElem? ls j ≡ some l → startAfter (suc j) ls ≡ suc (startAfter j ls + length l)
+unfolding startAfter
+start-next [] j l e = clash cc
+start-next (k ∷ ls) zero l e = let u : k ≡ l = cc in rw u (omega arith)
+start-next (k ∷ ls) (suc j) l e = let h = start-next ls j l e in omega arith
+
+module _ (base : ℕ) (s : Text) where
+  -- a record, taken apart
+  record Apart (n : Text) (i k a : ℕ) : Type 0 where
+    index : ℕ
+    offset : ℕ
+    names : List Text
+    text : Text
+    reached : Reached size base s index a names
+    is : IsLine s index text
+    named : In (name offset n) (lineOf text .names)
+    starts : i ≡ startAfter index (cutAt 10 s) + offset
+    number : k ≡ suc index
+
+  apart : {n : Text} {i k a : ℕ} → Records base s n i k a → Apart n i k a
+  apart (records {j} {a} {m} {ns} {l} r e h) =
+      record { index = j; offset = m; names = ns; text = l; reached = r; is = e; named = h; starts = refl; number = refl }
+
+  -- a label that is recorded, and one that is so by the first j lines
+  pub record Made (x : Label) : Type 0 where
+    pub line : ℕ
+    pub made : Records base s (x .name) (x .start) line (x .address)
+
+  record Early (j : ℕ) (x : Label) : Type 0 where
+    is : Made x
+    early : is .line ≤ j
+
+  -- after the last line, or END, all is recorded
+  whole : (j b : ℕ) (t : Table) → ((n : Text) (i k a : ℕ) (r : Apart n i k a) → ¬ (j ≤ r .index)) → Keeps (Early j) b t → Keeps Made b t
+  whole j b t f k =
+      keeps-by (Early j) Made b b t (omega arith) (λ x e. e .is)
+      (λ x m. record { is = m; early = on (apart (m .made)) (compared (apart (m .made) .index) j) }) k
+    where
+      on : {n : Text} {i k a : ℕ} (r : Apart n i k a) → Compared (r .index) j → k ≤ j
+      on r (less l) = omega (arith, r .number)
+      on {n} {i} {k} {a} r (more l) = absurd (f n i k a r (omega arith))
+      on {n} {i} {k} {a} r (equal l) = absurd (f n i k a r (omega arith))
+
+  -- one line more
+  module _ (j i a : ℕ) (ns : List Text) (l : Text) (r : Reached size base s j a ns) (e : IsLine s j l) (p : i ≡ startAfter j (cutAt 10 s)) where
+    abbrev here : SourceLine
+    here = record { number = suc j; start = i; text = l }
+
+    forth : (x : Label) → Early j x ⊎ In x (map (labelOf here a) (lineOf l .names)) → Early (suc j) x
+    forth x (inl f) = record { is = f .is; early = omega (arith, f .early) }
+    forth x (inr f) = let h = mapped here a (lineOf l .names) f in on (h .0) (h .1) (h .2)
+      where
+        on : (n : Name) → In n (lineOf l .names) → x ≡ labelOf here a n → Early (suc j) x
+        on n i g = record { is = record { line = suc j; made = rw (g, p) (records r e i) }; early = omega arith }
+
+    back : (x : Label) → Early (suc j) x → Early j x ⊎ In x (map (labelOf here a) (lineOf l .names))
+    back x f = on (apart (f .is .made)) (compared (apart (f .is .made) .index) j)
+      where
+        on : (q : Apart (x .name) (x .start) (f .is .line) (x .address)) → Compared (q .index) j → Early j x ⊎ In x (map (labelOf here a) (lineOf l .names))
+        on q (less h) = inl (record { is = f .is; early = omega (arith, q .number) })
+        on q (more h) = absurd (omega (arith, q .number, f .early))
+        on q (equal h) =
+            let u = reached-once size base s (rw h at (q .reached)) r .0 in
+            let g = rw h at (q .is) in
+            let v : q .text ≡ l = cc in
+            let w : x .start ≡ i + q .offset = q .starts ∙ rw (h, p) in
+            let y : x ≡ labelOf here a (name (q .offset) (x .name)) = rw (← w, ← u) in
+            inr (rw y (map-in here a (rw v at (q .named))))
+
+  -- what an accepted pass keeps
+  abbrev Kept : Answer Pass → Type 0
+  Kept (accepted p) = (b : ℕ) × Keeps Made b (p .labels)
+  Kept (refused n p) = Unit {0}
+
+  putting-kept : (a : ℕ) (k : Task) (r : Answer Pass) → Kept r → Kept (andThen r (putting a k))
+  unfolding andThen putting
+  putting-kept a k (accepted p) h = h
+  putting-kept a k (refused n p) h = h
+
+  pass : (ls : List Text) (j i a : ℕ) (t : Table) (ns : List Text) → drop j (cutAt 10 s) ≡ ls → Reached size base s j a ns → i ≡ startAfter j (cutAt 10 s)
+      → Keeps (Early j) i t → Kept (firstPassBy size base a t (numbered (suc j) i ls))
+  unfolding firstPassBy numbered
+  pass [] j i a t ns e r p h = (i, whole j i t (λ n i k a q l. no-line (cutAt 10 s) (q .index) j (q .text) e l (q .is)) h)
+  pass (l ∷ ls) j i a t ns e r p h =
+      pass-line size base a t (here j i a ns l r is p) (numbered (suc (suc j)) (suc (i + length l)) ls) Kept
+      (λ k. (i, whole j i t (λ n i k′ a q u. ended n i k′ a q k (compared (q .index) j) u) h)) (λ k o. tt) (λ t′ k o v. tt)
+      (λ t′ k o v. putting-kept a (lineOf l .task) _
+      (pass ls (suc j) (suc (i + length l)) (addressAfter size base a (lineOf l .task)) t′ (onTop (namesOf (lineOf l)) ns) (line-at (cutAt 10 s) j l ls e .1)
+      (rw (next-address size base a (lineOf l .task)) at (further r is k)) (rw p (sym (start-next (cutAt 10 s) j l is))) (on t′ o)))
+    where
+      is : IsLine s j l
+      is = line-at (cutAt 10 s) j l ls e .0
+
+      nameless : {m : ℕ} {n : Text} → In (name m n) [] → ⊥
+      nameless = elim [ ]
+
+      ended : (n : Text) (i k a : ℕ) (q : Apart n i k a) → lineOf l .task ≡ end → Compared (q .index) j → ¬ (j ≤ q .index)
+      ended n i k a q f (less u) v = omega arith
+      ended n i k a q f (more u) v = not-end size base s (q .reached) j l u is f
+      ended n i k a q f (equal u) v =
+          let g = rw u at (q .is) in
+          let m = is in
+          let w : q .text ≡ l = cc in
+          nameless (rw (w, end-unlabelled l f) at (q .named))
+
+      on : (t′ : Table) → recordAll (here j i a ns l r is p) a (lineOf l .names) t ≡ some t′ → Keeps (Early (suc j)) (suc (i + length l)) t′
+      on t′ o =
+          keeps-by _ (Early (suc j)) (i + suc (length l)) (suc (i + length l)) t′ (omega arith) (forth j i a ns l r is p) (back j i a ns l r is p)
+          (keeps-all (here j i a ns l r is p) a (Early j) i t t′ (omega arith) (names-rise l) o h)
+
+  -- before the first line nothing is recorded
+  none-early : {x : Label} → Early 0 x → ⊥
+  none-early e = let h = apart (e .is .made) .number in omega (arith, e .early)
+
+  keeps-none : Keeps (Early 0) 0 []
+  keeps-none =
+      record {
+        unique = tt;
+        is = elim [ ];
+        has = λ h. absurd (none-early (h .holds));
+        below = λ e. absurd (none-early e);
+        one = λ e f. absurd (none-early e);
+      }
+
+  -- a label is in the table exactly if it is the last record of its name; no name is in it twice, and no two records start at one place
+  pub record LastRecords (t : Table) : Type 0 where
+    pub exactly : (x : Label) → In x t ↔ ((k : ℕ) × LastRecord base s (x .name) (x .start) k (x .address))
+    pub unique : Unique t
+    pub one : {x y : Label} → Made x → Made y → x .start ≡ y .start → x ≡ y
+
+  kept-last : {t : Table} {b : ℕ} → Keeps Made b t → LastRecords t
+  kept-last {t} k = record { exactly = λ x. (to x, λ h. from x (h .0) (h .1)); unique = k .unique; one = k .one }
+    where
+      latest : {x : Label} → Last Made x → {i′ k′ a′ : ℕ} → Records base s (x .name) i′ k′ a′ → i′ ≤ x .start
+      latest {x} h {i′} {k′} {a′} r = h .latest {y = record { name = x .name; start = i′; address = a′ }} (record { line = k′; made = r }) refl
+
+      to : (x : Label) → In x t → (k : ℕ) × LastRecord base s (x .name) (x .start) k (x .address)
+      to x i = let h = k .is i in (h .holds .line, record { made = h .holds .made; last = latest h })
+
+      from : (x : Label) (j : ℕ) → LastRecord base s (x .name) (x .start) j (x .address) → In x t
+      from x j h = k .has (record { holds = record { line = j; made = h .made }; latest = λ {y} m e. h .last {i′ = y .start} (rw e at (m .made)) })
+
+  pub labels-are-last : (p : Pass) → passAt base s ≡ accepted p → LastRecords (p .labels)
+  unfolding passAtBy linesOf startAfter
+  labels-are-last p e =
+      let f = not-refused _ 4 0 _ p (checks-passed s _ p e .1) .1 in
+      kept-last ((rw f at (pass (cutAt 10 s) 0 0 base [] [] refl start refl keeps-none)) .1)
+
+-- a later line starts later
+start-le : (ls : List Text) (j k : ℕ) → j ≤ k → startAfter j ls ≤ startAfter k ls
+unfolding startAfter
+start-le ls zero k h = omega arith
+start-le ls (suc j) zero h = absurd (omega arith)
+start-le [] (suc j) (suc k) h = omega arith
+start-le (l ∷ ls) (suc j) (suc k) h = omega (arith, start-le ls j k (omega arith))
+
+-- records stand where they say, in their order
+stands : {base : ℕ} {s n : Text} {i k a : ℕ} → Records base s n i k a → take (length n) (drop i s) ≡ n
+unfolding cutAt
+stands {base} {s} {i = i} r =
+    let q = apart base s r in
+    let l = texts-at (eqb 10) s (q .index) (q .text) (q .is) in
+    at-take (at-in i (sym (q .starts)) (rising-in (names-rise (q .text)) (q .named) .0) l)
+
+by-lines : {base : ℕ} {s n n′ : Text} {i i′ k k′ a a′ : ℕ} → Records base s n i k a → Records base s n′ i′ k′ a′ → k < k′ → i < i′
+by-lines {base} {s} r r′ h =
+    let q = apart base s r in
+    let q′ = apart base s r′ in
+    let b = rising-in (names-rise (q .text)) (q .named) .1 in
+    let u = start-next (cutAt 10 s) (q .index) (q .text) (q .is) in
+    let v = start-le (cutAt 10 s) (suc (q .index)) (q′ .index) (omega (arith, q .number, q′ .number)) in
+    omega (arith, q .starts, q′ .starts)
+
+on-line : {l : Text} {e b : ℕ} {m m′ : Name} → Rising l e b (m ∷ m′ ∷ []) → m .start < m′ .start
+on-line (next h a (next k c r)) = k
+
+pub records-stand : RecordsStand
+records-stand = record { text = stands; lines = by-lines; names = λ l m m′ e. on-line (rw e at (names-rise l)) }
