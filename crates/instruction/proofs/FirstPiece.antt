@@ -255,7 +255,7 @@ module _ (t : Text) (a n : ℕ) (p : a ≡ leading t) (q : n ≡ a + until endsN
         let r : run (drop n t) ≡ suc (run s) = rw c (until-later blank 46 s refl) in
         head-by e (omega arith)
 
--- ---- the suffix, behind the first dot of a piece w
+-- ---- the suffix, after the first dot of a piece w
 -- a cut has a first text
 nth-zero : (t : Text) → nth 0 (cutAt 46 t) ≡ some (firstText (cutAt 46 t))
 unfolding cutAt nth firstText

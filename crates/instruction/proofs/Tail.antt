@@ -14,8 +14,10 @@ use Rattle.text.specs.declared.Span.{Span}
 use Rattle.text.proofs.Until.{cut-here, cut-later}
 use Rattle.text.proofs.Pieces.{Next, next-start, next-some, next-none}
 use Rattle.text.specs.Spans.{part}
-use Rattle.instruction.specs.Tail.{overFrom, space, spaced}
-use Rattle.instruction.proofs.Lists.{take-over-from, drop-over-from, length-over-from, over-none, over-one, over-after}
+use Rattle.text.specs.Spans.{overFrom}
+use Rattle.instruction.specs.Tail.{space, spaced}
+use Rattle.text.proofs.Over.{put-front, set-put, put-nil, length-put}
+use Rattle.instruction.proofs.Lists.{take-over-from, drop-over-from, over-after}
 
 -- ---- joined pieces are no longer than the text
 joinMore-onFirst : (b : ℕ) (ps : List Text) → 0 < length ps → length (joinMore (onFirst b ps)) ≡ suc (length (joinMore ps))
@@ -75,7 +77,7 @@ module _ {p old : Text} {n i : ℕ} {out : Text} (inv : Copied p old n i out) wh
       }
 
   pub copied-all : length p ≤ i → out ≡ overFrom n p old
-  copied-all h = let e : i ≡ length p = omega (arith, inv .upto) in inv .so-far ∙ rw (e, take-length p)
+  copied-all h = let e : i ≡ length p = omega (arith, inv .upto) in inv .so-far ∙ rw (e, take-length p) (sym (put-front n (n + length p) p old refl (omega (arith, inv .room))))
 
 -- ---- `put_space` and `add_piece`
 pub space-zero : (n : ℕ) → n ≡ 0 → 0 ≡ n + length (space n)
@@ -83,7 +85,7 @@ space-zero zero e = refl
 space-zero (suc n) e = absurd (omega arith)
 
 pub space-none : (n : ℕ) (old : Text) → n ≡ 0 → old ≡ overFrom n (space n) old
-space-none zero old e = sym (over-none 0 old)
+space-none zero old e = sym (put-nil 0 old)
 space-none (suc n) old e = absurd (omega arith)
 
 pub space-length : (n : ℕ) → (n ≡ 0 → ⊥) → n + 1 ≡ n + length (space n)
@@ -92,7 +94,7 @@ space-length (suc n) d = refl
 
 pub space-put : (n : ℕ) (old : Text) → (n ≡ 0 → ⊥) → n < length old → set old n 32 ≡ overFrom n (space n) old
 space-put zero old d h = absurd (d refl)
-space-put (suc n) old d h = over-one (suc n) 32 old h
+space-put (suc n) old d h = set-put (suc n) 32 old h
 
 module _ (p old : Text) (n : ℕ) (h : (0 < length p) × (n + length (spaced n p) ≤ length old)) where
   spaced-length : length (spaced n p) ≡ length (space n) + length p
@@ -108,7 +110,7 @@ module _ (p old : Text) (n : ℕ) (h : (0 < length p) × (n + length (spaced n p
 
     module _ {l : Text} (q : l ≡ overFrom n (space n) old) where
       pub adding-asks : m + length p ≤ length l
-      adding-asks = omega (arith, spaced-length, ap length q, length-over-from n (space n) old (omega (arith, spaced-length)))
+      adding-asks = omega (arith, spaced-length, ap length q, length-put n (space n) old (omega (arith, spaced-length)))
 
       pub adding-whole : {k : Text} → k ≡ overFrom m p l → k ≡ overFrom n (spaced n p) old
       adding-whole r = r ∙ rw (e, q) (over-after n (space n) p old (omega (arith, spaced-length)))
@@ -211,8 +213,8 @@ module _ {t : Text} {at : ℕ} {old : Text} {i n : ℕ} {out : Text} (inv : Join
         rw (p, q) (record {
           upto = next .within;
           fits = inv .fits;
-          room = omega (arith, length-over-from n new out enough, enough);
-          long = length-over-from n new out enough ∙ inv .long;
+          room = omega (arith, length-put n new out enough, enough);
+          long = length-put n new out enough ∙ inv .long;
           front = rw (take-over-from n new out enough, more-some (n + length new) (pieces (drop (r .end) t)) positive) (append-assoc (take n out) new _ ∙ front-new);
           past = drop-over-from n new out enough ∙ sym (drop-drop (length new) n out) ∙ ap (drop (length new)) (inv .past) ∙ drop-drop (length new) n old;
         })

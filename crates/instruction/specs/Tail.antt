@@ -4,10 +4,6 @@ use mathlib.Core.List.{[], _∷_, _++_}
 use lib.ListN.{length, take, drop}
 use Rattle.rules.specs.Text.{Text}
 
--- a text put over the places of a slice from n on
-abbrev pub overFrom : ℕ → Text → Text → Text
-overFrom n new old = take n old ++ new ++ drop (n + length new) old
-
 -- the space after n bytes: none where nothing is written yet
 abbrev pub space : ℕ → Text
 space zero = []

@@ -80,7 +80,7 @@ module _ {source : Text} {cells : List ℕ} {count : ℕ} {name : Text} where
     pub left-none : k ≡ 0 → Nothing ≡ foundOf (rowOf name (tableOf source cells count))
     left-none z = row-none source cells count name (λ j b. inv .above j (omega arith) b)
 
-    -- behind row r, which does not bear the name
+    -- after row r, which does not bear the name
     module _ {r : ℕ} (f : k ≡ suc r) (d : name ≡ nameAt source cells r → ⊥) where
       passed : (j : ℕ) → (j < r → ⊥) → j < count → (y : Bool) → eqb j r ≡ y → name ≡ nameAt source cells j → ⊥
       passed j a b true e n = let z : j ≡ r = eqb-true j r e in d (rw z at n)

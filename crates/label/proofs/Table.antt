@@ -67,7 +67,7 @@ module _ (cells : List ℕ) (k s l a : ℕ) where
   pub length-withRow : length after ≡ length cells
   length-withRow = simp length-set
 
-  -- behind the first n rows
+  -- after the first n rows
   pub drop-withRow : (n : ℕ) → k < n → drop (cellOf n) after ≡ drop (cellOf n) cells
   drop-withRow n h =
       drop-set-lt (cellOf n) two (cellOf k + 2) a (omega arith) ∙ drop-set-lt (cellOf n) one (cellOf k + 1) l (omega arith) ∙ drop-set-lt (cellOf n) cells (cellOf k) s (omega arith)

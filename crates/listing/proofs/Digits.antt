@@ -9,8 +9,9 @@ use native.Mathlib.Omega.{arith}
 use borrow.Author.Tests.{lt-ltb, le-ltb, ltb-true, ltb-false}
 use lib.Dec.{ltb}
 use lib.ListN.{length, set, length-append, length-set}
-use Rattle.listing.specs.Listing.{digitByte, digitsOf, decimalPlacesBy, decimalPlaces, decimal, overFrom}
-use Rattle.listing.proofs.Put.{put-last, put-nil}
+use Rattle.listing.specs.Listing.{digitByte, digitsOf, decimalPlacesBy, decimalPlaces, decimal}
+use Rattle.text.specs.Spans.{overFrom}
+use Rattle.text.proofs.Over.{put-last, put-nil}
 
 pub length-digits : (base k n : ℕ) → length (digitsOf base k n) ≡ k
 unfolding digitsOf
@@ -102,7 +103,7 @@ some-place (suc steps) n = go (ltb n 10) refl
     go true e = rw (by-small (suc steps) n e) (le-refl 1)
     go false e = rw (by-large steps n e) (omega arith)
 
--- the loop that counts them: count places stand behind those of rest, but for one
+-- the loop that counts them: count places stand after those of rest, but for one
 pub record Dividing (n count rest : ℕ) : Type 0 where
   pub few : decimalPlaces n ≤ 20
   pub same : decimalPlaces n + 1 ≡ decimalPlaces rest + count

@@ -13,10 +13,11 @@ use lib.Seq.{drop-drop, getD-drop, take-all}
 use Rattle.rules.specs.Text.{Text, starts}
 use Rattle.rules.specs.Assemble.{Place, over}
 use Rattle.text.proofs.Compare.{starts-equal, starts-unequal, starts-short}
-use Rattle.listing.specs.Listing.{place, digitsOf, markByte, placeText, overFrom}
+use Rattle.listing.specs.Listing.{place, digitsOf, markByte, placeText}
+use Rattle.text.specs.Spans.{overFrom}
 use Rattle.listing.specs.Reading.{hexIn, markIn, placeIn, isLine, readLines, readList}
 use Rattle.listing.specs.declared.reading.Parsed.the-variants.{Count, Bad}
-use Rattle.listing.proofs.Put.{put-both, put-one, put-nil, put-over, length-put}
+use Rattle.text.proofs.Over.{put-both, put-one, put-nil, put-over, length-put}
 use Rattle.listing.proofs.Digits.{length-digits}
 
 -- a line is 16 bytes

@@ -6,8 +6,9 @@ use native.Mathlib.Omega.{arith}
 use lib.ListN.{length, set, length-append, length-set}
 use Rattle.rules.specs.Text.{Text, bytes}
 use Rattle.rules.specs.Assemble.{over}
-use Rattle.listing.specs.Listing.{decimal, refusedText, overFrom}
-use Rattle.listing.proofs.Put.{put-both, put-one, put-nil, put-over, length-put}
+use Rattle.listing.specs.Listing.{decimal, refusedText}
+use Rattle.text.specs.Spans.{overFrom}
+use Rattle.text.proofs.Over.{put-both, put-one, put-nil, put-over, length-put}
 
 -- the line with its two numbers as texts, m the first and n the second
 module _ (m n : Text) where

@@ -81,7 +81,7 @@ pub printable : (t : Text) → Printable (placeIn t)
 unfolding placeIn
 printable t = record { address = number-small 8 t; word = number-small 4 (drop 9 t); mark = mark-small (getD t 14 0) }
 
--- a text that begins with a line is that line and what stands behind it
+-- a text that begins with a line is that line and what stands after it
 pub line-split : (t : Text) → isLine t ≡ true → placeText (placeIn t) ++ drop 16 t ≡ t
 unfolding isLine
 line-split t e = rw (length-place (placeIn t)) at (starts-split (placeText (placeIn t)) t e)

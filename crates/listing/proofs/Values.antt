@@ -110,7 +110,7 @@ number-grows i (suc k) v (b ∷ t) h =
 pub number-small : (k : ℕ) (t : Text) → hexIn 0 (take k t) < 16 ^ k
 number-small k t = let zeros : 0 + k ≡ k = omega arith in rw zeros at (number-grows 0 k 0 t (omega arith))
 
--- ---- the loop: what is left to read, behind the value so far, reads as the whole
+-- ---- the loop: what is left to read, after the value so far, reads as the whole
 pub record Reading (t : Text) (start count v i : ℕ) : Type 0 where
   pub upto : i ≤ count
   pub small : v < 16 ^ i

@@ -49,7 +49,3 @@ listText l = flatMap placeText l
 -- "the one line `refused`, number, place, both in decimal"
 unfoldable pub refusedText : ℕ → ℕ → Text
 refusedText number place = bytes "refused " ++ (decimal number ++ (32 ∷ (decimal place ++ (10 ∷ []))))
-
--- a list put into another, from an index on
-unfoldable pub overFrom : ℕ → List ℕ → List ℕ → List ℕ
-overFrom i new old = take i old ++ (new ++ drop (i + length new) old)

@@ -15,7 +15,7 @@ use Rattle.listing.specs.declared.reading.Parsed.the-variants.{Count, Ba
 unfoldable pub digitIn : ℕ → ℕ
 digitIn b = cond (leb 48 b && leb b 57) (b - 48) (cond (leb 65 b && leb b 70) (b - 55) 0)
 
--- the value of hexadecimal digits behind the value so far
+-- the value of hexadecimal digits after the value so far
 unfoldable pub hexIn : ℕ → Text → ℕ
 hexIn v [] = v
 hexIn v (b ∷ s) = hexIn (v * 16 + digitIn b) s

@@ -4,7 +4,8 @@ ghost use Prim.Native.Nat.{_+_, _*_, _<_, _≤_};
 ghost use lib.ListN.{length};
 ghost use Rattle.rules.specs.Assemble.{over};
 ghost use Rattle.rules.specs.Tally.{listIn};
-ghost use Rattle.listing.specs.Listing.{place, digitByte, digitsOf, decimalPlaces, decimal, markByte, placeText, listText, refusedText, overFrom};
+ghost use Rattle.listing.specs.Listing.{place, digitByte, digitsOf, decimalPlaces, decimal, markByte, placeText, listText, refusedText};
+ghost use Rattle.text.specs.Spans.{overFrom};
 
 // The bytes that a line takes.
 pub const LINE: usize = 16;
@@ -95,7 +96,7 @@ fn decimal_places(n: u64) -> usize
     count
 }
 
-// Puts a number in decimal at an index, and answers the index behind it.
+// Puts a number in decimal at an index, and answers the index after it.
 pub fn write_decimal(out: &mut [u8], at: usize, n: u64) -> usize
     requires { ⌜ at + 20 ≤ length (now out) ⌝ }
     ensures { λ r. ⌜ (r ≡ at + length (decimal n)) × (r ≤ at + 20) × (now (out .exit) ≡ overFrom at (decimal n) (now (out .entry))) ⌝ }

@@ -83,7 +83,7 @@ signed-bound radix bound (b ∷ s) z e = go (eqb b 45) (someDigits radix s) (som
     go true o q e = minus o e
     go false o q e = plus q e
 
--- what holds of each number read holds behind a prefix and behind `#`
+-- what holds of each number read holds after a prefix and after `#`
 module _ {A : Type 0} (P : A → Type 0) (v : A) where
   pub by-prefix-some : (read : ℕ → Text → Option A) → ((r : ℕ) (s : Text) → read r s ≡ some v → P v) → (t : Text) → byPrefix read t ≡ some v → P v
   unfolding byPrefix

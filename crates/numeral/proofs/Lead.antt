@@ -63,7 +63,7 @@ outside bound v e = go (ltb v bound) refl e
     go true f e = missing (sym e)
     go false f e = ltb-false v bound f
 
--- -bound to bound - 1: behind a minus sign the digits stay below bound + 1, else below bound
+-- -bound to bound - 1: after a minus sign the digits stay below bound + 1, else below bound
 module _ (bound : ℕ) where
   in-reach : (v : ℕ) → 0 < bound → v < suc bound → within bound (negℤ (pos v)) ≡ some (negℤ (pos v))
   unfolding within

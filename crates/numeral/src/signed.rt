@@ -50,7 +50,7 @@ pub fn read_signed(t: &[u8], radix: u32) -> Signed
     Signed::Value(v as i8)
 }
 
-// Hexadecimal behind a prefix, else decimal.
+// Hexadecimal after a prefix, else decimal.
 fn read_signed_prefixed(t: &[u8]) -> Signed
     ensures { λ r. ⌜ r ≡ signedOf (byPrefix (λ x s. signed x 128 s) (now (t .entry))) ⌝ }
 {

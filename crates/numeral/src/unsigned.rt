@@ -1,4 +1,4 @@
-// Unsigned numbers: digits below a bound, with a plus sign, behind a prefix, as an immediate.
+// Unsigned numbers: digits below a bound, with a plus sign, after a prefix, as an immediate.
 ghost use mathlib.Core.Path.{_≡_};
 ghost use mathlib.Core.Bool.{_||_};
 ghost use Prim.Native.Nat.{_≤_, _^_};
@@ -40,7 +40,7 @@ pub fn read_digits(t: &[u8], radix: u32, bound: u64) -> Number
     Number::Value(v as u32)
 }
 
-// The same behind an optional plus sign.
+// The same after an optional plus sign.
 pub fn read_number(t: &[u8], radix: u32, bound: u64) -> Number
     requires { ⌜ (radix ≤ 16) × (bound ≤ 2 ^ 32) ⌝ }
     ensures { λ r. ⌜ r ≡ numberOf (number radix bound (now (t .entry))) ⌝ }
@@ -76,7 +76,7 @@ pub fn prefix_length(t: &[u8]) -> usize
     2
 }
 
-// Hexadecimal behind a prefix, else decimal.
+// Hexadecimal after a prefix, else decimal.
 fn read_prefixed(t: &[u8], bound: u64) -> Number
     requires { ⌜ bound ≤ 2 ^ 32 ⌝ }
     ensures { λ r. ⌜ r ≡ numberOf (byPrefix (λ x s. number x bound s) (now (t .entry))) ⌝ }

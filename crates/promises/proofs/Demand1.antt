@@ -60,7 +60,7 @@ unmoved x count d n p e = rw e
 pub refusal-changes-nothing : RefusalChangesNothing
 refusal-changes-nothing = record { assembling = unwritten; moving = unmoved }
 
--- a list put over slices is held there, and nothing behind it changes
+-- a list put over slices is held there, and nothing after it changes
 held-over : (l : List Place) (xs ws ms : List ℕ)
     → listIn (length l) (map (λ p. p .address) l ++ xs) (map (λ p. p .word) l ++ ws) (map (λ p. p .mark) l ++ ms) ≡ l
 unfolding listIn
@@ -82,7 +82,7 @@ written l x = (
   },
 )
 
--- a move writes nothing behind the moved places
+-- a move writes nothing after the moved places
 module _ (d : ℤ) where
   past-addresses : (n : ℕ) (xs : List ℕ) → drop n (moveAddresses d n xs) ≡ drop n xs
   unfolding moveAddresses

@@ -41,7 +41,7 @@ module _ (f : ℕ → Bool) (Q : ℕ → Type 0) (yes : (x : ℕ) → f x ≡ tr
       go true e h = rw (e, firstIndex)
       go false e h = rw (e, firstIndex) h
 
-  -- a search that goes on behind a number that does not pass
+  -- a search that goes on after a number that does not pass
   behind : (x : ℕ) (xs : List ℕ) (n : ℕ) (o : Option ℕ) → ¬ Q x → Found (λ i. Q (getD xs i 0)) n o → Found (λ i. Q (getD (x ∷ xs) i 0)) (suc n) (later o)
   unfolding later
   behind x xs n (some p) d (found h) = found {p = suc p} (record { inside = omega (arith, h .inside); holds = h .holds; lowest = go })

@@ -189,7 +189,7 @@ pub displaced-byte : {ls : Table} {a : ℕ} {s : Text} {z : ℤ} → Displaced l
 displaced-byte (label r) = r .near
 displaced-byte {s = s} (signedNumber away e) = all-some InByte (signed-number-byte s) e
 
--- a branch of another displacement than 0 has no word behind
+-- a branch of another displacement than 0 has no word after
 pub no-word : (z : ℤ) → (z ≡ pos 0 → ⊥) → displacementWord z ≡ []
 unfolding displacementWord
 no-word (pos zero) h = absurd (h refl)

@@ -64,7 +64,7 @@ three-is (negsuc n) h =
     (rest-of (2 ^ 16 - suc n) 8 (8191 - n / 8) (8 - suc (n % 8)) (omega (arith, mod-lt n {m = 8} (omega arith)))
     (omega (arith, mod-lt n {m = 8} (omega arith), div-add-mod' n 8)))
 
--- the low byte behind fields that leave it free
+-- the low byte after fields that leave it free
 pub low-byte : (base : ℕ) (z : ℤ) → Small z → base % 256 ≡ 0 → (base or (i8-as-u16 z and 0xFF)) ≡ base + modulo 256 z
 low-byte base z h e =
     rw (and-mask (i8-as-u16 z) 8)

@@ -68,7 +68,7 @@ start-is (b ∷ s) = go (blank b) refl (start-is s)
     go true e ih = rw (e, trim-start, trimStart) ih
     go false e ih = rw (e, trim-start, trimStart)
 
--- b behind s, unless b is a blank and nothing stands before it
+-- b after s, unless b is a blank and nothing stands before it
 keepLast : Text → ℕ → Text
 keepLast [] b = cond (blank b) [] (b ∷ [])
 keepLast (c ∷ s) b = (c ∷ s) ++ (b ∷ [])

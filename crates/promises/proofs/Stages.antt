@@ -138,14 +138,14 @@ ahead-of : {m n : ℕ} {ns : List ℕ} → Ahead m n ns → OneOf n ns
 ahead-of (ahead e i) = there i
 ahead-of (behind a) = there (ahead-of a)
 
--- what is checked behind something is checked
+-- what is checked after something is checked
 behind-checked : {m q n p : ℕ} {ss : List Stage} → CheckedBefore m q n p ss → Checked n ss
 behind-checked (by-stage i c) = after c
 behind-checked (by-line i j h) = at-once j
 behind-checked (on-line a e) = at-once (ahead-of a)
 behind-checked (further-on b) = after (behind-checked b)
 
--- what is checked is so with more stages behind
+-- what is checked is so with more stages after
 pub still-checked : {n : ℕ} {ss : List Stage} (ss′ : List Stage) → Checked n ss → Checked n (ss ++ ss′)
 still-checked ss′ (at-once i) = at-once i
 still-checked ss′ (after c) = after (still-checked ss′ c)

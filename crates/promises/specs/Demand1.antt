@@ -30,7 +30,7 @@ unfoldable pub lineCount : Text → ℕ
 lineCount [] = 1
 lineCount (b ∷ s) = cond (eqb 10 b) (suc (lineCount s)) (lineCount s)
 
--- the line behind the first j ones is l
+-- the line after the first j ones is l
 abbrev pub IsLine : Text → ℕ → Text → Type 0
 IsLine s j l = getElem? (cutAt 10 s) j ≡ some l
 

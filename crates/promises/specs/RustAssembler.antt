@@ -433,14 +433,14 @@ handle-instruction instruction s =
       current-address = add-u32 (s .current-address) (instruction .size);
     }
 
--- the loop's body behind the labels
+-- the loop's body after the labels
 unfoldable pub handle-rest : Text → State → State
 handle-rest line s =
     cond (contains (to-uppercase line) (bytes "DC.") || contains (to-uppercase line) (bytes "DS."))
     (handle-directive (parse-data-directive-with-value line) s)
     (handle-instruction (parse-instruction line (s .current-address)) s)
 
--- "Handle labels", and what stands behind them
+-- "Handle labels", and what stands after them
 unfoldable pub handle-label : List Text → State → State
 handle-label parts s =
     let label-name = trim (at parts 0) in
@@ -466,7 +466,7 @@ unfoldable pub first-pass : List Text → State → State
 first-pass [] s = s
 first-pass (line ∷ lines) s = elim (body line s) [ continue s′ ↦ first-pass lines s′ | break s′ ↦ s′ ]
 
--- a data value's two words, behind the machine code so far
+-- a data value's two words, after the machine code so far
 unfoldable pub push-data : List (ℕ × ℕ) → ℕ × ℕ → List (ℕ × ℕ)
 push-data machine-code d =
     push (push machine-code (d .0, as-u16 (shr (d .1) 16))) (add-u32 (d .0) 2, as-u16 (d .1 and 0xFFFF))
@@ -476,7 +476,7 @@ unfoldable pub push-ext : List (ℕ × ℕ) → ℕ → Option ℕ → List (ℕ
 push-ext machine-code address none = machine-code
 push-ext machine-code address (some ext) = push machine-code (add-u32 address 2, ext)
 
--- an instruction's words, behind the machine code so far
+-- an instruction's words, after the machine code so far
 unfoldable pub push-code : List (ℕ × ℕ) → ℕ → Option Code → List (ℕ × ℕ)
 push-code machine-code address none = machine-code
 push-code machine-code address (some c) = push-ext (push machine-code (address, c .0)) address (c .1)

@@ -11,7 +11,7 @@ use lib.Signed.{leZ}
 use Rattle.rules.specs.Text.{Text, bytes}
 
 -- `?` and `if let Some(x) = o { .. }`: what follows where o is there. A block of `if`s that ends in `return` comes to
--- what it returns, or to none where control falls through to what stands behind it
+-- what it returns, or to none where control falls through to what stands after it
 infixr 20 _>>=_
 abbrev pub _>>=_ : {A B : Type 0} → Option A → (A → Option B) → Option B
 _>>=_ o f = bind o f
@@ -149,7 +149,7 @@ digit c =
 unfoldable pub to-digit : ℕ → ℕ → Option ℕ
 to-digit c radix = do d ← digit c; when (ltb d radix) (some d)
 
--- the value of digits behind the value v
+-- the value of digits after the value v
 unfoldable pub digits-from : ℕ → ℕ → Text → Option ℕ
 digits-from radix v [] = some v
 digits-from radix v (c ∷ s) = elim (to-digit c radix) [ none ↦ none | some d ↦ digits-from radix (v * radix + d) s ]

@@ -7,8 +7,9 @@ use native.Mathlib.Omega.{arith}
 use lib.ListN.{length, set, length-append}
 use borrow.Author.Tests.{eq-eqb, ne-eqb}
 use Rattle.rules.specs.Text.{Text, bytes}
-use Rattle.listing.specs.Listing.{decimal, overFrom}
-use Rattle.listing.proofs.Put.{put-both, put-one, put-nil, put-over}
+use Rattle.listing.specs.Listing.{decimal}
+use Rattle.text.specs.Spans.{overFrom}
+use Rattle.text.proofs.Over.{put-both, put-one, put-nil, put-over}
 use Rattle.station.specs.Station.{unlessFailed}
 use Rattle.station.specs.Printed.{Printed}
 use Rattle.station.specs.declared.input.Input.{Input}

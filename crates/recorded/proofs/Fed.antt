@@ -5,7 +5,7 @@ use mathlib.Core.List.{List, [], _∷_}
 use lib.ListN.{length, take, drop, getD, set, drop-of-length-le}
 use borrow.Author.Tests.{lt-ltb, le-ltb}
 use Rattle.rules.specs.Text.{Text}
-use Rattle.listing.proofs.Put.{drop-more}
+use Rattle.text.proofs.Over.{drop-more}
 use Rattle.recorded.specs.Replay.{verdictIn, verdictBy, sizeBy, countedBy, Replay, replay, took, tookByte, fed, ChunksJoin}
 use Rattle.recorded.specs.declared.Verdict.{Verdict}
 use Rattle.recorded.specs.declared.Verdict.the-variants.{Differs}

@@ -7,7 +7,7 @@ use lib.ListN.{length, drop, set}
 use lib.Seq.{drop-drop}
 use Rattle.rules.specs.Text.{Text}
 use Rattle.rules.specs.Assemble.{Place, over}
-use Rattle.listing.proofs.Put.{Putting, putting-start, putting-one, putting-end, put-over}
+use Rattle.text.proofs.Over.{Putting, putting-start, putting-one, putting-end, put-over}
 use Rattle.recorded.specs.Recorded.{numberAt, rowIn, rowsIn}
 
 -- a part f of each place, from row i on

@@ -14,7 +14,7 @@ digitValue b =
     (cond (leb 65 b && leb b 70) (b - 55)
     (cond (leb 97 b && leb b 102) (b - 87) 255))
 
--- the value of the digits, each below the radix, behind the value so far
+-- the value of the digits, each below the radix, after the value so far
 unfoldable pub digits : ℕ → ℕ → Text → Option ℕ
 digits radix v [] = some v
 digits radix v (b ∷ s) = elim (ltb (digitValue b) radix) [ true ↦ digits radix (v * radix + digitValue b) s | false ↦ none ]
@@ -61,7 +61,7 @@ signed radix bound (b ∷ s) =
 unfoldable pub hexTail : Text → Option Text
 hexTail s = elim (after (bytes "$") s) [ none ↦ after (bytes "0x") s | some t ↦ some t ]
 
--- a reader used with radix 16 behind a prefix, "else decimal"
+-- a reader used with radix 16 after a prefix, "else decimal"
 unfoldable pub byPrefix : {A : Type 0} → (ℕ → Text → Option A) → Text → Option A
 byPrefix read s = elim (hexTail s) [ none ↦ read 10 s | some t ↦ read 16 t ]
 

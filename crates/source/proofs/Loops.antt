@@ -34,7 +34,7 @@ module _ (s : Text) (i : ℕ) (inv : Plain s i) where
     unfolding firstHigh
     plain-more b = record { within = omega arith; same = rw (add-one i) (rw (drop-cons s i 0 h, le-ltb 127 (getD s i 0) b, firstHigh) at (inv .same)) }
 
--- n lines lie before i and those behind are still to be counted
+-- n lines lie before i and those after are still to be counted
 pub record Counted (s : Text) (n i : ℕ) : Type 0 where
   pub within : i ≤ length s
   pub few : n ≤ i + 1

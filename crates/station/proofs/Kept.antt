@@ -10,8 +10,8 @@ use lib.ListN.{length, take, drop, length-append, length-take}
 use lib.Seq.{take-nil, take-all, take-at, take-append-le, take-append-add, length-take-le, drop-length}
 use borrow.Author.Tests.{leb-true, leb-false, lt-ltb}
 use Rattle.rules.specs.Text.{Text}
-use Rattle.listing.specs.Listing.{overFrom}
-use Rattle.listing.proofs.Put.{put-nil, length-put}
+use Rattle.text.specs.Spans.{overFrom}
+use Rattle.text.proofs.Over.{put-nil, length-put}
 use Rattle.station.specs.Reads.{afterRead, kept, Reads, ReadsOn}
 use Rattle.station.specs.declared.input.Input.{Input}
 

@@ -5,8 +5,8 @@ use mathlib.Core.List.{_++_}
 use native.Mathlib.Omega.{arith}
 use lib.ListN.{length, take, length-append, length-take}
 use Rattle.rules.specs.Text.{Text}
-use Rattle.listing.specs.Listing.{overFrom}
-use Rattle.listing.proofs.Put.{put-both, put-over}
+use Rattle.text.specs.Spans.{overFrom}
+use Rattle.text.proofs.Over.{put-both, put-over}
 use Rattle.station.specs.Printed.{Printed}
 use Rattle.station.proofs.Printed.{printed}
 use Rattle.station.proofs.Kept.{take-lesser}

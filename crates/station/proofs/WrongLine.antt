@@ -5,8 +5,9 @@ use mathlib.Core.List.{[], _∷_, _++_}
 use native.Mathlib.Omega.{arith}
 use lib.ListN.{length, set, length-append}
 use Rattle.rules.specs.Text.{Text, bytes}
-use Rattle.listing.specs.Listing.{decimal, overFrom}
-use Rattle.listing.proofs.Put.{put-both, put-one, put-nil, put-over, length-put}
+use Rattle.listing.specs.Listing.{decimal}
+use Rattle.text.specs.Spans.{overFrom}
+use Rattle.text.proofs.Over.{put-both, put-one, put-nil, put-over, length-put}
 use Rattle.station.specs.Station.{wrongLineText}
 use Rattle.station.specs.Printed.{Printed}
 use Rattle.station.proofs.Printed.{printed}

@@ -7,7 +7,7 @@ use lib.IntN.{ℤ, pos, negsuc}
 use lib.Dec.{ltb}
 use lib.ListN.{length, take}
 use Rattle.rules.specs.Text.{Text}
-use Rattle.listing.specs.Listing.{overFrom}
+use Rattle.text.specs.Spans.{overFrom}
 use Rattle.station.specs.declared.input.Input.{Input}
 
 abbrev pub atStart : Input

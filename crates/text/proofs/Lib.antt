@@ -7,3 +7,4 @@ pub mod Find
 pub mod Pieces
 pub mod Joined
 pub mod Spans
+pub mod Over

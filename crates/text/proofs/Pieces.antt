@@ -32,7 +32,7 @@ unfolding dropEmpty
 dropEmpty-keep [] ps h = absurd (omega arith)
 dropEmpty-keep (b ∷ p) ps h = refl
 
--- behind a first piece stands a blank or nothing, so that the cut there starts with an empty text
+-- after a first piece stands a blank or nothing, so that the cut there starts with an empty text
 pieces-rest : (t : Text) → pieces (drop (run t) t) ≡ dropEmpty (otherTexts (cutWhere blank (drop (run t) t)))
 unfolding pieces dropEmpty
 pieces-rest t = ap dropEmpty (rw (until-rest blank t) at (cut-first blank (drop (run t) t)))

@@ -40,7 +40,7 @@ module _ (f : ℕ → Bool) where
       go true e ih = omega (arith, until-here b s e)
       go false e ih = omega (arith, until-later b s e)
 
-  -- behind them stands a byte that passes, or nothing
+  -- after them stands a byte that passes, or nothing
   pub until-rest : (t : Text) → until f (drop (until f t) t) ≡ 0
   unfolding until
   until-rest [] = refl
@@ -50,7 +50,7 @@ module _ (f : ℕ → Bool) where
       go true e ih = rw (until-here b s e) (until-here b s e)
       go false e ih = rw (until-later b s e) ih
 
-  -- they are the first text of the cut, and the others are those of what is behind them
+  -- they are the first text of the cut, and the others are those of what is after them
   pub cut-first : (t : Text) → cutWhere f t ≡ take (until f t) t ∷ otherTexts (cutWhere f (drop (until f t) t))
   unfolding until cutWhere otherTexts onFirst
   cut-first [] = refl

@@ -1,5 +1,6 @@
 -- Parts of a text by position: from a to before e. Assumes nothing.
-use Prim.Native.Nat.{ℕ, _-_, _≤_}
+use Prim.Native.Nat.{ℕ, _+_, _-_, _≤_}
+use mathlib.Core.List.{List, _++_}
 use lib.ListN.{length, take, drop}
 use Rattle.rules.specs.Text.{Text}
 use Rattle.text.specs.declared.Span.{Span}
@@ -18,3 +19,7 @@ pub record PartIn (t : Text) (a e : ℕ) : Type 0 where
 
 abbrev pub SpanIn : Text → Span → Type 0
 SpanIn t s = PartIn t (s .start) (s .end)
+
+-- a text put over another from position n on
+unfoldable pub overFrom : ℕ → List ℕ → List ℕ → List ℕ
+overFrom n new old = take n old ++ (new ++ drop (n + length new) old)

@@ -10,7 +10,7 @@ use Rattle.relocate.proofs.Verdict.{Cleared, passed, moved, kept}
 use Rattle.relocate.proofs.relocate.Statement.{statement}
 use Rattle.relocate.proofs.relocate.Tie as tie
 
--- the entry, seen from behind the verdict, and from an accepted one
+-- the entry, seen from after the verdict, and from an accepted one
 abbrev entry : tie.After-judge → tie.Start
 entry c = c .before .before .before .before .before .before
 

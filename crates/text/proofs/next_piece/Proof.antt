@@ -1,4 +1,4 @@
--- `next_piece` steps over blanks, and over the piece behind them. Assumes nothing.
+-- `next_piece` steps over blanks, and over the piece after them. Assumes nothing.
 use borrow.Author.Needs.{needs}
 use Rattle.text.proofs.Pieces.{next-within}
 use Rattle.text.proofs.next_piece.Statement.{statement}

@@ -17,7 +17,7 @@ use Rattle.listing.proofs.distance.parse_distance.Tie as tie
 abbrev bound : ℕ
 bound = 2 ^ 31
 
--- the digits behind a minus sign, and those of the whole text
+-- the digits after a minus sign, and those of the whole text
 abbrev behind : tie.After-read-digits → Option ℕ
 behind c = someDigits 10 (tail (c .before .before .before .before .before .before .args .t .now))
 

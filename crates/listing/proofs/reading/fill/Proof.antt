@@ -7,7 +7,7 @@ use borrow.Author.Needs.{needs}
 use Rattle.rules.specs.Text.{Text}
 use Rattle.rules.specs.Assemble.{Place, holding, over}
 use Rattle.listing.specs.Reading.{placesIn}
-use Rattle.listing.proofs.Put.{Putting, putting-start, putting-one, putting-end, put-over}
+use Rattle.text.proofs.Over.{Putting, putting-start, putting-one, putting-end, put-over}
 use Rattle.listing.proofs.Places.{shownFrom, shown-start, shown-more, shown-end}
 use Rattle.listing.proofs.Lines.{placed}
 use Rattle.listing.proofs.reading.fill.Statement.{statement}

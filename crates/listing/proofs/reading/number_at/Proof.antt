@@ -1,4 +1,4 @@
--- `number_at` meets its contract: what is left to read, behind the value so far, reads as the whole. Assumes nothing.
+-- `number_at` meets its contract: what is left to read, after the value so far, reads as the whole. Assumes nothing.
 use Prim.Native.Nat.{_-_}
 use native.Mathlib.Omega.{arith}
 use borrow.Author.Needs.{needs}

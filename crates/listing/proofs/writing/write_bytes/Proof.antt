@@ -4,7 +4,7 @@ use mathlib.Core.Path.{refl}
 use native.Mathlib.Omega.{arith}
 use lib.ListN.{length, drop, drop-of-length-le}
 use borrow.Author.Needs.{needs}
-use Rattle.listing.proofs.Put.{Putting, putting-start, putting-one, putting-end, drop-more}
+use Rattle.text.proofs.Over.{Putting, putting-start, putting-one, putting-end, drop-more}
 use Rattle.listing.proofs.writing.write_bytes.Statement.{statement}
 use Rattle.listing.proofs.writing.write_bytes.Tie as tie
 

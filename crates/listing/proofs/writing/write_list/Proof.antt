@@ -5,7 +5,7 @@ use native.Mathlib.Omega.{arith}
 use borrow.Author.Needs.{needs}
 use Rattle.rules.specs.Tally.{listIn}
 use Rattle.listing.specs.Listing.{listText}
-use Rattle.listing.proofs.Put.{Putting, putting-start, putting-part, putting-end, put-over}
+use Rattle.text.proofs.Over.{Putting, putting-start, putting-part, putting-end, put-over}
 use Rattle.listing.proofs.Lines.{next-line}
 use Rattle.listing.proofs.Places.{linesFrom, lines-start, lines-more, lines-end}
 use Rattle.listing.proofs.writing.write_list.Statement.{statement}

@@ -1,4 +1,4 @@
--- `write_refused` meets its contract: the parts of the line are put one behind the other. Assumes nothing.
+-- `write_refused` meets its contract: the parts of the line are put one after the other. Assumes nothing.
 use lib.ListN.{length-set}
 use native.Mathlib.Omega.{arith}
 use borrow.Author.Needs.{needs}

@@ -15,7 +15,7 @@ use borrow.Author.Needs.{needs}
 use Rattle.numeral.proofs.signed.read_signed.Statement.{statement}
 use Rattle.numeral.proofs.signed.read_signed.Tie as tie
 
--- the digits behind a minus sign, and those of the whole text
+-- the digits after a minus sign, and those of the whole text
 abbrev behind : tie.After-read-digits → Option ℕ
 behind c = let a = c .before .before .before .before .before .before .args in someDigits (a .radix) (tail (now (a .t)))
 

@@ -1,4 +1,4 @@
--- `read_digits` meets its contract: what is left to read, behind the value so far, reads as the whole. Assumes nothing.
+-- `read_digits` meets its contract: what is left to read, after the value so far, reads as the whole. Assumes nothing.
 use Prim.Native.Nat.{_*_, _-_, _^_, _≤_}
 use native.Mathlib.Nat.{mul-le-mul}
 use native.Mathlib.Omega.{arith}

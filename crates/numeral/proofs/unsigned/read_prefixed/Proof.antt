@@ -1,4 +1,4 @@
--- `read_prefixed` meets its contract: radix 16 behind a prefix, else 10. Assumes nothing.
+-- `read_prefixed` meets its contract: radix 16 after a prefix, else 10. Assumes nothing.
 use mathlib.Core.Path.{sym, ap, _∙_}
 use native.Mathlib.Omega.{arith}
 use denote.Ref.{now}

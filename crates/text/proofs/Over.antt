@@ -8,32 +8,32 @@ use native.Mathlib.Omega.{arith}
 use lib.ListN.{length, take, drop, getD, set, length-append, length-drop, length-set, take-append-drop}
 use lib.Seq.{length-take-le, take-at, drop-at, drop-drop, set-split, take-set-le, drop-cons}
 use Rattle.rules.specs.Assemble.{over}
-use Rattle.listing.specs.Listing.{overFrom}
+use Rattle.text.specs.Spans.{overFrom}
 
 module _ (i j : ℕ) (a l : List ℕ) (e : j ≡ i + length a) (h : i ≤ length l) where
-  front-length : length (take i l ++ a) ≡ j
+  pub front-length : length (take i l ++ a) ≡ j
   front-length = rw (length-append (take i l) a, length-take-le i l h) (sym e)
 
-  put-front : overFrom i a l ≡ (take i l ++ a) ++ drop j l
+  pub put-front : overFrom i a l ≡ (take i l ++ a) ++ drop j l
   unfolding overFrom
   put-front = rw (append-assoc, e)
 
-  behind-front : (b : List ℕ) → overFrom j b ((take i l ++ a) ++ drop j l) ≡ overFrom i (a ++ b) l
+  after-front : (b : List ℕ) → overFrom j b ((take i l ++ a) ++ drop j l) ≡ overFrom i (a ++ b) l
   unfolding overFrom
-  behind-front b =
+  after-front b =
       rw
       (take-at (take i l ++ a) (drop j l) j front-length, ← (drop-drop (length b) j ((take i l ++ a) ++ drop j l)), drop-at (take i l ++ a) (drop j l) j front-length, drop-drop (length b) j l, length-append a b, e, add-assoc)
       (simp append-assoc)
 
-  -- a, and b behind it
+  -- a, and b after it
   pub put-both : (b : List ℕ) → overFrom i (a ++ b) l ≡ overFrom j b (overFrom i a l)
-  put-both b = sym (ap (overFrom j b) put-front ∙ behind-front b)
+  put-both b = sym (ap (overFrom j b) put-front ∙ after-front b)
 
-set-put : (i v : ℕ) (l : List ℕ) → i < length l → set l i v ≡ overFrom i (v ∷ []) l
+pub set-put : (i v : ℕ) (l : List ℕ) → i < length l → set l i v ≡ overFrom i (v ∷ []) l
 unfolding overFrom
 set-put i v l h = rw (set-split l i v h, add-one i)
 
--- the first one is set, and the others are put behind it
+-- the first one is set, and the others are put after it
 pub put-one : (i j v : ℕ) (s l : List ℕ) → j ≡ i + 1 → i < length l → overFrom i (v ∷ s) l ≡ overFrom j s (set l i v)
 put-one i j v s l e h = put-both i j (v ∷ []) l e (omega arith) s ∙ ap (overFrom j s) (sym (set-put i v l h))
 
