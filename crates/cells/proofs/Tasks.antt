@@ -8,8 +8,8 @@ use lib.ListN.{length}
 use Rattle.rules.specs.Limits.{maxSource}
 use Rattle.rules.specs.Text.{Text, lastText}
 use Rattle.rules.specs.Line.{Instruction as Said, instructionOf, isLong, instructionSize, size}
-use Rattle.rules.specs.Encode.{Cell}
-use Rattle.rules.specs.Assemble.{addressAfter, dataCells, placesAt, dataPlaces}
+use Rattle.rules.specs.Encode.{Content}
+use Rattle.rules.specs.Assemble.{addressAfter, dataContents, placesAt, dataPlaces}
 use Rattle.text.specs.Spans.{spanText}
 use Rattle.line.specs.declared.Task.{Task}
 use Rattle.line.specs.declared.Task.the-variants.{Skipped, End, Org, NoOrg, LabelOnly, Instruction, Value, Space}
@@ -19,8 +19,8 @@ use Rattle.cells.specs.Sizes.{sizeOf}
 use Rattle.cells.specs.declared.Kept.{Kept}
 
 -- ---- data words
-pub data-cells : (source : Text) (t : Task) → dataWords t ≡ length (dataCells (taskAt source t))
-unfolding dataCells
+pub data-cells : (source : Text) (t : Task) → dataWords t ≡ length (dataContents (taskAt source t))
+unfolding dataContents
 data-cells source Skipped = refl
 data-cells source End = refl
 data-cells source (Org v) = refl
@@ -30,7 +30,7 @@ data-cells source (Instruction s) = refl
 data-cells source (Value n v) = refl
 data-cells source (Space n) = refl
 
-places-length : (a : ℕ) (cs : List Cell) → length (placesAt a cs) ≡ length cs
+places-length : (a : ℕ) (cs : List Content) → length (placesAt a cs) ≡ length cs
 unfolding placesAt
 places-length a [] = refl
 places-length a (c ∷ cs) = ap suc (places-length (a + 2) cs)

@@ -7,7 +7,7 @@ use native.Mathlib.Omega.{arith}
 use lib.ListN.{length, length-append}
 use Rattle.rules.specs.Line.{Task, skipped, end, org, noOrg, labelOnly, instruction, value, space}
 use Rattle.rules.specs.Label.{Table}
-use Rattle.rules.specs.Assemble.{Pass, Put, placesAt, dataCells, dataPlaces, codeCellsBy, codeCells, codePlacesBy, codePlaces, secondPassBy, secondPass}
+use Rattle.rules.specs.Assemble.{Pass, Put, placesAt, dataContents, dataPlaces, codeContentsBy, codeContents, codePlacesBy, codePlaces, secondPassBy, secondPass}
 use Rattle.encode.specs.Code.{codeOf, codeLength}
 use Rattle.encode.specs.declared.Code.{Code}
 use Rattle.encode.specs.declared.Code.the-variants.{Nothing, Word, Value, Label}
@@ -22,12 +22,12 @@ code-two (Label w x) = omega arith
 codes-two : (t : Table) (p : Put) → length (codePlaces t p) ≤ 2
 unfolding codePlacesBy
 codes-two t p =
-    let c = codeOf (some (codeCells t (p .address) (p .task))) in
+    let c = codeOf (some (codeContents t (p .address) (p .task))) in
     omega (arith, ap length (task-places t (p .address) (p .task)), code-words (p .address) c, code-two c)
 
 -- ---- a line has a value or an instruction, not both
 put-few : (t : Table) (a : ℕ) (k : Task) → length (dataPlaces (record { address = a; task = k })) + length (codePlaces t (record { address = a; task = k })) ≤ 2
-unfolding dataPlaces dataCells codePlacesBy codeCellsBy placesAt
+unfolding dataPlaces dataContents codePlacesBy codeContentsBy placesAt
 put-few t a skipped = omega arith
 put-few t a end = omega arith
 put-few t a (org v) = omega arith

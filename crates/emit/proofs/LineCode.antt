@@ -13,7 +13,7 @@ use Rattle.rules.specs.Text.{Text}
 use Rattle.rules.specs.Line.{instructionOf}
 use Rattle.rules.specs.Label.{Table}
 use Rattle.rules.specs.Encode.{encode}
-use Rattle.rules.specs.Assemble.{Place, Slices, placeOf, placesAt, dataCells, dataPlaces, codeCellsBy, codePlacesBy, codePlaces}
+use Rattle.rules.specs.Assemble.{Place, Slices, placeOf, placesAt, dataContents, dataPlaces, codeContentsBy, codePlacesBy, codePlaces}
 use Rattle.text.specs.declared.Span.{Span}
 use Rattle.text.specs.Spans.{spanText, SpanIn}
 use Rattle.line.specs.Line.{TaskIn}
@@ -36,7 +36,7 @@ NoValue task = OneOf (0 ∷ 1 ∷ 2 ∷ 3 ∷ 4 ∷ 5 ∷ 7 ∷ []) (tagOf the-t
 
 module _ (source : Text) (a : ℕ) where
   pub no-value : (task : Task) → NoValue task → dataPlaces (putOf source a task) ≡ []
-  unfolding dataPlaces dataCells placesAt
+  unfolding dataPlaces dataContents placesAt
   no-value Skipped h = refl
   no-value End h = refl
   no-value (Org v) h = refl
@@ -48,7 +48,7 @@ module _ (source : Text) (a : ℕ) where
 
   pub value-places : (task : Task) (n v x y : ℕ) → task ≡ Value n v → x ≡ v / 65536 → y ≡ v % 65536
       → placesOf a (WithValue x y) ≡ dataPlaces (putOf source a task)
-  unfolding dataPlaces dataCells placesAt placeOf
+  unfolding dataPlaces dataContents placesAt placeOf
   value-places task n v x y e p q = rw (e, p, q)
 
 -- ---- instruction words
@@ -57,7 +57,7 @@ NoInstruction task = OneOf (0 ∷ 1 ∷ 2 ∷ 3 ∷ 4 ∷ 6 ∷ 7 ∷ []) (tagOf
 
 module _ (t : Table) (source : Text) (a : ℕ) where
   pub no-instruction : (task : Task) → NoInstruction task → codePlaces t (putOf source a task) ≡ []
-  unfolding codePlacesBy codeCellsBy placesAt
+  unfolding codePlacesBy codeContentsBy placesAt
   no-instruction Skipped h = refl
   no-instruction End h = refl
   no-instruction (Org v) h = refl
@@ -69,7 +69,7 @@ module _ (t : Table) (source : Text) (a : ℕ) where
 
   pub instruction-places : (task : Task) (s : Span) (r : Code) → task ≡ Instruction s → r ≡ codeOf (encode t a (instructionOf (spanText source s)))
       → placesOf a r ≡ codePlaces t (putOf source a task)
-  unfolding codePlacesBy codeCellsBy
+  unfolding codePlacesBy codeContentsBy
   instruction-places task s r e f = rw (e, f) (encode-places t a (instructionOf (spanText source s)))
 
 -- ---- an instruction's text

@@ -6,20 +6,20 @@ use mathlib.Core.List.{List, []}
 use lib.ListN.{length}
 use Rattle.rules.specs.Line.{Instruction, Task, skipped, end, org, noOrg, labelOnly, instruction, value, space}
 use Rattle.rules.specs.Label.{Table}
-use Rattle.rules.specs.Encode.{Cell, encode}
-use Rattle.rules.specs.Assemble.{placeOf, placesAt, wordsBy, codeCellsBy, codeCells}
+use Rattle.rules.specs.Encode.{Content, encode}
+use Rattle.rules.specs.Assemble.{placeOf, placesAt, wordsBy, codeContentsBy, codeContents}
 use Rattle.encode.specs.Code.{codeOf, placesOf, codeLength}
 use Rattle.encode.specs.declared.Code.{Code}
 use Rattle.encode.specs.declared.Code.the-variants.{Nothing, Word, Value, Label}
 use Rattle.encode.proofs.Shaped.{Shaped, no-word, one-word, with-value, with-address, shaped-encode}
 
 -- no answer counts as no cells
-pub words-code : (o : Option (List Cell)) → codeOf o ≡ codeOf (some (Option·getD o []))
+pub words-code : (o : Option (List Content)) → codeOf o ≡ codeOf (some (Option·getD o []))
 words-code none = refl
 words-code (some cs) = refl
 
 -- the code loses nothing
-places : {o : Option (List Cell)} → Shaped o → (a : ℕ) → placesOf a (codeOf o) ≡ placesAt a (Option·getD o [])
+places : {o : Option (List Content)} → Shaped o → (a : ℕ) → placesOf a (codeOf o) ≡ placesAt a (Option·getD o [])
 unfolding placesAt placeOf
 places no-word a = refl
 places (one-word w) a = refl
@@ -31,8 +31,8 @@ module _ (ls : Table) (a : ℕ) where
   encode-places i = places (shaped-encode ls a i) a
 
   -- the same for a line's task, of which only an instruction has words
-  pub task-places : (k : Task) → placesOf a (codeOf (some (codeCells ls a k))) ≡ placesAt a (codeCells ls a k)
-  unfolding codeCellsBy placesAt
+  pub task-places : (k : Task) → placesOf a (codeOf (some (codeContents ls a k))) ≡ placesAt a (codeContents ls a k)
+  unfolding codeContentsBy placesAt
   task-places skipped = refl
   task-places end = refl
   task-places (org v) = refl

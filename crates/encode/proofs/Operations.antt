@@ -11,7 +11,7 @@ use types.Run.{OneOf, miss}
 use denote.Enum.Declared.{tagOf}
 use Rattle.rules.specs.Text.{Text, cutAt}
 use Rattle.rules.specs.Label.{Table}
-use Rattle.rules.specs.Encode.{Cell, two, tstRow, jumpRow, branchRow, encodeOperation}
+use Rattle.rules.specs.Encode.{Content, two, tstRow, jumpRow, branchRow, encodeOperation}
 use Rattle.opcode.specs.declared.mnemonic.Operation.{Operation}
 use Rattle.opcode.specs.declared.mnemonic.Operation.the-variants.{Moveq, Move, Movea, Muls, Tst, Subq, Asl, Dbra, Nop, Simhalt, Add, Sub, Cmp, Jmp, Branch, Unknown}
 use Rattle.opcode.proofs.Callers.{ruled, named}
@@ -65,7 +65,7 @@ two-none (s ∷ t ∷ u ∷ ps) = refl
 
 module _ (ls : Table) (a : ℕ) (ps : List Text) where
   -- the words of the operation that o stands for
-  abbrev wordsOf : Operation → Option (List Cell)
+  abbrev wordsOf : Operation → Option (List Content)
   wordsOf o = bind (ruled o) (λ p. encodeOperation ls a p ps)
 
   pairs : (o : Operation) → Paired o → wordsOf o ≡ two (twoRows ls a o) ps

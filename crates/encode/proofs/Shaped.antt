@@ -9,32 +9,32 @@ use denote.Enum.Declared.{tagOf}
 use Rattle.rules.specs.Text.{Text}
 use Rattle.rules.specs.Line.{Instruction}
 use Rattle.rules.specs.Label.{Table}
-use Rattle.rules.specs.Encode.{Cell, literal, address, Operation, moveq, move, movea, muls, tst, subq, asl, dbra, nop, simhalt, add, sub, cmp, jmp, branch}
+use Rattle.rules.specs.Encode.{Content, literal, address, Operation, moveq, move, movea, muls, tst, subq, asl, dbra, nop, simhalt, add, sub, cmp, jmp, branch}
 use Rattle.rules.specs.Encode.{two, one, oneOrMore, jumps, word, withLabel, registersRow, highRow, lowRow, fromIndirect, toIndirect, fromLabel, toLabel, moveRows, moveaRow, mulsRows, cmpRows, moveqRow, quickRow, tstRow, jumpRow, dbraRow, branchRow, encodeOperation, encodeBy, encode}
 use Rattle.encode.specs.Code.{codeOf}
 use Rattle.encode.specs.declared.Code.{Code}
 use Rattle.encode.specs.declared.Code.the-variants.{Nothing}
 use Rattle.encode.proofs.Code.{the-type}
 
-pub data Shaped : Option (List Cell) → Type 0 where
+pub data Shaped : Option (List Content) → Type 0 where
   no-word : Shaped none
   one-word : (w : ℕ) → Shaped (some (literal w ∷ []))
   with-value : (w v : ℕ) → Shaped (some (literal w ∷ literal v ∷ []))
   with-address : (w x : ℕ) → Shaped (some (literal w ∷ address x ∷ []))
 
 -- no code, no cells
-pub absent : {o : Option (List Cell)} {c : Code} → Shaped o → c ≡ codeOf o → c ≡ Nothing → o ≡ none
+pub absent : {o : Option (List Content)} {c : Code} → Shaped o → c ≡ codeOf o → c ≡ Nothing → o ≡ none
 absent no-word e n = refl
 absent (one-word w) e n = cc
 absent (with-value w v) e n = cc
 absent (with-address w x) e n = cc
 
-shaped-bind : {A : Type 0} (o : Option A) (f : A → Option (List Cell)) → ((x : A) → Shaped (f x)) → Shaped (bind o f)
+shaped-bind : {A : Type 0} (o : Option A) (f : A → Option (List Content)) → ((x : A) → Shaped (f x)) → Shaped (bind o f)
 unfolding bind
 shaped-bind none f h = no-word
 shaped-bind (some x) f h = h x
 
-shaped-else : (o p : Option (List Cell)) → Shaped o → Shaped p → Shaped (orElse o p)
+shaped-else : (o p : Option (List Content)) → Shaped o → Shaped p → Shaped (orElse o p)
 unfolding orElse
 shaped-else none p h k = k
 shaped-else (some x) p h k = h
@@ -47,13 +47,13 @@ HasWords c = OneOf (1 ∷ 2 ∷ 3 ∷ []) (tagOf the-type c)
 no-words : HasWords Nothing → ⊥
 no-words h = miss (1 ∷ 2 ∷ 3 ∷ []) 0 tt h
 
-module _ (o p : Option (List Cell)) where
+module _ (o p : Option (List Content)) where
   -- o gives words
   pub first-row : {c : Code} → c ≡ codeOf o → HasWords c → c ≡ codeOf (orElse o p)
   unfolding orElse
   first-row {c} e h = go o e
     where
-      go : (q : Option (List Cell)) → c ≡ codeOf q → c ≡ codeOf (orElse q p)
+      go : (q : Option (List Content)) → c ≡ codeOf q → c ≡ codeOf (orElse q p)
       go none e = absurd (no-words (subst (λ (d : Code). HasWords d) e h))
       go (some x) e = e
 
@@ -141,14 +141,14 @@ module _ (ls : Table) (a : ℕ) where
   shaped-branch c s = shaped-bind _ _ (λ d. one-word _)
 
 -- ---- by the number of operands
-shaped-two : {f : Text → Text → Option (List Cell)} → ((s t : Text) → Shaped (f s t)) → (ps : List Text) → Shaped (two f ps)
+shaped-two : {f : Text → Text → Option (List Content)} → ((s t : Text) → Shaped (f s t)) → (ps : List Text) → Shaped (two f ps)
 unfolding two
 shaped-two h [] = no-word
 shaped-two h (s ∷ []) = no-word
 shaped-two h (s ∷ t ∷ []) = h s t
 shaped-two h (s ∷ t ∷ u ∷ ps) = no-word
 
-module _ {f : Text → Option (List Cell)} (h : (s : Text) → Shaped (f s)) where
+module _ {f : Text → Option (List Content)} (h : (s : Text) → Shaped (f s)) where
   shaped-one : (ps : List Text) → Shaped (one f ps)
   unfolding one
   shaped-one [] = no-word

@@ -2,13 +2,13 @@
 use Prim.Native.Nat.{ℕ, _+_, _%_}
 use mathlib.Core.Option.{Option, none, some}
 use mathlib.Core.List.{List, [], _∷_}
-use Rattle.rules.specs.Encode.{Cell, literal, address}
+use Rattle.rules.specs.Encode.{Content, literal, address}
 use Rattle.rules.specs.Assemble.{Place}
 use Rattle.encode.specs.declared.Code.{Code}
 use Rattle.encode.specs.declared.Code.the-variants.{Nothing, Word, Value, Label}
 
 -- one word, a word and a value, or a word and a label's address modulo 65,536; no encoder gives other cells
-abbrev pub codeOf : Option (List Cell) → Code
+abbrev pub codeOf : Option (List Content) → Code
 codeOf none = Nothing
 codeOf (some []) = Nothing
 codeOf (some (literal w ∷ [])) = Word w

@@ -5,7 +5,7 @@ use mathlib.Core.Option.{Option, none, bind}
 use mathlib.Core.List.{List}
 use Rattle.rules.specs.Text.{Text}
 use Rattle.rules.specs.Label.{Table}
-use Rattle.rules.specs.Encode.{Cell, registersRow, moveRows, moveaRow, mulsRows, cmpRows, moveqRow, quickRow, dbraRow, encodeOperation}
+use Rattle.rules.specs.Encode.{Content, registersRow, moveRows, moveaRow, mulsRows, cmpRows, moveqRow, quickRow, dbraRow, encodeOperation}
 use Rattle.rules.specs.Encode.{Operation as Ruled}
 use Rattle.opcode.specs.Operation.{operationOf}
 use Rattle.opcode.specs.declared.mnemonic.Operation.{Operation}
@@ -22,7 +22,7 @@ abbrev pub Encodes : Code → Table → ℕ → Operation → List Text → Type
 Encodes r ls a o ps = (q : Option Ruled) → o ≡ operationOf q → r ≡ codeOf (bind q (λ p. encodeOperation ls a p ps))
 
 -- the rows of exactly two operands
-unfoldable pub twoRows : Table → ℕ → Operation → Text → Text → Option (List Cell)
+unfoldable pub twoRows : Table → ℕ → Operation → Text → Text → Option (List Content)
 twoRows ls a Moveq = moveqRow
 twoRows ls a Move = moveRows ls
 twoRows ls a Movea = moveaRow ls

@@ -14,7 +14,7 @@ use Rattle.rules.specs.Text.{Text}
 use Rattle.rules.specs.Line.{SourceLine, Task as SaidTask, skipped, end, org, noOrg, labelOnly, instruction, value, space, Line as Said, lineOf, size}
 use Rattle.rules.specs.Label.{Table}
 use Rattle.rules.specs.Answer.{Answer, accepted, refused, andThen}
-use Rattle.rules.specs.Assemble.{Pass as Ruled, Put, Place, addressAfter, isEnd, putting, firstPassBy, firstPass, placesAt, dataCells, dataPlaces}
+use Rattle.rules.specs.Assemble.{Pass as Ruled, Put, Place, addressAfter, isEnd, putting, firstPassBy, firstPass, placesAt, dataContents, dataPlaces}
 use Rattle.text.specs.declared.Span.{Span}
 use Rattle.text.specs.Spans.{SpanIn}
 use Rattle.outline.specs.Lines.{lineEnd, linesFrom}
@@ -64,8 +64,8 @@ unfolding flatMap
 flat-more f [] u = rw (append-nil (f u)) (omega arith)
 flat-more f (p ∷ ps) u = rw (length-append (f p) (flatMap f (ps ++ (u ∷ []))), length-append (f p) (flatMap f ps), flat-more f ps u) (omega arith)
 
-data-most : (a : ℕ) (k : SaidTask) → length (placesAt a (dataCells k)) ≤ 2
-unfolding placesAt dataCells
+data-most : (a : ℕ) (k : SaidTask) → length (placesAt a (dataContents k)) ≤ 2
+unfolding placesAt dataContents
 data-most a skipped = omega arith
 data-most a end = omega arith
 data-most a (org v) = omega arith

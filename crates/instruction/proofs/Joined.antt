@@ -64,16 +64,16 @@ others-onFirst b [] = refl
 others-onFirst b (p ∷ ps) = refl
 
 -- with a filled byte in front nothing is empty; without, only the first text may be
-record Kept (s : Text) : Type 0 where
+record NoneEmpty (s : Text) : Type 0 where
   others : dropEmpty (otherTexts (cutWhere blank s)) ≡ otherTexts (cutWhere blank s)
   whole : isFilled s ≡ true → dropEmpty (cutWhere blank s) ≡ cutWhere blank s
 
-kept : (s : Text) → isJoined s ≡ true → Kept s
+kept : (s : Text) → isJoined s ≡ true → NoneEmpty s
 unfolding cutWhere dropEmpty otherTexts isFilled
 kept [] h = record { others = refl; whole = λ f. absurd (false≢true f) }
 kept (b ∷ s) h = go (blank b) refl (joined-parts b s h .0) (kept s (joined-parts b s h .1))
   where
-    go : (y : Bool) → blank b ≡ y → isSingle (b ∷ s) ≡ true → Kept s → Kept (b ∷ s)
+    go : (y : Bool) → blank b ≡ y → isSingle (b ∷ s) ≡ true → NoneEmpty s → NoneEmpty (b ∷ s)
     go true e k ih =
         record {
           others = rw (cut-here blank b s e) (ih .whole (single-blank b s e k .1));

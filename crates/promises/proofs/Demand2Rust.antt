@@ -9,9 +9,9 @@ use lib.Bits.{and-mask}
 use Rattle.rules.specs.Text.{Text, cutAt}
 use Rattle.rules.specs.Line.{numbered, linesOf, Instruction as Said, Task, size}
 use Rattle.rules.specs.Label.{Table, find}
-use Rattle.rules.specs.Encode.{Cell, literal, address, encode}
+use Rattle.rules.specs.Encode.{Content, literal, address, encode}
 use Rattle.rules.specs.Answer.{Answer, accepted, refused, andThen}
-use Rattle.rules.specs.Assemble.{Put, Pass, firstPass, Place, placeOf, placesAt, dataCells, wordsBy, codeCells, codeCellsBy, dataPlaces, codePlaces, secondPass, assemble, secondPassBy, codePlacesBy}
+use Rattle.rules.specs.Assemble.{Put, Pass, firstPass, Place, placeOf, placesAt, dataContents, wordsBy, codeContents, codeContentsBy, dataPlaces, codePlaces, secondPass, assemble, secondPassBy, codePlacesBy}
 use Rattle.promises.specs.RustStr.{split, HashMap, look-up, push, add-u32}
 use Rattle.promises.specs.RustAssembler.{AssemblyInstruction, Code, encode-instruction-with-ext, State, first-pass, push-data, push-ext, push-code, push-instruction}
 use Rattle.promises.specs.RustAssembler as Rust
@@ -29,7 +29,7 @@ wordsAt : ℕ → List ℕ → List (ℕ × ℕ)
 wordsAt a [] = []
 wordsAt a (w ∷ ws) = (a, w) ∷ wordsAt (a + 2) ws
 
-places-words : (a : ℕ) (cs : List Cell) → map withoutMark (placesAt a cs) ≡ wordsAt a (plain cs)
+places-words : (a : ℕ) (cs : List Content) → map withoutMark (placesAt a cs) ≡ wordsAt a (plain cs)
 unfolding placesAt placeOf wordsAt
 places-words a [] = refl
 places-words a (literal w ∷ cs) = ap (λ (r : List (ℕ × ℕ)). (a, w) ∷ r) (places-words (a + 2) cs)
@@ -80,7 +80,7 @@ code-words a h (some c) = go (c .1)
     go none = refl
     go (some e) = rw (two-on a h)
 
-getD-map : (o : Option (List Cell)) → Option·getD (Option·map plain o) [] ≡ plain (Option·getD o [])
+getD-map : (o : Option (List Content)) → Option·getD (Option·map plain o) [] ≡ plain (Option·getD o [])
 getD-map none = refl
 getD-map (some cs) = refl
 
@@ -100,15 +100,15 @@ data-words a v h k = rw (two-on a h, and-mask v 16, mod-mod v (2 ^ 16), mod-eq-o
     high = omega (arith, div-add-mod' v 65536)
 
 -- a task's words
-data-put : (a : ℕ) → a < 2 ^ 30 → {k : Task} (w : Worded k) → TaskLow k → flatMap dataWords (valueAt a w) ≡ map withoutMark (placesAt a (dataCells k))
-unfolding valueAt dataCells placesAt flatMap
+data-put : (a : ℕ) → a < 2 ^ 30 → {k : Task} (w : Worded k) → TaskLow k → flatMap dataWords (valueAt a w) ≡ map withoutMark (placesAt a (dataContents k))
+unfolding valueAt dataContents placesAt flatMap
 data-put a h (silent e f) l = rw e
 data-put a h (codes i) l = refl
 data-put a h (holds n v) l = append-nil (dataWords (a, v)) ∙ data-words a v h (l .0)
 
 code-put : {m : HashMap} {t : Table} → Agrees m t → (a : ℕ) → a < 2 ^ 30 → {k : Task} (w : Worded k)
-    → flatMap (instWords m) (codeAt a w) ≡ map withoutMark (placesAt a (codeCells t a k))
-unfolding codeAt codeCellsBy placesAt flatMap
+    → flatMap (instWords m) (codeAt a w) ≡ map withoutMark (placesAt a (codeContents t a k))
+unfolding codeAt codeContentsBy placesAt flatMap
 code-put {t = t} g a h (silent e f) = rw (f encode t a)
 code-put {m = m} g a h (codes i) = append-nil (instWords m (instAt a i)) ∙ inst-words g a h i
 code-put g a h (holds n v) = refl

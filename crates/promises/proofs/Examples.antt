@@ -8,9 +8,9 @@ use Rattle.rules.specs.Line.{numbered, linesOf, numberIn, operandsOf, instructi
 use Rattle.rules.specs.Label.{find, recorded, hasRoom, recordAll}
 use Rattle.rules.specs.Encode.{branches, otherMnemonics, mnemonics, operationIn, R, registerDigit, dataRegister, addressRegister, closed, indirect, two, one, oneOrMore, reach, writtenSigned, displacement, allDigits, isSome, jumps, withLabel, registersRow, highRow, lowRow, fromIndirect, toIndirect, fromLabel, toLabel, moveRows, moveaRow, mulsRows, cmpRows, moveqRow, quickRow, tstRow, jumpRow, dbraRow, branchRow, encodeOperation, encodeBy}
 use Rattle.rules.specs.Answer.{refuseIf, refuseAt, andThen}
-use Rattle.rules.specs.Assemble.{addressAfter, isEnd, leaving, stepBy, putting, firstPassBy, placeOf, placesAt, dataCells, codeCellsBy, dataPlaces, codePlacesBy, secondPassBy, firstHigh, checks, passAtBy, assembleBy, short, room, assembleAnswer, over, holding, writeList, assembleSlices}
+use Rattle.rules.specs.Assemble.{addressAfter, isEnd, leaving, stepBy, putting, firstPassBy, placeOf, placesAt, dataContents, codeContentsBy, dataPlaces, codePlacesBy, secondPassBy, firstHigh, checks, passAtBy, assembleBy, short, room, assembleAnswer, over, holding, writeList, assembleSlices}
 use Rattle.promises.specs.Examples.{P1, P2, P3, P4, P5, P6, P7, P8, P9, P10, P11, examples, ExamplesHold}
 
 pub examples-hold : ExamplesHold
-unfolding bind orElse flatMap bytes blank upper uppers leading trimStart keepEnd trimEnd trim onFirst cutWhere cutAt dropEmpty pieces joinMore joined inFront firstCut same starts contains after nth firstText otherTexts lastText digitValue digits someDigits below without number within positive negative signed hexTail byPrefix number32 number16 imm8 imm16 modulo numberIn operandsOf instructionOf dataSize dataValue sized dataTask isDirective dataPieces nonempty dataLine isData restLine afterLabel labelLine orgTask trimmedLine lineOf isL isPlain isLong instructionSize size find recorded hasRoom recordAll branches otherMnemonics mnemonics operationIn R registerDigit dataRegister addressRegister closed indirect two one oneOrMore reach writtenSigned displacement allDigits isSome jumps withLabel registersRow highRow lowRow fromIndirect toIndirect fromLabel toLabel moveRows moveaRow mulsRows cmpRows moveqRow quickRow tstRow jumpRow dbraRow branchRow encodeOperation encodeBy refuseIf refuseAt andThen numbered linesOf addressAfter isEnd leaving stepBy putting firstPassBy placeOf placesAt dataCells codeCellsBy dataPlaces codePlacesBy secondPassBy firstHigh checks passAtBy assembleBy short room assembleAnswer over holding writeList assembleSlices P1 P2 P3 P4 P5 P6 P7 P8 P9 P10 P11 examples ExamplesHold
+unfolding bind orElse flatMap bytes blank upper uppers leading trimStart keepEnd trimEnd trim onFirst cutWhere cutAt dropEmpty pieces joinMore joined inFront firstCut same starts contains after nth firstText otherTexts lastText digitValue digits someDigits below without number within positive negative signed hexTail byPrefix number32 number16 imm8 imm16 modulo numberIn operandsOf instructionOf dataSize dataValue sized dataTask isDirective dataPieces nonempty dataLine isData restLine afterLabel labelLine orgTask trimmedLine lineOf isL isPlain isLong instructionSize size find recorded hasRoom recordAll branches otherMnemonics mnemonics operationIn R registerDigit dataRegister addressRegister closed indirect two one oneOrMore reach writtenSigned displacement allDigits isSome jumps withLabel registersRow highRow lowRow fromIndirect toIndirect fromLabel toLabel moveRows moveaRow mulsRows cmpRows moveqRow quickRow tstRow jumpRow dbraRow branchRow encodeOperation encodeBy refuseIf refuseAt andThen numbered linesOf addressAfter isEnd leaving stepBy putting firstPassBy placeOf placesAt dataContents codeContentsBy dataPlaces codePlacesBy secondPassBy firstHigh checks passAtBy assembleBy short room assembleAnswer over holding writeList assembleSlices P1 P2 P3 P4 P5 P6 P7 P8 P9 P10 P11 examples ExamplesHold
 examples-hold = refl

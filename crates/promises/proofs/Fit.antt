@@ -10,9 +10,9 @@ use Rattle.rules.specs.Limits.{addressLimit, lastAddress}
 use Rattle.rules.specs.Text.{Text, cutAt}
 use Rattle.rules.specs.Line.{SourceLine, linesOf, Task, lineOf}
 use Rattle.rules.specs.Label.{Table}
-use Rattle.rules.specs.Encode.{Cell, literal, address}
+use Rattle.rules.specs.Encode.{Content, literal, address}
 use Rattle.rules.specs.Answer.{Answer, accepted, refused, andThen}
-use Rattle.rules.specs.Assemble.{Sizes, Encoder, Put, Pass, addressAfter, putting, firstPassBy, Place, placeOf, placesAt, dataCells, codeCellsBy, dataPlaces, codePlacesBy, secondPassBy, encoded, assembleBy}
+use Rattle.rules.specs.Assemble.{Sizes, Encoder, Put, Pass, addressAfter, putting, firstPassBy, Place, placeOf, placesAt, dataContents, codeContentsBy, dataPlaces, codePlacesBy, secondPassBy, encoded, assembleBy}
 use Rattle.rules.proofs.Lines.{length-lines}
 use Rattle.promises.specs.Lawful.{Lawful}
 use Rattle.promises.proofs.Lists.{All, all-append, all-flatMap}
@@ -26,26 +26,26 @@ pub record Fit (p : Place) : Type 0 where
   pub reduced : p .mark ≡ 1 → p .word < 65536
 
 -- a cell's place fits
-placeOf-fit : (a : ℕ) (c : Cell) → a ≤ lastAddress → Fit (placeOf a c)
+placeOf-fit : (a : ℕ) (c : Content) → a ≤ lastAddress → Fit (placeOf a c)
 unfolding placeOf
 placeOf-fit a (literal w) h = record { bound = h; marked = omega arith; reduced = λ e. omega arith }
 placeOf-fit a (address x) h = record { bound = h; marked = omega arith; reduced = λ e. mod-lt x (omega arith) }
 
 -- a place for each cell
-length-placesAt : (a : ℕ) (cs : List Cell) → length (placesAt a cs) ≡ length cs
+length-placesAt : (a : ℕ) (cs : List Content) → length (placesAt a cs) ≡ length cs
 unfolding placesAt
 length-placesAt a [] = refl
 length-placesAt a (c ∷ cs) = ap suc (length-placesAt (a + 2) cs)
 
 -- places whose addresses end in time fit
-placesAt-fit : (a : ℕ) (cs : List Cell) → a + 2 * length cs ≤ lastAddress + 2 → All Fit (placesAt a cs)
+placesAt-fit : (a : ℕ) (cs : List Content) → a + 2 * length cs ≤ lastAddress + 2 → All Fit (placesAt a cs)
 unfolding placesAt
 placesAt-fit a [] h = tt
 placesAt-fit a (c ∷ cs) h = (placeOf-fit a c (omega arith), placesAt-fit (a + 2) cs (omega arith))
 
 -- data has up to two words
-data-two : {k : Task} → Worded k → length (dataCells k) ≤ 2
-unfolding dataCells
+data-two : {k : Task} → Worded k → length (dataContents k) ≤ 2
+unfolding dataContents
 data-two (silent e f) = rw e (omega arith)
 data-two (codes i) = omega arith
 data-two (holds n v) = omega arith
@@ -68,8 +68,8 @@ pub record Listed (most : ℕ) (s : Text) (l : List Place) : Type 0 where
 
 module _ {z : Sizes} {e : Encoder} {most : ℕ} (law : Lawful z e most) where
   -- a task's words are at most so many, data and code together
-  few-words : (t : Table) (a : ℕ) {k : Task} → Worded k → length (dataCells k) + length (codeCellsBy e t a k) ≤ most
-  unfolding dataCells codeCellsBy
+  few-words : (t : Table) (a : ℕ) {k : Task} → Worded k → length (dataContents k) + length (codeContentsBy e t a k) ≤ most
+  unfolding dataContents codeContentsBy
   few-words t a (silent d f) = rw (d, f e t a) (omega arith)
   few-words t a (codes i) = omega (arith, law .few t a i)
   few-words t a (holds n v) = omega (arith, law .two)
@@ -81,8 +81,8 @@ module _ {z : Sizes} {e : Encoder} {most : ℕ} (law : Lawful z e most) where
 
   -- where the address before and after a line is below the limit, its code ends in time
   code-ends : (t : Table) (base a : ℕ) {k : Task} → Worded k → a < addressLimit → addressAfter z base a k < addressLimit
-      → a + 2 * length (codeCellsBy e t a k) ≤ lastAddress + 2
-  unfolding addressAfter codeCellsBy
+      → a + 2 * length (codeContentsBy e t a k) ≤ lastAddress + 2
+  unfolding addressAfter codeContentsBy
   code-ends t base a (silent d f) h l = rw (f e t a) (omega arith)
   code-ends t base a (codes i) h l = omega (arith, law .ends t a i)
   code-ends t base a (holds n v) h l = omega arith
@@ -90,15 +90,15 @@ module _ {z : Sizes} {e : Encoder} {most : ℕ} (law : Lawful z e most) where
   -- what a line asks below the limits: its places fit
   record Low (p : Put) : Type 0 where
     address : p .address < addressLimit
-    ends : (t : Table) → p .address + 2 * length (codeCellsBy e t (p .address) (p .task)) ≤ lastAddress + 2
+    ends : (t : Table) → p .address + 2 * length (codeContentsBy e t (p .address) (p .task)) ≤ lastAddress + 2
 
   data-fit : (p : Put) → Low p → All Fit (dataPlaces p)
   unfolding dataPlaces
-  data-fit p h = placesAt-fit (p .address) (dataCells (p .task)) (omega (arith, data-two (worded (p .task)), h .address))
+  data-fit p h = placesAt-fit (p .address) (dataContents (p .task)) (omega (arith, data-two (worded (p .task)), h .address))
 
   code-fit : (t : Table) (p : Put) → Low p → All Fit (codePlacesBy e t p)
   unfolding codePlacesBy
-  code-fit t p h = placesAt-fit (p .address) (codeCellsBy e t (p .address) (p .task)) (h .ends t)
+  code-fit t p h = placesAt-fit (p .address) (codeContentsBy e t (p .address) (p .task)) (h .ends t)
 
   -- what a pass over the lines ls comes to: each line asks at most once, below the limits
   record Sound (ls : List SourceLine) (p : Pass) : Type 0 where

@@ -7,7 +7,7 @@ use native.Mathlib.Omega.{arith}
 use Rattle.rules.specs.Text.{Text, bytes, same}
 use Rattle.rules.specs.Label.{Table}
 use Rattle.rules.specs.Encode.{literal, branch as branchOn, branches, otherMnemonics, mnemonics, operationIn, R, two, one, oneOrMore, registersRow, highRow, lowRow, fromIndirect, toIndirect, moveRows, mulsRows, cmpRows, moveqRow, quickRow, tstRow, branchRow, encodeOperation, encodeBy, encode}
-use Rattle.rules.specs.Assemble.{placeOf, placesAt, dataCells, dataPlaces, secondPassBy, codeCellsBy, codePlacesBy}
+use Rattle.rules.specs.Assemble.{placeOf, placesAt, dataContents, dataPlaces, secondPassBy, codeContentsBy, codePlacesBy}
 use Rattle.manual.specs.Manual.{InByte, join, moveSize, sizeField, opmode, mode, register, extension, Condition, T, CC, CS, NE, EQ, GE, LT, GT, LE, condition, Instruction, layout, extensions, manualWords}
 use Rattle.promises.specs.Demand2Manual.{branchName, Written, moveq, load, store, copy, mulsData, muls, add, sub, cmp, tst, subq, asl, nop, branch, emitted, markedZero, LinesAreTheManuals}
 use Rattle.promises.proofs.ManualLaws.{data-register, operand, imm8-byte, all-some, byte-modulo, quick-modulo, displaced, displaced-byte, no-word}
@@ -58,5 +58,5 @@ zero-places a [] = refl
 zero-places a (w ∷ ws) = rw (zero-places (a + 2) ws)
 
 pub lines-are-the-manuals : LinesAreTheManuals
-unfolding emitted secondPassBy flatMap dataPlaces dataCells codePlacesBy codeCellsBy placesAt
+unfolding emitted secondPassBy flatMap dataPlaces dataContents codePlacesBy codeContentsBy placesAt
 lines-are-the-manuals ls a l i r = rw (r .read, encoded (r .written), zero-places a (manualWords i), append-nil)

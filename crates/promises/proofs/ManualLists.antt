@@ -10,7 +10,7 @@ use Rattle.rules.specs.Text.{Text, cutAt}
 use Rattle.rules.specs.Line.{SourceLine, numbered, linesOf, end, lineOf, size}
 use Rattle.rules.specs.Label.{Table}
 use Rattle.rules.specs.Answer.{Answer, accepted, refused, andThen}
-use Rattle.rules.specs.Assemble.{Sizes, Put, Pass, addressAfter, putting, firstPassBy, Place, dataPlaces, codeCellsBy, codePlaces, codePlacesBy, secondPassBy, passAtBy, assembleBy}
+use Rattle.rules.specs.Assemble.{Sizes, Put, Pass, addressAfter, putting, firstPassBy, Place, dataPlaces, codeContentsBy, codePlaces, codePlacesBy, secondPassBy, passAtBy, assembleBy}
 use Rattle.manual.specs.Manual.{Instruction, manualWords}
 use Rattle.promises.specs.Demand1.{IsLine, nextAddress, Reached, start, further}
 use Rattle.promises.specs.Demand2Manual.{LineSays, markedZero, wordsBefore, wordsAfter, ListHoldsTheManuals}
@@ -115,7 +115,7 @@ module _ (z : Sizes) (base : ℕ) where
 
 -- the words of a line of the manual
 line-words : (ls : Table) (a : ℕ) (l : Text) (i : Instruction) → LineSays ls a l i → codePlaces ls (record { address = a; task = lineOf l .task }) ≡ markedZero a (manualWords i)
-unfolding codePlacesBy codeCellsBy
+unfolding codePlacesBy codeContentsBy
 line-words ls a l i r = rw (r .read, encodes (r .written), zero-places a (manualWords i))
 
 pub list-holds-the-manuals : ListHoldsTheManuals

@@ -10,10 +10,10 @@ use Rattle.rules.specs.Text.{Text}
 use Rattle.rules.specs.Number.{modulo}
 use Rattle.rules.specs.Line.{Task, linesOf}
 use Rattle.rules.specs.Label.{Table}
-use Rattle.rules.specs.Encode.{Cell, literal, address}
+use Rattle.rules.specs.Encode.{Content, literal, address}
 use Rattle.rules.specs.Answer.{Answer, accepted, refused, andThen}
-use Rattle.rules.specs.Assemble.{Sizes, Encoder, Put, Pass, firstPassBy, Place, placeOf, placesAt, dataCells, codeCellsBy, dataPlaces, codePlacesBy, secondPassBy, encoded, assembleBy}
-use Rattle.promises.specs.Lawful.{shiftPut, shiftPass, shiftTable, shiftCell, shiftCells, Lawful}
+use Rattle.rules.specs.Assemble.{Sizes, Encoder, Put, Pass, firstPassBy, Place, placeOf, placesAt, dataContents, codeContentsBy, dataPlaces, codePlacesBy, secondPassBy, encoded, assembleBy}
+use Rattle.promises.specs.Lawful.{shiftPut, shiftPass, shiftTable, shiftContent, shiftContents, Lawful}
 use Rattle.rules.specs.Relocate.{movedAddress, movedWord}
 use Rattle.rules.specs.Tally.{movedPlace, tallyList}
 use Rattle.promises.proofs.Lists.{flatMap-by}
@@ -22,42 +22,42 @@ use Rattle.promises.proofs.Shift.{pass-shift}
 use Rattle.promises.proofs.Accepted.{passesBy, accepts, assembles}
 
 -- a place, and the places of one line
-placeOf-shift : (b a : ℕ) (c : Cell) → placeOf (b + a) (shiftCell b c) ≡ movedPlace (pos b) (placeOf a c)
-unfolding placeOf shiftCell movedPlace movedAddress movedWord modulo
+placeOf-shift : (b a : ℕ) (c : Content) → placeOf (b + a) (shiftContent b c) ≡ movedPlace (pos b) (placeOf a c)
+unfolding placeOf shiftContent movedPlace movedAddress movedWord modulo
 placeOf-shift b a (literal w) = rw (add-comm b a)
 placeOf-shift b a (address x) =
     let e : (b + x) % 65536 ≡ (x % 65536 + b % 65536) % 65536 = omega arith in
     rw (e, add-comm b a)
 
-placesAt-shift : (b a : ℕ) (cs : List Cell) → placesAt (b + a) (shiftCells b cs) ≡ map (movedPlace (pos b)) (placesAt a cs)
+placesAt-shift : (b a : ℕ) (cs : List Content) → placesAt (b + a) (shiftContents b cs) ≡ map (movedPlace (pos b)) (placesAt a cs)
 unfolding placesAt
 placesAt-shift b a [] = refl
 placesAt-shift b a (c ∷ cs) = rw (placeOf-shift b a c, add-assoc b a 2, placesAt-shift b (a + 2) cs)
 
 -- data words are numbers as they stand
-dataCells-shift : (b : ℕ) {k : Task} → Worded k → dataCells k ≡ shiftCells b (dataCells k)
-unfolding dataCells shiftCell
-dataCells-shift b (silent e f) = rw e
-dataCells-shift b (codes i) = refl
-dataCells-shift b (holds n v) = refl
+dataContents-shift : (b : ℕ) {k : Task} → Worded k → dataContents k ≡ shiftContents b (dataContents k)
+unfolding dataContents shiftContent
+dataContents-shift b (silent e f) = rw e
+dataContents-shift b (codes i) = refl
+dataContents-shift b (holds n v) = refl
 
 -- what a line asks, as data and as code
 dataPlaces-shift : (b : ℕ) (p : Put) → dataPlaces (shiftPut b p) ≡ map (movedPlace (pos b)) (dataPlaces p)
 unfolding dataPlaces shiftPut
-dataPlaces-shift b p = ap (placesAt (b + p .address)) (dataCells-shift b (worded (p .task))) ∙ placesAt-shift b (p .address) (dataCells (p .task))
+dataPlaces-shift b p = ap (placesAt (b + p .address)) (dataContents-shift b (worded (p .task))) ∙ placesAt-shift b (p .address) (dataContents (p .task))
 
 -- by a lawful pair
 module _ {z : Sizes} {e : Encoder} {most : ℕ} (law : Lawful z e most) where
-  codeCells-shift : (b : ℕ) (t : Table) (a : ℕ) {k : Task} → Worded k → codeCellsBy e (shiftTable b t) (b + a) k ≡ shiftCells b (codeCellsBy e t a k)
-  unfolding codeCellsBy
-  codeCells-shift b t a (silent d f) = rw (f e t a, f e (shiftTable b t) (b + a))
-  codeCells-shift b t a (codes i) = law .shifts b t a i
-  codeCells-shift b t a (holds n v) = refl
+  codeContents-shift : (b : ℕ) (t : Table) (a : ℕ) {k : Task} → Worded k → codeContentsBy e (shiftTable b t) (b + a) k ≡ shiftContents b (codeContentsBy e t a k)
+  unfolding codeContentsBy
+  codeContents-shift b t a (silent d f) = rw (f e t a, f e (shiftTable b t) (b + a))
+  codeContents-shift b t a (codes i) = law .shifts b t a i
+  codeContents-shift b t a (holds n v) = refl
 
   codePlaces-shift : (b : ℕ) (t : Table) (p : Put) → codePlacesBy e (shiftTable b t) (shiftPut b p) ≡ map (movedPlace (pos b)) (codePlacesBy e t p)
   unfolding codePlacesBy shiftPut
   codePlaces-shift b t p =
-      ap (placesAt (b + p .address)) (codeCells-shift b t (p .address) (worded (p .task))) ∙ placesAt-shift b (p .address) (codeCellsBy e t (p .address) (p .task))
+      ap (placesAt (b + p .address)) (codeContents-shift b t (p .address) (worded (p .task))) ∙ placesAt-shift b (p .address) (codeContentsBy e t (p .address) (p .task))
 
   -- the second pass over a shifted first pass is the list, moved
   pub second-shift : (b : ℕ) (p : Pass) → secondPassBy e (shiftPass b p) ≡ tallyList (pos b) (secondPassBy e p)

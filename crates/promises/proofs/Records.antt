@@ -95,21 +95,21 @@ module _ (base : ℕ) (s : Text) where
             inr (rw y (map-in here a (rw v at (q .named))))
 
   -- what an accepted pass keeps
-  abbrev Kept : Answer Pass → Type 0
-  Kept (accepted p) = (b : ℕ) × Keeps Made b (p .labels)
-  Kept (refused n p) = Unit {0}
+  abbrev HoldsLast : Answer Pass → Type 0
+  HoldsLast (accepted p) = (b : ℕ) × Keeps Made b (p .labels)
+  HoldsLast (refused n p) = Unit {0}
 
-  putting-kept : (a : ℕ) (k : Task) (r : Answer Pass) → Kept r → Kept (andThen r (putting a k))
+  putting-kept : (a : ℕ) (k : Task) (r : Answer Pass) → HoldsLast r → HoldsLast (andThen r (putting a k))
   unfolding andThen putting
   putting-kept a k (accepted p) h = h
   putting-kept a k (refused n p) h = h
 
   pass : (ls : List Text) (j i a : ℕ) (t : Table) (ns : List Text) → drop j (cutAt 10 s) ≡ ls → Reached size base s j a ns → i ≡ startAfter j (cutAt 10 s)
-      → Keeps (Early j) i t → Kept (firstPassBy size base a t (numbered (suc j) i ls))
+      → Keeps (Early j) i t → HoldsLast (firstPassBy size base a t (numbered (suc j) i ls))
   unfolding firstPassBy numbered
   pass [] j i a t ns e r p h = (i, whole j i t (λ n i k a q l. no-line (cutAt 10 s) (q .index) j (q .text) e l (q .is)) h)
   pass (l ∷ ls) j i a t ns e r p h =
-      pass-line size base a t (here j i a ns l r is p) (numbered (suc (suc j)) (suc (i + length l)) ls) Kept
+      pass-line size base a t (here j i a ns l r is p) (numbered (suc (suc j)) (suc (i + length l)) ls) HoldsLast
       (λ k. (i, whole j i t (λ n i k′ a q u. ended n i k′ a q k (compared (q .index) j) u) h)) (λ k o. tt) (λ t′ k o v. tt)
       (λ t′ k o v. putting-kept a (lineOf l .task) _
       (pass ls (suc j) (suc (i + length l)) (addressAfter size base a (lineOf l .task)) t′ (onTop (namesOf (lineOf l)) ns) (line-at (cutAt 10 s) j l ls e .1)

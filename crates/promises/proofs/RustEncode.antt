@@ -13,7 +13,7 @@ use Rattle.rules.specs.Text.{Text, bytes, same, after}
 use Rattle.rules.specs.Number.{imm8, imm16}
 use Rattle.rules.specs.Line.{Instruction as Said}
 use Rattle.rules.specs.Label.{Table}
-use Rattle.rules.specs.Encode.{Cell, literal, address, moveq, move, movea, muls, tst, subq, asl, dbra, add, sub, cmp, jmp, branch, Mnemonic, branches, otherMnemonics, mnemonics, operationIn, R, registerDigit, dataRegister, addressRegister, two, one, oneOrMore, displacement, jumps, withLabel, registersRow, highRow, lowRow, fromIndirect, toIndirect, fromLabel, toLabel, moveRows, moveaRow, mulsRows, cmpRows, moveqRow, quickRow, tstRow, jumpRow, dbraRow, branchRow, encodeOperation, encodeBy, encode}
+use Rattle.rules.specs.Encode.{Content, literal, address, moveq, move, movea, muls, tst, subq, asl, dbra, add, sub, cmp, jmp, branch, Mnemonic, branches, otherMnemonics, mnemonics, operationIn, R, registerDigit, dataRegister, addressRegister, two, one, oneOrMore, displacement, jumps, withLabel, registersRow, highRow, lowRow, fromIndirect, toIndirect, fromLabel, toLabel, moveRows, moveaRow, mulsRows, cmpRows, moveqRow, quickRow, tstRow, jumpRow, dbraRow, branchRow, encodeOperation, encodeBy, encode}
 use Rattle.promises.specs.RustStr.{when, at, is-empty, equals, starts-with, as-u16, i8-as-u16, HashMap, look-up, Arm, match}
 use Rattle.promises.specs.RustAssembler.{AssemblyInstruction, Code, no-ext, parse-immediate, parse-immediate-u16, parse-data-register, parse-address-register, parse-branch-displacement, encode-moveq, encode-move-with-ext, encode-movea-with-ext, encode-muls-with-ext, encode-branch, encode-add, encode-sub, encode-cmp-with-ext, encode-jump, encode-tst, encode-subq, encode-asl, encode-dbra, encode-instruction-with-ext, _or_, _and_, _<<_}
 use Rattle.promises.specs.Demand2Rust.{instAt}
@@ -23,11 +23,11 @@ use Rattle.promises.proofs.RustOperand.{Register, data-is, data-below, 
 use Rattle.promises.proofs.RustOpcode.{at-low, at-high, registers, moveq-word, branch-word, quick-word}
 
 -- the words of cells, and of the Rust's answers
-abbrev pub wordOf : Cell → ℕ
+abbrev pub wordOf : Content → ℕ
 wordOf (literal w) = w
 wordOf (address x) = x % 65536
 
-abbrev pub plain : List Cell → List ℕ
+abbrev pub plain : List Content → List ℕ
 plain cs = map wordOf cs
 
 abbrev pub extWords : Option ℕ → List ℕ
@@ -41,18 +41,18 @@ abbrev oneWord : ℕ → List ℕ
 oneWord c = c ∷ []
 
 -- an answer of the Rust and one of the rules have the same words
-pub record Same {A : Type 0} (f : A → List ℕ) (x : Option A) (y : Option (List Cell)) : Type 0 where
+pub record Same {A : Type 0} (f : A → List ℕ) (x : Option A) (y : Option (List Content)) : Type 0 where
   pub words : Option·map f x ≡ Option·map plain y
 
 module _ {A : Type 0} {f : A → List ℕ} where
   nothing : Same f none none
   nothing = record { words = refl }
 
-  hit : {a : A} {cs : List Cell} → f a ≡ plain cs → Same f (some a) (some cs)
+  hit : {a : A} {cs : List Content} → f a ≡ plain cs → Same f (some a) (some cs)
   hit e = record { words = ap some e }
 
   -- the same option taken on, whose value is known to be so
-  on : {X : Type 0} (P : X → Type 0) {o p : Option X} {g : X → Option A} {h : X → Option (List Cell)} → o ≡ p → All P p
+  on : {X : Type 0} (P : X → Type 0) {o p : Option X} {g : X → Option A} {h : X → Option (List Content)} → o ≡ p → All P p
       → ((x : X) → P x → Same f (g x) (h x)) → Same f (bind o g) (bind p h)
   unfolding bind
   on {X} P {o} {p} {g} {h} e a k = rw e (go p a)
@@ -61,18 +61,18 @@ module _ {A : Type 0} {f : A → List ℕ} where
       go none a = nothing
       go (some x) a = k x a
 
-  or-else : {x x′ : Option A} {y y′ : Option (List Cell)} → Same f x y → Same f x′ y′ → Same f (orElse x x′) (orElse y y′)
+  or-else : {x x′ : Option A} {y y′ : Option (List Content)} → Same f x y → Same f x′ y′ → Same f (orElse x x′) (orElse y y′)
   unfolding orElse
   or-else {x} {x′} {y} {y′} e e′ = go x y e
     where
-      go : (x : Option A) (y : Option (List Cell)) → Same f x y → Same f (orElse x x′) (orElse y y′)
+      go : (x : Option A) (y : Option (List Content)) → Same f x y → Same f (orElse x x′) (orElse y y′)
       go none none e = e′
       go none (some c) e = absurd (Option·none-ne-some (plain c) (e .words))
       go (some a) none e = absurd (Option·some-ne-none (f a) (e .words))
       go (some a) (some c) e = e
 
   -- a last row that gives nothing
-  last : {x : Option A} {y : Option (List Cell)} → Same f x y → Same f (orElse x none) y
+  last : {x : Option A} {y : Option (List Content)} → Same f x y → Same f (orElse x none) y
   unfolding orElse
   last {x} {y} e = go x e
     where
@@ -81,7 +81,7 @@ module _ {A : Type 0} {f : A → List ℕ} where
       go (some a) e = e
 
   -- two options taken in the other order
-  swap : {X Y : Type 0} (o : Option X) (p : Option Y) (g : X → Y → Option A) {y : Option (List Cell)}
+  swap : {X Y : Type 0} (o : Option X) (p : Option Y) (g : X → Y → Option A) {y : Option (List Content)}
       → Same f (bind o (λ a. bind p (g a))) y → Same f (bind p (λ b. bind o (λ a. g a b))) y
   unfolding bind
   swap none none g e = e
@@ -90,7 +90,7 @@ module _ {A : Type 0} {f : A → List ℕ} where
   swap (some a) (some b) g e = e
 
   -- the counts of operands
-  count-two : (F : List Text → Option A) (h : Text → Text → Option (List Cell)) → ((s t : Text) → Same f (F (s ∷ t ∷ [])) (h s t))
+  count-two : (F : List Text → Option A) (h : Text → Text → Option (List Content)) → ((s t : Text) → Same f (F (s ∷ t ∷ [])) (h s t))
       → (ps : List Text) → Same f (cond (not (eqb (length ps) 2)) none (F ps)) (two h ps)
   unfolding two
   count-two F h k [] = nothing
@@ -98,14 +98,14 @@ module _ {A : Type 0} {f : A → List ℕ} where
   count-two F h k (s ∷ t ∷ []) = k s t
   count-two F h k (s ∷ t ∷ u ∷ ps) = rw (ne-eqb (suc (suc (suc (length ps)))) 2 (λ e. omega arith)) nothing
 
-  count-one : (F : List Text → Option A) (h : Text → Option (List Cell)) → ((s : Text) → Same f (F (s ∷ [])) (h s))
+  count-one : (F : List Text → Option A) (h : Text → Option (List Content)) → ((s : Text) → Same f (F (s ∷ [])) (h s))
       → (ps : List Text) → Same f (cond (not (eqb (length ps) 1)) none (F ps)) (one h ps)
   unfolding one
   count-one F h k [] = nothing
   count-one F h k (s ∷ []) = k s
   count-one F h k (s ∷ t ∷ ps) = rw (ne-eqb (suc (suc (length ps))) 1 (λ e. omega arith)) nothing
 
-  count-more : (F : List Text → Option A) (h : Text → Option (List Cell)) → ((s : Text) (ps : List Text) → Same f (F (s ∷ ps)) (h s))
+  count-more : (F : List Text → Option A) (h : Text → Option (List Content)) → ((s : Text) (ps : List Text) → Same f (F (s ∷ ps)) (h s))
       → (ps : List Text) → Same f (cond (is-empty ps) none (F ps)) (oneOrMore h ps)
   unfolding oneOrMore is-empty
   count-more F h k [] = nothing
@@ -123,18 +123,18 @@ valued {v = v} e = hit (ap (λ (x : ℕ). x ∷ v ∷ []) e)
 
 -- a data register and an immediate, taken on
 module _ {A : Type 0} {f : A → List ℕ} (s : Text) where
-  data-on : {g : ℕ → Option A} {h : ℕ → Option (List Cell)} → ((n : ℕ) → n < 8 → Same f (g n) (h n))
+  data-on : {g : ℕ → Option A} {h : ℕ → Option (List Content)} → ((n : ℕ) → n < 8 → Same f (g n) (h n))
       → Same f (bind (parse-data-register s) g) (bind (dataRegister s) h)
   data-on k = on Register (data-is s) (data-below s) k
 
-  value-on : {g : ℕ → Option A} {h : ℕ → Option (List Cell)} → ((v : ℕ) → Same f (g v) (h v)) → Same f (bind (parse-immediate-u16 s) g) (bind (imm16 s) h)
+  value-on : {g : ℕ → Option A} {h : ℕ → Option (List Content)} → ((v : ℕ) → Same f (g v) (h v)) → Same f (bind (parse-immediate-u16 s) g) (bind (imm16 s) h)
   value-on k = on (λ v. Unit {0}) (imm16-is s) (any (imm16 s)) (λ v u. k v)
     where
       any : (o : Option ℕ) → All (λ v. Unit {0}) o
       any none = tt
       any (some v) = tt
 
-  quick-on : {g : ℤ → Option A} {h : ℤ → Option (List Cell)} → ((z : ℤ) → Small z → Same f (g z) (h z)) → Same f (bind (parse-immediate s) g) (bind (imm8 s) h)
+  quick-on : {g : ℤ → Option A} {h : ℤ → Option (List Content)} → ((z : ℤ) → Small z → Same f (g z) (h z)) → Same f (bind (parse-immediate s) g) (bind (imm8 s) h)
   quick-on k = on Small (imm8-is s) (imm8-small s) k
 
 -- `#` is no register
@@ -148,12 +148,12 @@ bind-none k e = rw e
 
 -- rows by `#`: the one or the other of the rules' rows gives nothing
 module _ (s : Text) where
-  either : {x x′ : Option Code} {y y′ : Option (List Cell)} → (starts-with s (bytes "#") ≡ true → y′ ≡ none) → (starts-with s (bytes "#") ≡ false → y ≡ none)
+  either : {x x′ : Option Code} {y y′ : Option (List Content)} → (starts-with s (bytes "#") ≡ true → y′ ≡ none) → (starts-with s (bytes "#") ≡ false → y ≡ none)
       → Same codeWords x y → Same codeWords x′ y′ → Same codeWords (cond (starts-with s (bytes "#")) x x′) (orElse y y′)
   unfolding orElse
   either {x} {x′} {y} {y′} p q e e′ = go (starts-with s (bytes "#")) refl
     where
-      only : (y : Option (List Cell)) → Same codeWords x y → Same codeWords x (orElse y none)
+      only : (y : Option (List Content)) → Same codeWords x y → Same codeWords x (orElse y none)
       only none e = e
       only (some c) e = e
 
@@ -161,7 +161,7 @@ module _ (s : Text) where
       go true b = rw (p b) (only y e)
       go false b = rw (q b) e′
 
-  hashed : {x : Option Code} {y : Option (List Cell)} → (starts-with s (bytes "#") ≡ false → y ≡ none) → Same codeWords x y
+  hashed : {x : Option Code} {y : Option (List Content)} → (starts-with s (bytes "#") ≡ false → y ≡ none) → Same codeWords x y
       → Same codeWords (when (starts-with s (bytes "#")) x) y
   hashed {x} {y} q e = go (starts-with s (bytes "#")) refl
     where
@@ -170,7 +170,7 @@ module _ (s : Text) where
       go false b = rw (q b) nothing
 
 -- a test below a `bind`, pulled out
-pull : (b : Bool) (o : Option ℕ) (k h : ℕ → Option Code) {y : Option (List Cell)} → Same codeWords (cond b (bind o k) (bind o h)) y
+pull : (b : Bool) (o : Option ℕ) (k h : ℕ → Option Code) {y : Option (List Content)} → Same codeWords (cond b (bind o k) (bind o h)) y
     → Same codeWords (bind o (λ n. cond b (k n) (h n))) y
 pull true o k h e = e
 pull false o k h e = e
@@ -291,7 +291,7 @@ module _ (x : AssemblyInstruction) where
         go false = nothing
 
     module _ (low : x .address < 2 ^ 30) where
-      displaced-on : {A : Type 0} {f : A → List ℕ} (s : Text) {k : ℤ → Option A} {h : ℤ → Option (List Cell)}
+      displaced-on : {A : Type 0} {f : A → List ℕ} (s : Text) {k : ℤ → Option A} {h : ℤ → Option (List Content)}
           → ((z : ℤ) → Small z → Same f (k z) (h z)) → Same f (bind (parse-branch-displacement m s (x .address)) k) (bind (displacement t (x .address) s) h)
       displaced-on s k = on Small (displacement-is g s (x .address) low) (displacement-small t (x .address) s) k
 
@@ -305,7 +305,7 @@ module _ (x : AssemblyInstruction) where
 
 -- `match`: the arms, and the rules' list of mnemonics
 infixr 5 _then-arm_
-data Arms (y : Text → Option (List Cell)) : List (Arm Code) → Type 0 where
+data Arms (y : Text → Option (List Content)) : List (Arm Code) → Type 0 where
   done : Arms y []
   _then-arm_ : {r : Arm Code} {rs : List (Arm Code)} → Same codeWords (r .result) (y (r .pattern)) → Arms y rs → Arms y (r ∷ rs)
 
@@ -316,7 +316,7 @@ Misses n (r ∷ rs) = (equals n (r .pattern) ≡ false) × Misses n rs
 equal : (s t : Text) → equals s t ≡ true → s ≡ t
 equal s t e = same-eq s t (sym (equals-is s t) ∙ e)
 
-match-same : (y : Text → Option (List Cell)) (n : Text) {rs : List (Arm Code)} → Arms y rs → (Misses n rs → y n ≡ none) → Same codeWords (match n rs) (y n)
+match-same : (y : Text → Option (List Content)) (n : Text) {rs : List (Arm Code)} → Arms y rs → (Misses n rs → y n ≡ none) → Same codeWords (match n rs) (y n)
 unfolding match Misses
 match-same y n done k = rw (k tt) nothing
 match-same y n (_then-arm_ {r = r} {rs = rs} w ws) k = go (equals n (r .pattern)) refl (match-same y n ws)
@@ -354,7 +354,7 @@ missing n rs ms (x ∷ ns) c = go (equals n (x .name)) refl (has (x .name) rs) r
     go false e true f ih = rw (← equals-is n (x .name), e, operationIn) (ih (rw f at c))
     go false e false f ih = absurd (false≢true (rw f at c))
 
-no-ext-same : {x : Option ℕ} {y : Option (List Cell)} → Same oneWord x y → Same codeWords (no-ext x) y
+no-ext-same : {x : Option ℕ} {y : Option (List Content)} → Same oneWord x y → Same codeWords (no-ext x) y
 no-ext-same {x} {y} e = go x e
   where
     go : (x : Option ℕ) → Same oneWord x y → Same codeWords (no-ext x) y

@@ -74,12 +74,12 @@ recordAll-agrees l a h (n ∷ ns) t t′ s c g e =
     go false f ih = absurd (Option·none-ne-some t′ (rw (recordAll, f) at e))
 
 -- labels leave the rest of a state alone
-record Kept (s s′ : State) : Type 0 where
+record Carried (s s′ : State) : Type 0 where
   current : s′ .current-address ≡ s .current-address
   instructions : s′ .instructions ≡ s .instructions
   values : s′ .data-values ≡ s .data-values
 
-insertAll-keeps : (ns : List Name) (s : State) → Kept s (insertAll ns s)
+insertAll-keeps : (ns : List Name) (s : State) → Carried s (insertAll ns s)
 unfolding insertAll insert-label
 insertAll-keeps [] s = record { current = refl; instructions = refl; values = refl }
 insertAll-keeps (n ∷ ns) s = let k = insertAll-keeps ns (insert-label (n .text) s) in record { current = k .current; instructions = k .instructions; values = k .values }
@@ -169,7 +169,7 @@ performed r a low s c e h =
       values = d .values ∙ rw (k .values);
     }
   where
-    k : Kept s (insertAll (r .names) s)
+    k : Carried s (insertAll (r .names) s)
     k = insertAll-keeps (r .names) s
 
     d : Performed (record { names = []; task = r .task }) a (insertAll (r .names) s)

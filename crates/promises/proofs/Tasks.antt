@@ -11,7 +11,7 @@ use Rattle.rules.specs.Limits.{addressLimit}
 use Rattle.rules.specs.Line.{SourceLine, Instruction, Task, skipped, end, org, noOrg, labelOnly, instruction, value, space, lineOf}
 use Rattle.rules.specs.Label.{Table, recordAll}
 use Rattle.rules.specs.Answer.{Answer, accepted, refused, andThen}
-use Rattle.rules.specs.Assemble.{Sizes, Encoder, Pass, addressAfter, isEnd, leaving, stepBy, putting, firstPassBy, dataCells, codeCellsBy}
+use Rattle.rules.specs.Assemble.{Sizes, Encoder, Pass, addressAfter, isEnd, leaving, stepBy, putting, firstPassBy, dataContents, codeContentsBy}
 use Rattle.promises.specs.Demand1.{nextAddress}
 use Rattle.promises.proofs.Compared.{clash}
 
@@ -45,12 +45,12 @@ not-end k e f = let u : true ≡ false = rw f at e in clash cc
 
 -- a task's words: none, an instruction's, or a value's
 pub data Worded : Task → Type 0 where
-  silent : {k : Task} → dataCells k ≡ [] → ((e : Encoder) (t : Table) (a : ℕ) → codeCellsBy e t a k ≡ []) → Worded k
+  silent : {k : Task} → dataContents k ≡ [] → ((e : Encoder) (t : Table) (a : ℕ) → codeContentsBy e t a k ≡ []) → Worded k
   codes : (i : Instruction) → Worded (instruction i)
   holds : (n v : ℕ) → Worded (value n v)
 
 unfoldable pub worded : (k : Task) → Worded k
-unfolding dataCells codeCellsBy
+unfolding dataContents codeContentsBy
 worded skipped = silent refl (λ e t a. refl)
 worded end = silent refl (λ e t a. refl)
 worded (org v) = silent refl (λ e t a. refl)

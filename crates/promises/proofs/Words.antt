@@ -12,9 +12,9 @@ use lib.IntN.{subℕ}
 use Rattle.rules.specs.Text.{Text}
 use Rattle.rules.specs.Line.{Instruction}
 use Rattle.rules.specs.Label.{Table}
-use Rattle.rules.specs.Encode.{Cell, literal, Operation, moveq, move, movea, muls, tst, subq, asl, dbra, nop, simhalt, add, sub, cmp, jmp, branch, two, one, oneOrMore, reach, displacement, isSome, jumps, withLabel, registersRow, highRow, lowRow, fromIndirect, toIndirect, fromLabel, toLabel, moveRows, moveaRow, mulsRows, cmpRows, moveqRow, quickRow, tstRow, jumpRow, dbraRow, branchRow, encodeOperation, Mnemonic, encodeBy}
+use Rattle.rules.specs.Encode.{Content, literal, Operation, moveq, move, movea, muls, tst, subq, asl, dbra, nop, simhalt, add, sub, cmp, jmp, branch, two, one, oneOrMore, reach, displacement, isSome, jumps, withLabel, registersRow, highRow, lowRow, fromIndirect, toIndirect, fromLabel, toLabel, moveRows, moveaRow, mulsRows, cmpRows, moveqRow, quickRow, tstRow, jumpRow, dbraRow, branchRow, encodeOperation, Mnemonic, encodeBy}
 use Rattle.rules.specs.Assemble.{wordsBy}
-use Rattle.promises.specs.Lawful.{shiftTable, shiftCell, shiftCells}
+use Rattle.promises.specs.Lawful.{shiftTable, shiftContent, shiftContents}
 use Rattle.promises.proofs.Shift.{find-shift}
 
 -- a function of the value goes into each combinator that the encoders are made of
@@ -91,8 +91,8 @@ unfolding jumps
 jumps-shift b ls s = simp (find-shift, isSome-mapped)
 
 -- a row with a label under a shift
-withLabel-shift : (b : ℕ) (ls : Table) (w : ℕ) (l : Text) → withLabel (shiftTable b ls) w l ≡ Option·map (shiftCells b) (withLabel ls w l)
-unfolding withLabel shiftCell
+withLabel-shift : (b : ℕ) (ls : Table) (w : ℕ) (l : Text) → withLabel (shiftTable b ls) w l ≡ Option·map (shiftContents b) (withLabel ls w l)
+unfolding withLabel shiftContent
 withLabel-shift b ls w l = simp (find-shift, bind-mapped, bind-map)
 
 -- its first two words are all its words
@@ -100,12 +100,12 @@ withLabel-two : (ls : Table) (w : ℕ) (l : Text) → Option·map (take 2) (with
 unfolding withLabel
 withLabel-two ls w l = simp bind-map
 
-length-two : (o : Option (List Cell)) → length (Option·getD (Option·map (take 2) o) []) ≤ 2
+length-two : (o : Option (List Content)) → length (Option·getD (Option·map (take 2) o) []) ≤ 2
 length-two none = omega arith
 length-two (some cs) = rw length-take (omega arith)
 
 -- the law of all encoders: what changes each row's words by g changes an instruction's words by g
-module _ (g : List Cell → List Cell) (ls ls′ : Table) (a a′ : ℕ)
+module _ (g : List Content → List Content) (ls ls′ : Table) (a a′ : ℕ)
     (word-by : (w : ℕ) → g (literal w ∷ []) ≡ literal w ∷ [])
     (value-by : (w v : ℕ) → g (literal w ∷ literal v ∷ []) ≡ literal w ∷ literal v ∷ [])
     (label-by : (w : ℕ) (l : Text) → Option·map g (withLabel ls w l) ≡ withLabel ls′ w l)
@@ -136,18 +136,18 @@ module _ (g : List Cell → List Cell) (ls ls′ : Table) (a a′ : ℕ)
 -- whatever the mnemonics in use
 module _ (names : List Mnemonic) where
   -- an instruction's words from base b are those from base 0, the label addresses b higher
-  encode-shift : (b : ℕ) (ls : Table) (a : ℕ) (i : Instruction) → Option·map (shiftCells b) (encodeBy names ls a i) ≡ encodeBy names (shiftTable b ls) (b + a) i
-  unfolding shiftCell
+  encode-shift : (b : ℕ) (ls : Table) (a : ℕ) (i : Instruction) → Option·map (shiftContents b) (encodeBy names ls a i) ≡ encodeBy names (shiftTable b ls) (b + a) i
+  unfolding shiftContent
   encode-shift b ls a i =
-      encode-by (shiftCells b) ls (shiftTable b ls) a (b + a) (λ w. refl) (λ w v. refl) (λ w l. sym (withLabel-shift b ls w l))
+      encode-by (shiftContents b) ls (shiftTable b ls) a (b + a) (λ w. refl) (λ w v. refl) (λ w l. sym (withLabel-shift b ls w l))
       (λ s. sym (displacement-shift b ls a s)) (λ s. sym (jumps-shift b ls s)) names i
 
   -- no words, shifted, are no words
   pub words-shift : (b : ℕ) (ls : Table) (a : ℕ) (i : Instruction)
-      → wordsBy (encodeBy names) (shiftTable b ls) (b + a) i ≡ shiftCells b (wordsBy (encodeBy names) ls a i)
+      → wordsBy (encodeBy names) (shiftTable b ls) (b + a) i ≡ shiftContents b (wordsBy (encodeBy names) ls a i)
   words-shift b ls a i = rw (← encode-shift b ls a i) (go (encodeBy names ls a i))
     where
-      go : (o : Option (List Cell)) → Option·getD (Option·map (shiftCells b) o) [] ≡ shiftCells b (Option·getD o [])
+      go : (o : Option (List Content)) → Option·getD (Option·map (shiftContents b) o) [] ≡ shiftContents b (Option·getD o [])
       go none = refl
       go (some cs) = refl
 

@@ -5,7 +5,7 @@ use mathlib.Core.List.{List, map}
 use lib.ListN.{length}
 use Rattle.rules.specs.Line.{Instruction, size}
 use Rattle.rules.specs.Label.{Label, Table}
-use Rattle.rules.specs.Encode.{Cell, literal, address, Mnemonic, encodeBy}
+use Rattle.rules.specs.Encode.{Content, literal, address, Mnemonic, encodeBy}
 use Rattle.rules.specs.Assemble.{Put, Pass, Sizes, Encoder, wordsBy}
 
 -- labels d higher
@@ -23,17 +23,17 @@ unfoldable pub shiftPass : ℕ → Pass → Pass
 shiftPass d p = record { labels = shiftTable d (p .labels); puts = map (shiftPut d) (p .puts) }
 
 -- words as they are, but for label addresses, which are d higher
-unfoldable pub shiftCell : ℕ → Cell → Cell
-shiftCell d (literal w) = literal w
-shiftCell d (address x) = address (d + x)
+unfoldable pub shiftContent : ℕ → Content → Content
+shiftContent d (literal w) = literal w
+shiftContent d (address x) = address (d + x)
 
-abbrev pub shiftCells : ℕ → List Cell → List Cell
-shiftCells d cs = map (shiftCell d) cs
+abbrev pub shiftContents : ℕ → List Content → List Content
+shiftContents d cs = map (shiftContent d) cs
 
 -- a size and an encoder are lawful, with at most so many places a line, if
 pub record Lawful (z : Sizes) (e : Encoder) (most : ℕ) : Type 0 where
   -- an instruction's words at addresses d higher are the same but for label addresses, which are d higher
-  pub shifts : (d : ℕ) (t : Table) (a : ℕ) (i : Instruction) → wordsBy e (shiftTable d t) (d + a) i ≡ shiftCells d (wordsBy e t a i)
+  pub shifts : (d : ℕ) (t : Table) (a : ℕ) (i : Instruction) → wordsBy e (shiftTable d t) (d + a) i ≡ shiftContents d (wordsBy e t a i)
   -- there are at most so many of them, and two may be data
   pub few : (t : Table) (a : ℕ) (i : Instruction) → length (wordsBy e t a i) ≤ most
   pub two : 2 ≤ most

@@ -10,7 +10,7 @@ use Rattle.rules.specs.Limits.{maxSource, maxLines, addressLimit}
 use Rattle.rules.specs.Text.{Text, cutAt}
 use Rattle.rules.specs.Line.{SourceLine, linesOf, Instruction, Task, skipped, end, org, noOrg, labelOnly, instruction, value, space, Line, lineOf, size}
 use Rattle.rules.specs.Label.{Table, recordAll}
-use Rattle.rules.specs.Encode.{Cell, literal, address, encode}
+use Rattle.rules.specs.Encode.{Content, literal, address, encode}
 use Rattle.rules.specs.Answer.{Answer, accepted, refused, refuseIf, refuseAt, andThen}
 
 -- what a line asks, at the line's address
@@ -93,56 +93,56 @@ pub record Place : Type 0 where
   pub mark : ℕ
 
 -- "Label addresses in ext are taken modulo 65,536 and carry mark 1; all other words carry 0."
-unfoldable pub placeOf : ℕ → Cell → Place
+unfoldable pub placeOf : ℕ → Content → Place
 placeOf a (literal w) = record { address = a; word = w; mark = 0 }
 placeOf a (address x) = record { address = a; word = x % 65536; mark = 1 }
 
 -- words at an address: the second "at address + 2"
-unfoldable pub placesAt : ℕ → List Cell → List Place
+unfoldable pub placesAt : ℕ → List Content → List Place
 placesAt a [] = []
 placesAt a (c ∷ cs) = placeOf a c ∷ placesAt (a + 2) cs
 
 -- a value is "put as high word at the address and low word at address + 2, at every size"
-unfoldable pub dataCells : Task → List Cell
-dataCells skipped = []
-dataCells end = []
-dataCells (org v) = []
-dataCells noOrg = []
-dataCells labelOnly = []
-dataCells (instruction i) = []
-dataCells (value n v) = literal (v / 65536) ∷ literal (v % 65536) ∷ []
-dataCells (space n) = []
+unfoldable pub dataContents : Task → List Content
+dataContents skipped = []
+dataContents end = []
+dataContents (org v) = []
+dataContents noOrg = []
+dataContents labelOnly = []
+dataContents (instruction i) = []
+dataContents (value n v) = literal (v / 65536) ∷ literal (v % 65536) ∷ []
+dataContents (space n) = []
 
 -- the words of an instruction, by the labels, at an address; none where it "yields no word"
 abbrev pub Encoder : Type 0
-Encoder = Table → ℕ → Instruction → Option (List Cell)
+Encoder = Table → ℕ → Instruction → Option (List Content)
 
-abbrev pub wordsBy : Encoder → Table → ℕ → Instruction → List Cell
+abbrev pub wordsBy : Encoder → Table → ℕ → Instruction → List Content
 wordsBy e t a i = Option·getD (e t a i) []
 
-unfoldable pub codeCellsBy : Encoder → Table → ℕ → Task → List Cell
-codeCellsBy e t a skipped = []
-codeCellsBy e t a end = []
-codeCellsBy e t a (org v) = []
-codeCellsBy e t a noOrg = []
-codeCellsBy e t a labelOnly = []
-codeCellsBy e t a (instruction i) = wordsBy e t a i
-codeCellsBy e t a (value n v) = []
-codeCellsBy e t a (space n) = []
+unfoldable pub codeContentsBy : Encoder → Table → ℕ → Task → List Content
+codeContentsBy e t a skipped = []
+codeContentsBy e t a end = []
+codeContentsBy e t a (org v) = []
+codeContentsBy e t a noOrg = []
+codeContentsBy e t a labelOnly = []
+codeContentsBy e t a (instruction i) = wordsBy e t a i
+codeContentsBy e t a (value n v) = []
+codeContentsBy e t a (space n) = []
 
 unfoldable pub dataPlaces : Put → List Place
-dataPlaces p = placesAt (p .address) (dataCells (p .task))
+dataPlaces p = placesAt (p .address) (dataContents (p .task))
 
 unfoldable pub codePlacesBy : Encoder → Table → Put → List Place
-codePlacesBy e t p = placesAt (p .address) (codeCellsBy e t (p .address) (p .task))
+codePlacesBy e t p = placesAt (p .address) (codeContentsBy e t (p .address) (p .task))
 
 -- "Data words come first in source order, and instruction words go in behind the data words."
 unfoldable pub secondPassBy : Encoder → Pass → List Place
 secondPassBy e p = flatMap dataPlaces (p .puts) ++ flatMap (codePlacesBy e (p .labels)) (p .puts)
 
 -- with 01's words
-abbrev pub codeCells : Table → ℕ → Task → List Cell
-codeCells t a k = codeCellsBy encode t a k
+abbrev pub codeContents : Table → ℕ → Task → List Content
+codeContents t a k = codeContentsBy encode t a k
 
 abbrev pub codePlaces : Table → Put → List Place
 codePlaces t p = codePlacesBy encode t p

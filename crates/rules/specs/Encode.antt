@@ -11,9 +11,9 @@ use Rattle.rules.specs.Line.{Instruction}
 use Rattle.rules.specs.Label.{Table, find}
 
 -- a word of the list before it has its address and mark: a number as it stands, or a label's address
-pub data Cell : Type 0 where
-  literal : ℕ → Cell
-  address : ℕ → Cell
+pub data Content : Type 0 where
+  literal : ℕ → Content
+  address : ℕ → Content
 
 -- what a mnemonic names
 pub data Operation : Type 0 where
@@ -129,43 +129,43 @@ unfoldable pub jumps : Table → Text → Bool
 jumps ls s = cond (isSome (hexTail s) || allDigits s) (isSome (number16 s)) (isSome (find s ls))
 
 -- one word; a word and an extension word; a word and the address of the label l
-abbrev pub word : ℕ → Option (List Cell)
+abbrev pub word : ℕ → Option (List Content)
 word w = some (literal w ∷ [])
 
-abbrev pub withValue : ℕ → ℕ → Option (List Cell)
+abbrev pub withValue : ℕ → ℕ → Option (List Content)
 withValue w v = some (literal w ∷ literal v ∷ [])
 
-unfoldable pub withLabel : Table → ℕ → Text → Option (List Cell)
+unfoldable pub withLabel : Table → ℕ → Text → Option (List Content)
 withLabel ls w l = do x ← find l ls; some (literal w ∷ address x ∷ [])
 
 -- ---- 01's rows, each the words of one form by its operands s and t; w is the row's word
 -- Dn,Dm
-unfoldable pub registersRow : ℕ → Text → Text → Option (List Cell)
+unfoldable pub registersRow : ℕ → Text → Text → Option (List Content)
 registersRow w s t = do n ← dataRegister s; m ← dataRegister t; word (w + R m + n)
 
 -- #u16,Dn with the register in bits 9 to 11, and in bits 0 to 2
-unfoldable pub highRow : ℕ → Text → Text → Option (List Cell)
+unfoldable pub highRow : ℕ → Text → Text → Option (List Content)
 highRow w s t = do v ← imm16 s; n ← dataRegister t; withValue (w + R n) v
 
-unfoldable pub lowRow : ℕ → Text → Text → Option (List Cell)
+unfoldable pub lowRow : ℕ → Text → Text → Option (List Content)
 lowRow w s t = do v ← imm16 s; n ← dataRegister t; withValue (w + n) v
 
 -- (An),Dm and Dn,(Am)
-unfoldable pub fromIndirect : Text → Text → Option (List Cell)
+unfoldable pub fromIndirect : Text → Text → Option (List Content)
 fromIndirect s t = do n ← indirect s; m ← dataRegister t; word (0x2010 + R m + n)
 
-unfoldable pub toIndirect : Text → Text → Option (List Cell)
+unfoldable pub toIndirect : Text → Text → Option (List Content)
 toIndirect s t = do n ← dataRegister s; m ← indirect t; word (0x2080 + R m + n)
 
 -- label,Dn and Dn,label
-unfoldable pub fromLabel : Table → Text → Text → Option (List Cell)
+unfoldable pub fromLabel : Table → Text → Text → Option (List Content)
 fromLabel ls s t = do n ← dataRegister t; withLabel ls (0x2078 + R n) s
 
-unfoldable pub toLabel : Table → Text → Text → Option (List Cell)
+unfoldable pub toLabel : Table → Text → Text → Option (List Content)
 toLabel ls s t = do n ← dataRegister s; withLabel ls (0x23C0 + n) t
 
 -- "MOVE tries in order"
-unfoldable pub moveRows : Table → Text → Text → Option (List Cell)
+unfoldable pub moveRows : Table → Text → Text → Option (List Content)
 moveRows ls s t =
     highRow 0x21FC s t
     else fromIndirect s t
@@ -175,40 +175,40 @@ moveRows ls s t =
     else toLabel ls s t
 
 -- MOVEA #label,An: "the name is all after `#`, also when empty"
-unfoldable pub moveaRow : Table → Text → Text → Option (List Cell)
+unfoldable pub moveaRow : Table → Text → Text → Option (List Content)
 moveaRow ls s t = do l ← after (bytes "#") s; n ← addressRegister t; withLabel ls (0x207C + R n) l
 
-unfoldable pub mulsRows : Text → Text → Option (List Cell)
+unfoldable pub mulsRows : Text → Text → Option (List Content)
 mulsRows s t = highRow 0xC1FC s t else registersRow 0xC1C0 s t
 
-unfoldable pub cmpRows : Text → Text → Option (List Cell)
+unfoldable pub cmpRows : Text → Text → Option (List Content)
 cmpRows s t = lowRow 0x0C80 s t else registersRow 0xB040 s t
 
-unfoldable pub moveqRow : Text → Text → Option (List Cell)
+unfoldable pub moveqRow : Text → Text → Option (List Content)
 moveqRow s t = do v ← imm8 s; n ← dataRegister t; word (0x7000 + R n + modulo 256 v)
 
 -- SUBQ and ASL: "low three bits of the value in bits 9 to 11"
-unfoldable pub quickRow : ℕ → Text → Text → Option (List Cell)
+unfoldable pub quickRow : ℕ → Text → Text → Option (List Content)
 quickRow w s t = do v ← imm8 s; n ← dataRegister t; word (w + n + R (modulo 8 v))
 
 -- TST Dn
-unfoldable pub tstRow : Text → Option (List Cell)
+unfoldable pub tstRow : Text → Option (List Content)
 tstRow s = do n ← dataRegister s; word (0x4A80 + n)
 
 -- JMP or JUMP
-unfoldable pub jumpRow : Table → Text → Option (List Cell)
+unfoldable pub jumpRow : Table → Text → Option (List Content)
 jumpRow ls s = cond (jumps ls s) (word 0x4EF8) none
 
 -- "DBRA Dn,d", at address a
-unfoldable pub dbraRow : Table → ℕ → Text → Text → Option (List Cell)
+unfoldable pub dbraRow : Table → ℕ → Text → Text → Option (List Content)
 dbraRow ls a s t = do n ← dataRegister s; d ← displacement ls a t; word (0x51C8 + n)
 
 -- "$6000 + 256 × condition + (d modulo 256)"
-unfoldable pub branchRow : Table → ℕ → ℕ → Text → Option (List Cell)
+unfoldable pub branchRow : Table → ℕ → ℕ → Text → Option (List Content)
 branchRow ls a c s = do d ← displacement ls a s; word (0x6000 + 256 * c + modulo 256 d)
 
 -- the words of an operation at address a, by the labels ls
-unfoldable pub encodeOperation : Table → ℕ → Operation → List Text → Option (List Cell)
+unfoldable pub encodeOperation : Table → ℕ → Operation → List Text → Option (List Content)
 encodeOperation ls a move = two (moveRows ls)
 encodeOperation ls a movea = two (moveaRow ls)
 encodeOperation ls a muls = two mulsRows
@@ -226,9 +226,9 @@ encodeOperation ls a dbra = two (dbraRow ls a)
 encodeOperation ls a (branch c) = oneOrMore (branchRow ls a c)
 
 -- the words of an instruction, the mnemonics being those in use
-unfoldable pub encodeBy : List Mnemonic → Table → ℕ → Instruction → Option (List Cell)
+unfoldable pub encodeBy : List Mnemonic → Table → ℕ → Instruction → Option (List Content)
 encodeBy names ls a i = do o ← operationIn names (i .mnemonic); encodeOperation ls a o (i .operands)
 
 -- 01's
-abbrev pub encode : Table → ℕ → Instruction → Option (List Cell)
+abbrev pub encode : Table → ℕ → Instruction → Option (List Content)
 encode ls a i = encodeBy mnemonics ls a i

@@ -12,29 +12,29 @@ use Rattle.text.proofs.Trim.{leading-le, drop-leading, take-trimEnd, tr
 
 -- ---- the loop of `kept_length`
 -- what it keeps: the same is left of the text's front
-abbrev pub Kept : Text → ℕ → Type 0
-Kept t n = trimEnd (take n t) ≡ trimEnd t
+abbrev pub TrimsTo : Text → ℕ → Type 0
+TrimsTo t n = trimEnd (take n t) ≡ trimEnd t
 
 take-last : (t : Text) (n : ℕ) → 0 < n → n ≤ length t → take n t ≡ take (n - 1) t ++ (getD t (n - 1) 0 ∷ [])
 take-last t zero h l = absurd (omega arith)
 take-last t (suc m) h l = let e : suc m - 1 ≡ m = omega arith in rw e (take-suc t m 0 l)
 
 module _ (t : Text) where
-  pub kept-start : Kept t (length t)
+  pub kept-start : TrimsTo t (length t)
   kept-start = ap trimEnd (take-length t)
 
-  pub kept-end : (n : ℕ) → n ≤ 0 → Kept t n → n ≡ length (trimEnd t)
+  pub kept-end : (n : ℕ) → n ≤ 0 → TrimsTo t n → n ≡ length (trimEnd t)
   unfolding trimEnd
   kept-end zero h inv = ap length inv
   kept-end (suc n) h inv = omega arith
 
   module _ (n : ℕ) (p : 0 < n) (l : n ≤ length t) {y : Bool} (q : y ≡ blank (getD t (n - 1) 0)) where
-    pub kept-stop : not y ≡ true → Kept t n → n ≡ length (trimEnd t)
+    pub kept-stop : not y ≡ true → TrimsTo t n → n ≡ length (trimEnd t)
     kept-stop h inv =
         let whole : trimEnd (take n t) ≡ take n t = rw (take-last t n p l) (trimEnd-none (take (n - 1) t) (getD t (n - 1) 0) (sym q ∙ not-true y h)) in
         sym (length-take-le n t l) ∙ ap length (sym whole ∙ inv)
 
-    pub kept-more : not y ≡ false → Kept t n → Kept t (n - 1)
+    pub kept-more : not y ≡ false → TrimsTo t n → TrimsTo t (n - 1)
     kept-more h inv = sym (trimEnd-blank _ _ (sym q ∙ not-false y h)) ∙ ap trimEnd (sym (take-last t n p l)) ∙ inv
 
 -- ---- the parts that `trimmed` lends

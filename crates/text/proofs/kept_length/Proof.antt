@@ -3,12 +3,12 @@ use Prim.Native.Nat.{_≤_}
 use native.Mathlib.Omega.{arith}
 use borrow.Author.Needs.{needs}
 use lib.ListN.{length}
-use Rattle.text.proofs.Kept.{Kept, kept-start, kept-more, kept-stop, kept-end}
+use Rattle.text.proofs.Kept.{TrimsTo, kept-start, kept-more, kept-stop, kept-end}
 use Rattle.text.proofs.kept_length.Statement.{statement}
 use Rattle.text.proofs.kept_length.Tie as tie
 
 abbrev Inv-loop : tie.InvT-loop
-Inv-loop t n₀ n = (n ≤ length t) × Kept t n
+Inv-loop t n₀ n = (n ≤ length t) × TrimsTo t n
 
 abbrev μ-loop : tie.MeasureT-loop
 μ-loop t n₀ n = n
