@@ -87,11 +87,12 @@ dataSize u =
 unfoldable pub dataValue : Text → Text → Option ℕ
 dataValue u d = cond (contains (bytes "DC.") u) (numberIn (nth 1 (pieces d))) none
 
--- step 5: the task of the line s with its directive d
+-- step 5: data of a size, with its value if it has one
 unfoldable pub sized : ℕ → Option ℕ → Task
 sized n none = space n
 sized n (some v) = value n v
 
+-- step 5: the task of the line s with its directive d
 unfoldable pub dataTask : Text → Text → Task
 dataTask s d = sized (dataSize (uppers s)) (dataValue (uppers s) d)
 
