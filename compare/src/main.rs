@@ -3,6 +3,7 @@
 //!   compare record FILE [COUNT]     write the recorded answers that the program `replay` runs
 //!   compare lists N [SEED]          N random sources at base 0 against the original
 //!   compare speed                   the time of both on the inputs of docs/SPEED.md
+//!   compare calls I N               N calls on input I of these, from 0, for ./counts
 //!   compare moves N [SEED]          N random sources moved between bases, and chains of moves against the tally
 mod generate;
 #[cfg(linked)]
@@ -25,6 +26,8 @@ fn main() {
         Some("lists") => lists::compare(number(2, 100_000) as usize, number(3, 20261115)),
         #[cfg(linked)]
         Some("speed") => speed::table(),
+        #[cfg(linked)]
+        Some("calls") => speed::calls(number(2, 0) as usize, number(3, 0)),
         #[cfg(linked)]
         Some("moves") => moves::compare(number(2, 100_000) as usize, number(3, 20261116)),
         _ => eprintln!("usage: compare record FILE [COUNT] | lists N [SEED] | moves N [SEED] | speed; all but record want the static library: see ./run"),

@@ -84,6 +84,17 @@ fn inputs() -> Vec<(&'static str, String)> {
     ]
 }
 
+/// So many calls on one input, and its name.
+pub fn calls(input: usize, count: u64) {
+    let inputs = inputs();
+    let Some((name, s)) = inputs.get(input) else { return };
+    let mut x = Slices::old([8192; 3]);
+    for _ in 0..count {
+        black_box(assemble(black_box(s.as_bytes()), 0, &mut x));
+    }
+    println!("{name}");
+}
+
 fn row(name: &str, [rust, ours, ratio]: [f64; 3]) {
     println!("| {name} | {:.2} µs | {:.2} µs | {ratio:.1} |", rust / 1000.0, ours / 1000.0);
 }
