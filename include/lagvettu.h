@@ -1,8 +1,8 @@
 /*
  * Lagvettu: a two-pass 68000 script assembler, and a mover that relocates its lists.
  *
- * Each function is proved to answer, and to leave each place of each slice, as paper 01 says, whatever the bytes and
- * numbers that it is given. A slice is passed as a pointer and then its length, counted in elements. As for any C
+ * Each function is proved to answer, and to leave each place of each slice, as papers 01 and 02 say, whatever the bytes
+ * and numbers that it is given. A slice is passed as a pointer and then its length, counted in elements. As for any C
  * function, the pointers are the caller's part: each is aligned, not null (at length 0 too) and good for its length,
  * what a call writes overlaps nothing else that it is lent, and nothing else writes there meanwhile.
  *
@@ -22,7 +22,7 @@
 extern "C" {
 #endif
 
-/* The answers, a refusal with paper 01's words for its condition and its place. */
+/* The answers, a refusal with the papers' words for its condition and its place. */
 enum lagvettu_refusal {
     LAGVETTU_ACCEPTED = 0,
 
@@ -39,7 +39,10 @@ enum lagvettu_refusal {
     LAGVETTU_DISTANCE_TOO_FAR = 8,  /* distance outside +-(2^30 - 1); place 0 */
     LAGVETTU_COUNT_TOO_HIGH = 9,    /* count over any slice's length; place the count */
     LAGVETTU_MARK_UNKNOWN = 10,     /* a mark not 0 or 1 in the first count places; place its index, from 0 */
-    LAGVETTU_MOVED_OUTSIDE = 11     /* a moved address, in those places, below 0 or above 2^30 + 1; place its index */
+    LAGVETTU_MOVED_OUTSIDE = 11,    /* a moved address, in those places, below 0 or above 2^30 + 1; place its index */
+
+    /* From what is asked. */
+    LAGVETTU_NO_LABEL_NEAR = 12     /* no label at or below the address; place 0 */
 };
 
 /* The longest source that is not refused, in bytes. */
@@ -70,6 +73,21 @@ uint8_t lagvettu_move(uint32_t *addresses, size_t addresses_length,
                       size_t count,
                       int32_t distance,
                       size_t *place);
+
+/*
+ * Which label is an address near? Names the label whose address is greatest without passing it, in a source at a base; of
+ * labels with equal addresses, the one whose last record stands first in the source. *start and *length say where its name
+ * stands in the source, in its last record; an empty name has length 0 and starts at its colon. *distance is how far past the
+ * label the address is. Any address may be asked. Checks 1 to 6 as lagvettu_assemble, then 12. When it accepts, *place is 0;
+ * when it refuses, *start, *length and *distance are 0.
+ *
+ *     "A:\nNOP\nB: NOP" at base $1000, address $1003: start 7, length 1, distance 1.
+ */
+uint8_t lagvettu_nearest(const uint8_t *source, size_t source_length,
+                         uint32_t base,
+                         uint32_t address,
+                         size_t *start, size_t *length, uint32_t *distance,
+                         size_t *place);
 
 #ifdef __cplusplus
 }

@@ -1,14 +1,14 @@
--- What a call from C owes: its answer as two numbers, and the three lent slices afterwards. Assumes nothing.
+-- What a call from C owes: its answer as numbers, and the lent slices afterwards. Assumes nothing.
 use Prim.Native.Nat.{ℕ}
 use mathlib.Core.Path.{_≡_}
 use mathlib.Core.List.{List}
 use lib.IntN.{ℤ}
 use Rattle.rules.specs.Text.{Text}
-use Rattle.rules.specs.Answer.{Answer as Ruled}
+use Rattle.rules.specs.Answer.{Answer as Ruled, accepted, refused}
 use Rattle.rules.specs.Assemble.{Slices, assembleAnswer, assembleSlices}
 use Rattle.rules.specs.Relocate.{moveAnswer, moveSlices}
-use Rattle.answer.specs.Answer.{answerOf}
-use Rattle.answer.specs.Answer.{answerNumber, answerPlace}
+use Rattle.requests.specs.Nearest.{Nearest}
+use Rattle.answer.specs.Answer.{answerOf, answerNumber, answerPlace}
 
 -- 01's answer a as C gets it: n is what the call returns, p what it leaves in the number that the caller lends
 pub record Answers (a : Ruled ℕ) (n p : ℕ) : Type 0 where
@@ -25,3 +25,8 @@ pub record Moves (x : Slices) (count : ℕ) (distance : ℤ) (n p : ℕ) (xs ws 
   pub answer : Answers (moveAnswer x count distance) n p
   pub addresses : xs ≡ (moveSlices x count distance) .addresses
   pub words : ws ≡ (moveSlices x count distance) .words
+
+-- the contract of `lagvettu_nearest`: what it returns, and what it leaves in the numbers that the caller lends
+pub data Nears : Ruled Nearest → ℕ → ℕ → ℕ → ℕ → ℕ → Type 0 where
+  named : (r : Nearest) → Nears (accepted r) 0 (r .start) (r .length) (r .distance) 0
+  not-named : (n p : ℕ) → Nears (refused n p) n 0 0 0 p

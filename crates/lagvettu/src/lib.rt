@@ -1,8 +1,10 @@
-// The C interface: assembling at a base, and moving. An answer is 01's number, 0 for accepted, and its place or the
-// count in a number that the caller lends. include/lagvettu.h declares the same functions.
+// The C interface: assembling at a base, moving, and paper 02's calls. An answer is the paper's number, 0 for accepted, and
+// its place or the count in a number that the caller lends. include/lagvettu.h declares the same functions.
+use nearest::Nearest;
 ghost use mathlib.Core.Path.{_≡_};
 ghost use Rattle.rules.specs.Assemble.{slices};
-ghost use Rattle.lagvettu.specs.Called.{Assembles, Moves};
+ghost use Rattle.requests.specs.Nearest.{nearest};
+ghost use Rattle.lagvettu.specs.Called.{Assembles, Moves, Nears};
 
 // Assembles a source at a base: the list in the first places of the three slices, or a refusal and nothing written.
 #[no_mangle]
@@ -37,4 +39,36 @@ pub extern "C" fn lagvettu_move(
     let answer = relocate::relocate(addresses, words, marks, count, distance);
     *place = answer::place(answer);
     answer::number(answer)
+}
+
+// Names the label that an address is near, in a source at a base: its start and length in the source, where it was recorded
+// last, and the distance from it; or refuses. The numbers that an answer does not have are 0.
+#[no_mangle]
+pub extern "C" fn lagvettu_nearest(
+    source: &[u8],
+    base: u32,
+    address: u32,
+    start: &mut usize,
+    length: &mut usize,
+    distance: &mut u32,
+    place: &mut usize,
+) -> u8
+    ensures { λ r. ⌜ Nears (nearest base (now (source .entry)) address) r (now (start .exit)) (now (length .exit)) (now (distance .exit)) (now (place .exit)) ⌝ }
+{
+    match nearest::nearest_label(source, base, address) {
+        Nearest::Label(s, l, d) => {
+            *start = s;
+            *length = l;
+            *distance = d;
+            *place = 0;
+            0
+        }
+        Nearest::Refused(n, p) => {
+            *start = 0;
+            *length = 0;
+            *distance = 0;
+            *place = p;
+            n
+        }
+    }
 }
