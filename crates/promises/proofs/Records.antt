@@ -6,7 +6,7 @@ use mathlib.Core.Option.{some}
 use mathlib.Core.List.{List, [], _∷_, map}
 use native.Mathlib.Omega.{arith}
 use lib.Dec.{eqb}
-use lib.ListN.{length, getElem?, take, drop}
+use lib.ListN.{length, getElem?, drop}
 use Rattle.rules.specs.Text.{Text, cutAt}
 use Rattle.rules.specs.Line.{SourceLine, numbered, linesOf, Name, name, Task, end, lineOf, size}
 use Rattle.rules.specs.Label.{Label, Table, recordAll}
@@ -20,7 +20,7 @@ use Rattle.promises.proofs.Tasks.{next-address, pass-line}
 use Rattle.promises.proofs.Shapes.{end-unlabelled}
 use Rattle.promises.proofs.Demand1Lines.{line-at, no-line}
 use Rattle.promises.proofs.Demand1Passes.{reached-once, not-end}
-use Rattle.promises.proofs.Standing.{at-take, at-in, texts-at}
+use Rattle.promises.proofs.Standing.{At, at-within, at-take, at-in, texts-at}
 use Rattle.promises.proofs.Names.{Rising, next, rising-in, names-rise}
 use Rattle.promises.proofs.Kept.{Unique, Last, Keeps, keeps-by, labelOf, keeps-all, mapped, map-in}
 
@@ -182,12 +182,12 @@ start-le [] (suc j) (suc k) h = omega arith
 start-le (l ∷ ls) (suc j) (suc k) h = omega (arith, start-le ls j k (omega arith))
 
 -- records stand where they say, in their order
-stands : {base : ℕ} {s n : Text} {i k a : ℕ} → Records base s n i k a → take (length n) (drop i s) ≡ n
+stands : {base : ℕ} {s n : Text} {i k a : ℕ} → Records base s n i k a → At n i s
 unfolding cutAt
 stands {base} {s} {i = i} r =
     let q = apart base s r in
     let l = texts-at (eqb 10) s (q .index) (q .text) (q .is) in
-    at-take (at-in i (sym (q .starts)) (rising-in (names-rise (q .text)) (q .named) .0) l)
+    at-in i (sym (q .starts)) (rising-in (names-rise (q .text)) (q .named) .0) l
 
 by-lines : {base : ℕ} {s n n′ : Text} {i i′ k k′ a a′ : ℕ} → Records base s n i k a → Records base s n′ i′ k′ a′ → k < k′ → i < i′
 by-lines {base} {s} r r′ h =
@@ -202,4 +202,4 @@ on-line : {l : Text} {e b : ℕ} {m m′ : Name} → Rising l e b (m ∷ m′ �
 on-line (next h a (next k c r)) = k
 
 pub records-stand : RecordsStand
-records-stand = record { text = stands; lines = by-lines; names = λ l m m′ e. on-line (rw e at (names-rise l)) }
+records-stand = record { within = λ r. at-within (stands r); text = λ r. at-take (stands r); lines = by-lines; names = λ l m m′ e. on-line (rw e at (names-rise l)) }
