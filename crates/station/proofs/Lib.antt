@@ -1,5 +1,6 @@
 pub mod Printed
 pub mod Moving
+pub mod ScriptInput
 pub mod Script
 pub mod Front
 pub mod Kept

@@ -44,9 +44,9 @@ scriptText t = listedText (assemble 0 t)
 unfoldable pub unlessFailed : Input → Text → Text
 unlessFailed i t = cond (i .failed) [] t
 
--- a script: over the limit only the length counts
-unfoldable pub scriptInputText : Input → List ℕ → Text
-scriptInputText i buffer = unlessFailed i (cond (ltb maxSource (i .total)) (refusedText 1 (i .total)) (scriptText (take (i .total) buffer)))
+-- a script, for which f is printed: over the limit only the length counts
+unfoldable pub inputText : (Text → Text) → Input → List ℕ → Text
+inputText f i buffer = unlessFailed i (cond (ltb maxSource (i .total)) (refusedText 1 (i .total)) (f (take (i .total) buffer)))
 
 -- the one line for a text that is no list's: its first wrong line, or the first for which there is no room
 unfoldable pub wrongLineText : ℕ → Text

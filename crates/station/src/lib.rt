@@ -9,7 +9,7 @@ ghost use Prim.Native.Nat.{_≤_, min};
 ghost use lib.ListN.{length as len, take};
 ghost use Rattle.rules.specs.Text.{Text};
 ghost use Rattle.rules.specs.Assemble.{slices};
-ghost use Rattle.station.specs.Station.{answerText, scriptText, wrongLineText, movedText, unlessFailed, scriptInputText, listInputText};
+ghost use Rattle.station.specs.Station.{answerText, scriptText, wrongLineText, movedText, unlessFailed, inputText, listInputText};
 ghost use Rattle.station.specs.Printed.{Printed};
 ghost use Rattle.station.specs.Reads.{Reads};
 use answer::Answer;
@@ -74,8 +74,8 @@ fn assemble_text(bytes: &[u8], length: usize, out: &mut [u8; TEXT]) -> usize
 
 // Puts what is printed for an input that is a script at the front, and answers its length: nothing if it was not read whole.
 pub fn script_text(script: &[u8; SCRIPT], input: Input, out: &mut [u8; TEXT]) -> usize
-    ensures { λ r. ⌜ Printed (scriptInputText input (now (script .entry))) r (now (out .entry)) (now (out .exit)) ⌝ }
-    ensures { λ r. ⌜ ((t : Text) → Reads t (now (script .entry)) input → scriptInputText input (now (script .entry)) ≡ unlessFailed input (scriptText t)) ⌝ }
+    ensures { λ r. ⌜ Printed (inputText scriptText input (now (script .entry))) r (now (out .entry)) (now (out .exit)) ⌝ }
+    ensures { λ r. ⌜ ((t : Text) → Reads t (now (script .entry)) input → inputText scriptText input (now (script .entry)) ≡ unlessFailed input (scriptText t)) ⌝ }
 {
     if input.failed {
         return 0;
