@@ -1,0 +1,2 @@
+pub mod LabelLine
+pub mod Told
