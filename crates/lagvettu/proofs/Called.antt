@@ -4,7 +4,7 @@ use mathlib.Core.Path.{_≡_, ap, _∙_}
 use mathlib.Core.List.{List}
 use lib.IntN.{ℤ}
 use Rattle.rules.specs.Text.{Text}
-use Rattle.rules.specs.Answer.{Answer as Ruled, accepted, refused}
+use Rattle.rules.specs.Answer.{Answer as Ruled}
 use Rattle.rules.specs.Assemble.{Slices}
 use Rattle.answer.specs.declared.Answer.{Answer}
 use Rattle.answer.specs.Answer.{answerOf}
@@ -13,8 +13,9 @@ use Rattle.relocate.specs.Moved.{Moved}
 use Rattle.answer.specs.Answer.{answerNumber, answerPlace}
 use Rattle.requests.specs.Nearest.{Nearest}
 use Rattle.nearest.specs.Nearest.{nearestOf}
+use Rattle.nearest.proofs.Answers.{named, not-named}
 use Rattle.nearest.specs.declared.Nearest.the-variants.{Label, Refused}
-use Rattle.lagvettu.specs.Called.{Answers, Assembles, Moves, Nears, named, not-named}
+use Rattle.lagvettu.specs.Called.{Answers, Assembles, Moves, Nears, of-label, of-refusal}
 
 module _ {r : Answer} {n p : ℕ} (hn : n ≡ answerNumber r) (hp : p ≡ answerPlace r) where
   passed-on : {a : Ruled ℕ} → r ≡ answerOf a → Answers a n p
@@ -26,20 +27,8 @@ module _ {r : Answer} {n p : ℕ} (hn : n ≡ answerNumber r) (hp : p ≡ answer
   pub moves : {x : Slices} {count : ℕ} {distance : ℤ} {xs ws : List ℕ} → Moved x count distance r xs ws → Moves x count distance n p xs ws
   moves h = record { answer = passed-on (h .answer); addresses = h .addresses; words = h .words }
 
-is-named : (a : Ruled Nearest) {s l d : ℕ} → nearestOf a ≡ Label s l d → a ≡ accepted (record { start = s; length = l; distance = d })
-is-named (accepted r) {s} {l} {d} e =
-    let start : s ≡ r .start = cc in
-    let long : l ≡ r .length = cc in
-    let far : d ≡ r .distance = cc in
-    rw (start, long, far)
-is-named (refused n p) e = cc
-
-is-not-named : (a : Ruled Nearest) {n p : ℕ} → nearestOf a ≡ Refused n p → a ≡ refused n p
-is-not-named (accepted r) e = cc
-is-not-named (refused m q) e = cc
-
 pub nears-named : (a : Ruled Nearest) {s l d : ℕ} → nearestOf a ≡ Label s l d → Nears a 0 s l d 0
-nears-named a {s} {l} {d} e = rw (is-named a e) (named (record { start = s; length = l; distance = d }))
+nears-named a {s} {l} {d} e = rw (named a s l d e) (of-label (record { start = s; length = l; distance = d }))
 
 pub nears-not : (a : Ruled Nearest) {n p : ℕ} → nearestOf a ≡ Refused n p → Nears a n 0 0 0 p
-nears-not a {n} {p} e = rw (is-not-named a e) (not-named n p)
+nears-not a {n} {p} e = rw (not-named a n p e) (of-refusal n p)

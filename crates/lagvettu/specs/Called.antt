@@ -28,5 +28,5 @@ pub record Moves (x : Slices) (count : ℕ) (distance : ℤ) (n p : ℕ) (xs ws 
 
 -- the contract of `lagvettu_nearest`: what it returns, and what it leaves in the numbers that the caller lends
 pub data Nears : Ruled Nearest → ℕ → ℕ → ℕ → ℕ → ℕ → Type 0 where
-  named : (r : Nearest) → Nears (accepted r) 0 (r .start) (r .length) (r .distance) 0
-  not-named : (n p : ℕ) → Nears (refused n p) n 0 0 0 p
+  of-label : (r : Nearest) → Nears (accepted r) 0 (r .start) (r .length) (r .distance) 0
+  of-refusal : (n p : ℕ) → Nears (refused n p) n 0 0 0 p

@@ -1,12 +1,11 @@
 -- What is printed for a script by what the call answers: a label's line, whose name lies in the script, or a refusal's. Assumes nothing.
 use Prim.Native.Nat.{ℕ, _+_, _-_, _≤_}
 use mathlib.Core.Path.{_≡_, sym, _∙_}
-use mathlib.Core.Bool.{false≢true}
 use native.Mathlib.Omega.{arith}
 use lib.ListN.{length, take, drop}
 use lib.Seq.{length-take-le}
 use Rattle.rules.specs.Text.{Text}
-use Rattle.rules.specs.Answer.{Answer, accepted, refused, andThen}
+use Rattle.rules.specs.Answer.{accepted, andThen}
 use Rattle.rules.specs.Assemble.{passAtBy}
 use Rattle.requests.specs.Nearest.{Nearest as Ruled, nearest}
 use Rattle.promises.specs.Nearest.{NearestIsNear}
@@ -16,6 +15,7 @@ use Rattle.text.proofs.Spans.{part-part}
 use Rattle.nearest.specs.declared.Nearest.{Nearest}
 use Rattle.nearest.specs.declared.Nearest.the-variants.{Label, Refused}
 use Rattle.nearest.specs.Nearest.{nearestOf}
+use Rattle.nearest.proofs.Answers.{named, not-named}
 use Rattle.listing.specs.Listing.{refusedText}
 use Rattle.station.proofs.ScriptInput.{RefusesLong, checks-long}
 use Rattle.neartext.specs.NearLabel.{labelText, toldText, nearText}
@@ -29,15 +29,6 @@ within : (base : ℕ) (s : Text) (a : ℕ) (n : Ruled) → nearest base s a ≡ 
 unfolding NearestIsNear
 within base s a n e = let near = nearest-is-near base s a n .0 e in rw (near .length) (records-stand .within (near .last .made))
 
--- from the code's answer to 02's
-named : (x : Answer Ruled) (i n d : ℕ) → nearestOf x ≡ Label i n d → x ≡ accepted (record { start = i; length = n; distance = d })
-named (accepted m) i n d e = let u : m .start ≡ i = cc in let v : m .length ≡ n = cc in let w : m .distance ≡ d = cc in rw (u, v, w)
-named (refused m p) i n d e = absurd (false≢true cc)
-
-unnamed : (x : Answer Ruled) (n p : ℕ) → nearestOf x ≡ Refused n p → x ≡ refused n p
-unnamed (accepted m) n p e = absurd (false≢true cc)
-unnamed (refused m q) n p e = let u : m ≡ n = cc in let v : q ≡ p = cc in rw (u, v)
-
 -- a part of a script that stands in front
 part-front : (l : Text) (k i n : ℕ) → i + n ≤ k → take n (drop i (take k l)) ≡ take (i + n - i) (drop i l)
 part-front l k i n h =
@@ -50,7 +41,7 @@ part-front l k i n h =
 module _ (base a : ℕ) (l : Text) (k : ℕ) {r : Nearest} (e : r ≡ nearestOf (nearest base (take k l) a)) where
   pub refusal-text : (n p : ℕ) → r ≡ Refused n p → refusedText n p ≡ nearText base a (take k l)
   unfolding nearText toldText
-  refusal-text n p f = rw (unnamed (nearest base (take k l) a) n p (sym e ∙ f))
+  refusal-text n p f = rw (not-named (nearest base (take k l) a) n p (sym e ∙ f))
 
   module _ (i n d : ℕ) (f : r ≡ Label i n d) where
     is-named : nearest base (take k l) a ≡ accepted (record { start = i; length = n; distance = d })
