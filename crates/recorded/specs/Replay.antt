@@ -6,7 +6,7 @@ use mathlib.Core.List.{List, [], _∷_, _++_}
 use lib.Dec.{eqb, ltb, leb}
 use lib.ListN.{length, take, drop, set}
 use Rattle.rules.specs.Text.{Text, bytes, same}
-use Rattle.rules.specs.Assemble.{Slices, over, holding, assembleAnswer, assembleSlices}
+use Rattle.rules.specs.Assemble.{Slices, holding, assembleAnswer, assembleSlices}
 use Rattle.answer.specs.Answer.{answerOf, answerNumber, answerPlace}
 use Rattle.listing.specs.Listing.{decimal}
 use Rattle.station.specs.declared.input.Input.{Input}
@@ -112,11 +112,6 @@ firstText first t = cond (eqb first 0) t (((t ++ bytes "the first that differs i
 
 unfoldable pub replayText : Tally → Input → Text
 replayText s i = unlessFailed i (firstText (s .first) (countsText s))
-
--- a text put at the front, and its length
-pub record Written (s : Text) (n : ℕ) (x y : List ℕ) : Type 0 where
-  pub long : n ≡ length s
-  pub after : y ≡ over s x
 
 -- the input was read, and ended within a record
 unfoldable pub isCutOff : Tally → Input → Bool

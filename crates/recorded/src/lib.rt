@@ -14,9 +14,9 @@ ghost use Prim.Native.Nat.{_+_, _*_, _≤_, min};
 ghost use lib.ListN.{length};
 ghost use Rattle.rules.specs.Assemble.{slices, holding};
 ghost use Rattle.answer.specs.Answer.{answerNumber, answerPlace};
-ghost use Rattle.station.specs.Printed.{Printed};
+ghost use Rattle.station.specs.Printed.{Printed, Written};
 ghost use Rattle.recorded.specs.Recorded.{numberAt, rowsIn, termsIn, countOf, Called, Even, WholeRecord, Agrees};
-ghost use Rattle.recorded.specs.Replay.{verdictIn, sizeBy, countedBy, replay, tookByte, fed, countsText, replayText, Written, isCutOff};
+ghost use Rattle.recorded.specs.Replay.{verdictIn, sizeBy, countedBy, replay, tookByte, fed, countsText, replayText, isCutOff};
 
 // The bytes of a head, of terms and of a row.
 const HEAD: usize = 5;

@@ -1,14 +1,13 @@
 -- What a program says: its name, and words after it. Assumes nothing.
 use Prim.Native.Nat.{ℕ, _+_, min}
-use mathlib.Core.Path.{_≡_, sym, ap, _∙_}
+use mathlib.Core.Path.{_≡_, refl}
 use mathlib.Core.List.{_++_}
 use native.Mathlib.Omega.{arith}
-use lib.ListN.{length, take, length-append, length-take}
+use lib.ListN.{length, take, length-take}
 use Rattle.rules.specs.Text.{Text}
 use Rattle.text.specs.Spans.{overFrom}
-use Rattle.text.proofs.Over.{put-both, put-over}
 use Rattle.station.specs.Printed.{Printed}
-use Rattle.station.proofs.Printed.{printed}
+use Rattle.station.proofs.Written.{written-first, written-more, written-all}
 use Rattle.station.proofs.Kept.{take-lesser}
 
 -- n bytes of the name are put at the front, which gives x, and then the words, which gives y
@@ -17,10 +16,4 @@ pub said : (name words out x y : Text) (n : ℕ) → n ≡ min (length name) 32 
 said name words out x y n e ex ey =
     let front : take n name ≡ take 32 name = take-lesser n 32 name e in
     let size : length (take 32 name) ≡ n = rw (← front, length-take n name) (omega arith) in
-    printed (take 32 name ++ words) (n + length words) out y
-    (rw (length-append (take 32 name) words, size))
-    (sym
-    (sym (put-over (take 32 name ++ words) out)
-    ∙ put-both 0 n (take 32 name) out (omega arith) (omega arith) words
-    ∙ ap (overFrom n words) (ap (λ (s : Text). overFrom 0 s out) (sym front) ∙ sym ex)
-    ∙ sym ey))
+    written-all (written-more (written-first (take 32 name) n out x (omega arith) (rw (← front) ex)) words (n + length words) y refl ey)

@@ -51,7 +51,7 @@ inputText f i buffer = unlessFailed i (cond (ltb maxSource (i .total)) (refusedT
 
 -- the one line for a text that is no list's: its first wrong line, or the first for which there is no room
 unfoldable pub wrongLineText : ℕ → Text
-wrongLineText n = bytes "not a list: line " ++ (decimal n ++ (10 ∷ []))
+wrongLineText n = (bytes "not a list: line " ++ decimal n) ++ (10 ∷ [])
 
 -- three slices that a list fills
 unfoldable pub filledBy : List Place → Slices

@@ -1,7 +1,8 @@
 -- `replay_text` meets its contract: nothing, the counts, or these and the first that differs. Assumes nothing.
 use mathlib.Core.Path.{refl}
 use Rattle.rules.specs.Text.{bytes}
-use Rattle.recorded.proofs.Counts.{written-more, written-end, text-failed, text-agrees, text-differs}
+use Rattle.station.proofs.Written.{written-more, written-byte}
+use Rattle.recorded.proofs.Counts.{text-failed, text-agrees, text-differs}
 use native.Mathlib.Omega.{arith}
 use borrow.Author.Needs.{needs}
 use Rattle.recorded.proofs.replay_text.Statement.{statement}
@@ -15,7 +16,7 @@ returns-2 c = text-agrees _ _ (c .before .before .before .before .if1 .left) (c 
 
 returns-3 : tie.Need-returns-3
 unfolding bytes
-returns-3 c = text-differs _ _ (c .before .before .before .before .before .before .before .before .before .if1 .left) (c .before .before .before .before .before .if2 .left) _ _ _ (written-end (written-more (written-more (c .before .before .before .before .before .before .before .write-counts .ensures .0) (bytes "the first that differs is record ") _ _ refl (c .before .before .write-bytes .ensures)) _ _ _ (c .write-decimal .ensures .0) (c .write-decimal .ensures .2)) (omega arith))
+returns-3 c = text-differs _ _ (c .before .before .before .before .before .before .before .before .before .if1 .left) (c .before .before .before .before .before .if2 .left) _ _ _ (written-byte (written-more (written-more (c .before .before .before .before .before .before .before .write-counts .ensures .0) (bytes "the first that differs is record ") _ _ refl (c .before .before .write-bytes .ensures)) _ _ _ (c .write-decimal .ensures .0) (c .write-decimal .ensures .2)) 10 (omega arith))
 
 pub replay-text-spec : {M : Type 1} → statement M
 replay-text-spec =

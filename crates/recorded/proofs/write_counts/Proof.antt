@@ -3,7 +3,7 @@ use mathlib.Core.Path.{refl}
 use native.Mathlib.Omega.{arith}
 use Rattle.rules.specs.Text.{bytes}
 use Rattle.recorded.specs.Replay.{countsText}
-use Rattle.recorded.proofs.Counts.{written-first, written-more}
+use Rattle.station.proofs.Written.{written-first, written-more}
 use borrow.Author.Needs.{needs}
 use Rattle.recorded.proofs.write_counts.Statement.{statement}
 use Rattle.recorded.proofs.write_counts.Tie as tie
