@@ -1,0 +1,18 @@
+-- `call_text` goes by the call's number. Assumes nothing.
+use borrow.Author.Tests.{ne-eqb}
+use Rattle.station.proofs.Printed.{printed-none}
+use Rattle.calls.specs.Calls.{callText}
+use borrow.Author.Needs.{needs}
+use Rattle.calls.proofs.call_text.Statement.{statement}
+use Rattle.calls.proofs.call_text.Tie as tie
+
+returns : tie.Need-returns
+unfolding callText
+returns c = rw (c .before .before .match .keys1) (c .nearest-text .ensures)
+
+returns-2 : tie.Need-returns-2
+unfolding callText
+returns-2 c = rw (ne-eqb _ 2 (c .match .rest .1)) (printed-none _)
+
+pub call-text-spec : {M : Type 1} → statement M
+call-text-spec = tie.close (tie.spec (λ c κs. search needs) returns returns-2)

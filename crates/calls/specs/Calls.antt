@@ -1,0 +1,45 @@
+-- Paper 02's calls by the numbers that they have in records, each answered as a text. Assumes nothing.
+use Prim.Native.Nat.{ℕ}
+use mathlib.Core.Path.{_≡_}
+use mathlib.Core.Bool.{Bool, true, _&&_, cond}
+use mathlib.Core.List.{[], _∷_, _++_}
+use lib.Dec.{eqb, leb}
+use Rattle.rules.specs.Text.{Text}
+use Rattle.rules.specs.Answer.{Answer, accepted, refused}
+use Rattle.requests.specs.Nearest.{Nearest, nearest}
+use Rattle.listing.specs.Listing.{decimal, refusedText}
+
+-- ---- texts
+
+-- a number in decimal, and the byte after it
+unfoldable pub numberText : ℕ → ℕ → Text
+numberText n after = decimal n ++ (after ∷ [])
+
+-- the text of what is accepted, or the line of a refusal
+unfoldable pub answeredText : {A : Type 0} → (A → Text) → Answer A → Text
+answeredText f (accepted x) = f x
+answeredText f (refused n p) = refusedText n p
+
+-- ---- the calls: x and y are two numbers whose meaning the call says, s is its source
+
+-- W-201's answer, "start and length in its last record, and the distance"
+unfoldable pub nearestText : Nearest → Text
+nearestText n = (numberText (n .start) 32 ++ numberText (n .length) 32) ++ numberText (n .distance) 10
+
+-- 2 is W-201, x its base and y its address; a call that is not known has no text
+unfoldable pub callText : ℕ → ℕ → ℕ → Text → Text
+callText call x y s = cond (eqb call 2) (answeredText nearestText (nearest x s y)) []
+
+-- the calls' numbers go on from the assembler's, which is 1, to the last one's
+abbrev lastCall : ℕ
+lastCall = 2
+
+unfoldable pub isCall : ℕ → Bool
+isCall call = leb 2 call && leb call lastCall
+
+-- ---- a recorded call
+
+-- it agrees: the call is known, and its text is the recorded one
+pub record CallAgrees (call x y : ℕ) (s recorded : Text) : Type 0 where
+  pub known : isCall call ≡ true
+  pub answer : callText call x y s ≡ recorded

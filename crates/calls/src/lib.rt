@@ -1,0 +1,101 @@
+// Paper 02's calls by the numbers that they have in records, each answered as a text, and a recorded text compared with it.
+use listing::writing::write_decimal;
+use listing::writing::write_refused;
+use nearest::Nearest;
+use nearest::nearest_label;
+use text::starts_with;
+ghost use mathlib.Core.Path.{_≡_};
+ghost use mathlib.Core.Bool.{true};
+ghost use mathlib.Core.Logic.{_↔_};
+ghost use Prim.Native.Nat.{_+_, _≤_};
+ghost use lib.ListN.{length as len};
+ghost use Rattle.rules.specs.Text.{same};
+ghost use Rattle.text.specs.Spans.{overFrom};
+ghost use Rattle.station.specs.Printed.{Printed};
+ghost use Rattle.requests.specs.Nearest.{nearest};
+ghost use Rattle.calls.specs.Calls.{numberText, answeredText, nearestText, callText, isCall, CallAgrees};
+
+// The bytes of the longest text there is, a list's.
+pub const ROOM: usize = station::TEXT;
+
+// The calls' numbers go on from the assembler's, which is 1.
+const FIRST: u8 = 2;
+
+const LAST: u8 = 2;
+
+// ---- Texts.
+
+// Puts a number in decimal and the byte after it at an index, and answers the index behind them.
+fn write_number(out: &mut [u8], at: usize, n: u64, after: u8) -> usize
+    requires { ⌜ at + 21 ≤ len (now out) ⌝ }
+    ensures { λ r. ⌜ (r ≡ at + len (numberText n after)) × (r ≤ at + 21) × (now (out .exit) ≡ overFrom at (numberText n after) (now (out .entry))) ⌝ }
+{
+    let end = write_decimal(out, at, n);
+    out[end] = after;
+    end + 1
+}
+
+// ---- The calls.
+
+// Puts W-201's three numbers at the front, and answers their length.
+fn write_nearest(start: usize, length: usize, distance: u32, out: &mut [u8; ROOM]) -> usize
+    ensures { λ r. ⌜ Printed (nearestText (record { start = start; length = length; distance = distance })) r (now (out .entry)) (now (out .exit)) ⌝ }
+{
+    let first = write_number(out, 0, start as u64, b' ');
+    let second = write_number(out, first, length as u64, b' ');
+    write_number(out, second, distance as u64, b'\n')
+}
+
+// Puts W-201's answer at the front, and answers its length.
+fn nearest_text(source: &[u8], base: u32, address: u32, out: &mut [u8; ROOM]) -> usize
+    ensures { λ r. ⌜ Printed (answeredText nearestText (nearest base (now (source .entry)) address)) r (now (out .entry)) (now (out .exit)) ⌝ }
+{
+    match nearest_label(source, base, address) {
+        Nearest::Label(start, length, distance) => write_nearest(start, length, distance, out),
+        Nearest::Refused(number, place) => write_refused(number, place, out),
+    }
+}
+
+// Puts the text of a call at the front, and answers its length: none for a call that is not known.
+pub fn call_text(call: u8, x: u32, y: u32, source: &[u8], out: &mut [u8; ROOM]) -> usize
+    ensures { λ r. ⌜ Printed (callText call x y (now (source .entry))) r (now (out .entry)) (now (out .exit)) ⌝ }
+{
+    match call {
+        2 => nearest_text(source, x, y, out),
+        _ => 0,
+    }
+}
+
+// Whether a call is known.
+pub fn is_call(call: u8) -> bool
+    ensures { λ r. ⌜ r ≡ isCall call ⌝ }
+{
+    if call < FIRST {
+        return false;
+    }
+    call <= LAST
+}
+
+// ---- A recorded call.
+
+// Whether two texts are the same.
+fn same_text(t: &[u8], s: &[u8]) -> bool
+    ensures { λ r. ⌜ r ≡ same (now (t .entry)) (now (s .entry)) ⌝ }
+{
+    if t.len() != s.len() {
+        return false;
+    }
+    starts_with(t, s)
+}
+
+// Whether a call is known, and its text the recorded one.
+pub fn call_agrees(call: u8, x: u32, y: u32, source: &[u8], recorded: &[u8]) -> bool
+    ensures { λ r. ⌜ (r ≡ true) ↔ CallAgrees call x y (now (source .entry)) (now (recorded .entry)) ⌝ }
+{
+    if !is_call(call) {
+        return false;
+    }
+    let mut out = [0u8; ROOM];
+    let size = call_text(call, x, y, source, &mut out);
+    same_text(&out[..size], recorded)
+}
