@@ -8,8 +8,8 @@ use Rattle.rules.specs.Text.{Text}
 use Rattle.rules.specs.Assemble.{Slices, slices, holding, assembleAnswer, assembleSlices}
 use Rattle.answer.specs.declared.Answer.{Answer}
 use Rattle.answer.specs.Answer.{answerOf, answerNumber, answerPlace}
+use Rattle.calls.proofs.Compared.{refuses}
 use Rattle.recorded.specs.Recorded.{numberAt, rowsIn, termsIn, countOf, old, lent, onto, Called, WholeRecord, Agrees}
-use Rattle.recorded.proofs.Parts.{refuses}
 
 -- the pattern as the code's arrays have it
 abbrev pattern : Slices

@@ -10,8 +10,9 @@ use Rattle.rules.specs.Text.{Text, same}
 use Rattle.rules.specs.Assemble.{Slices, holding, assembleAnswer, assembleSlices}
 use Rattle.text.proofs.Compare.{same-is, same-self}
 use Rattle.answer.specs.Answer.{answerOf, answerNumber, answerPlace}
+use Rattle.calls.specs.Calls.{callText, isCall, CallAgrees}
 use Rattle.recorded.specs.Recorded.{rowsIn, Terms, termsIn, countOf, old, onto, lent, WholeRecord, Same, Agrees}
-use Rattle.recorded.specs.Replay.{wholeIn, sameSlices, sameIn, agreesIn}
+use Rattle.recorded.specs.Replay.{wholeIn, sameSlices, sameIn, agreesIn, callAgreesIn}
 use Rattle.recorded.proofs.Lent.{by-slice}
 
 -- two tests of one thing
@@ -94,4 +95,12 @@ agrees-decided s t l =
     let d = both (whole-decided s t l) (same-decided (termsIn t) s l) in (
       (λ e. let w = d .0 e in record { whole = w .0; same = w .1 }),
       (λ w. d .1 (w .whole, w .same)),
+    )
+
+pub call-decided : (call x y : ℕ) (s t : Text) → ((callAgreesIn call x y s t ≡ true) ↔ CallAgrees call x y s t)
+unfolding callAgreesIn
+call-decided call x y s t =
+    let d = both ((λ e. e), (λ e. e)) (alike (callText call x y s) t) in (
+      (λ e. let w = d .0 e in record { known = w .0; answer = w .1 }),
+      (λ w. d .1 (w .known, w .answer)),
     )

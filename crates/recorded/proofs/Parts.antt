@@ -1,15 +1,9 @@
 -- Laws of a call's parts: when they are whole, and what that says of the numbers in the terms. Assumes nothing.
 use Prim.Native.Nat.{_*_, _≤_}
 use mathlib.Core.Path.{_≡_}
-use mathlib.Core.Bool.{true, false, false≢true}
-use mathlib.Core.Logic.{_↔_}
 use lib.ListN.{length}
 use Rattle.rules.specs.Text.{Text}
 use Rattle.recorded.specs.Recorded.{numberAt, termsIn, countOf, WholeRecord}
-
--- what does not hold is answered by false
-pub refuses : {P : Type 0} → (P → ⊥) → ((false ≡ true) ↔ P)
-refuses k = ((λ e. absurd (false≢true e)), (λ p. absurd (k p)))
 
 -- the numbers in the terms that tell how long the parts are
 pub record PartsIn (t : Text) : Type 0 where

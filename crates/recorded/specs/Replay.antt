@@ -9,6 +9,7 @@ use Rattle.rules.specs.Text.{Text, bytes, same}
 use Rattle.rules.specs.Assemble.{Slices, holding, assembleAnswer, assembleSlices}
 use Rattle.answer.specs.Answer.{answerOf, answerNumber, answerPlace}
 use Rattle.listing.specs.Listing.{decimal}
+use Rattle.calls.specs.Calls.{callText, isCall}
 use Rattle.station.specs.declared.input.Input.{Input}
 use Rattle.station.specs.Station.{unlessFailed}
 use Rattle.recorded.specs.Recorded.{numberAt, rowsIn, Terms, termsIn, countOf, old, onto, lent}
@@ -16,7 +17,7 @@ use Rattle.recorded.specs.declared.Verdict.{Verdict}
 use Rattle.recorded.specs.declared.Verdict.the-variants.{Agrees, Differs}
 use Rattle.recorded.specs.declared.Tally.{Tally}
 
--- ---- agreement as a test: that it is one is `agrees-decided`
+-- ---- agreement as a test: that it is one is `agrees-decided` and `call-decided`
 
 unfoldable pub wholeIn : Text → Text → Text → Bool
 wholeIn s t l =
@@ -32,20 +33,32 @@ sameIn r s l =
 unfoldable pub agreesIn : Text → Text → Text → Bool
 agreesIn s t l = wholeIn s t l && sameIn (termsIn t) s l
 
+unfoldable pub callAgreesIn : ℕ → ℕ → ℕ → Text → Text → Bool
+callAgreesIn call x y s t = isCall call && same (callText call x y s) t
+
 -- ---- a record: its head is the call's number and how many bytes follow
 
 -- the bytes from a to before e
 abbrev pub part : ℕ → ℕ → Text → Text
 part a e t = take (e - a) (drop a t)
 
+-- a record whose source ends at `end`: whether it agrees, and in how many places
+unfoldable pub judged : ℕ → Text → Bool → ℕ → Verdict
+judged end t agrees places = cond (ltb (length t) end) Differs (cond agrees (Agrees places) Differs)
+
 -- call 1: the terms, the source, the rows
 unfoldable pub assembleVerdict : ℕ → Text → Verdict
-assembleVerdict end t =
-    cond (ltb (length t) end) Differs (cond (agreesIn (part 30 end t) (part 5 30 t) (part end (length t) t)) (Agrees (countOf (termsIn (part 5 30 t)))) Differs)
+assembleVerdict end t = judged end t (agreesIn (part 30 end t) (part 5 30 t) (part end (length t) t)) (countOf (termsIn (part 5 30 t)))
 
--- any other call is not known
+-- a call of 02: two numbers, the source's length, the source, the text that must be answered
+unfoldable pub callVerdict : ℕ → Text → Verdict
+callVerdict end t = judged end t (callAgreesIn (numberAt 0 1 t) (numberAt 5 4 t) (numberAt 9 4 t) (part 17 end t) (part end (length t) t)) 0
+
+-- a record that ends before its source starts differs
 unfoldable pub verdictIn : Text → Verdict
-verdictIn t = cond (ltb (length t) 30) Differs (cond (eqb (numberAt 0 1 t) 1) (assembleVerdict (30 + numberAt 5 4 t) t) Differs)
+verdictIn t =
+    cond (ltb (length t) 17) Differs
+    (cond (eqb (numberAt 0 1 t) 1) (cond (ltb (length t) 30) Differs (assembleVerdict (30 + numberAt 5 4 t) t)) (callVerdict (17 + numberAt 13 4 t) t))
 
 -- the bytes of a record of which the first n are there: the head's until it is whole
 unfoldable pub sizeBy : ℕ → Text → ℕ

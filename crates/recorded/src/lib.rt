@@ -1,6 +1,7 @@
-// Recorded calls: each is read from the bytes of its record, made again, and compared place by place. A record starts with the
-// number of the call that it records; compare/src/record.rs says how it goes on.
+// Recorded calls: each is read from the bytes of its record, made again, and compared, the assembler's place by place and 02's by
+// their texts. A record starts with the number of the call that it records; compare/src/record.rs says how it goes on.
 use answer::Answer;
+use calls::call_agrees;
 use listing::writing::write_bytes;
 use listing::writing::write_decimal;
 use station::input::Input;
@@ -16,7 +17,7 @@ ghost use Rattle.rules.specs.Assemble.{slices, holding};
 ghost use Rattle.answer.specs.Answer.{answerNumber, answerPlace};
 ghost use Rattle.station.specs.Printed.{Printed, Written};
 ghost use Rattle.recorded.specs.Recorded.{numberAt, rowsIn, termsIn, countOf, Called, Even, WholeRecord, Agrees};
-ghost use Rattle.recorded.specs.Replay.{verdictIn, sizeBy, countedBy, replay, tookByte, fed, countsText, replayText, isCutOff};
+ghost use Rattle.recorded.specs.Replay.{callVerdict, verdictIn, sizeBy, countedBy, replay, tookByte, fed, countsText, replayText, isCutOff};
 
 // The bytes of a head, of terms and of a row.
 const HEAD: usize = 5;
@@ -25,8 +26,10 @@ const TERMS: usize = 25;
 
 const ROW: usize = 7;
 
-// Where the source starts.
+// Where the source starts in a record of the assembler's call, and in one of 02's, after three numbers.
 const FRONT: usize = HEAD + TERMS;
+
+const CALL_FRONT: usize = HEAD + 12;
 
 // The bytes of the longest source, and the places of the slices; both are above paper 01's limits.
 const SOURCE: usize = 40000;
@@ -39,7 +42,7 @@ pub const RECORD: usize = FRONT + SOURCE + ROW * PLACES;
 // Room for what is printed.
 pub const COUNTS: usize = 256;
 
-// The number of the assembler's call.
+// The number of the assembler's call; all others are 02's.
 const ASSEMBLE: u8 = 1;
 
 // What the slices hold before a call, so that a place that must not change can be told.
@@ -238,14 +241,34 @@ pub fn start() -> Tally
     }
 }
 
-// The verdict on a record: one of a call that is not known differs.
+// The verdict on a record of one of 02's calls.
+fn judge_call(bytes: &[u8]) -> Verdict
+    requires { ⌜ 17 ≤ length (now bytes) ⌝ }
+    ensures { λ r. ⌜ r ≡ callVerdict (17 + numberAt 13 4 (now (bytes .entry))) (now (bytes .entry)) ⌝ }
+{
+    let end = CALL_FRONT + number_at(bytes, 13) as usize;
+    if bytes.len() < end {
+        return Verdict::Differs;
+    }
+    let x = number_at(bytes, 5);
+    let y = number_at(bytes, 9);
+    if !call_agrees(bytes[0], x, y, &bytes[CALL_FRONT..end], &bytes[end..]) {
+        return Verdict::Differs;
+    }
+    Verdict::Agrees(0)
+}
+
+// The verdict on a record.
 fn judge(bytes: &[u8]) -> Verdict
     ensures { λ r. ⌜ r ≡ verdictIn (now (bytes .entry)) ⌝ }
 {
-    if bytes.len() < FRONT {
+    if bytes.len() < CALL_FRONT {
         return Verdict::Differs;
     }
     if bytes[0] != ASSEMBLE {
+        return judge_call(bytes);
+    }
+    if bytes.len() < FRONT {
         return Verdict::Differs;
     }
     let end = FRONT + number_at(bytes, 5) as usize;

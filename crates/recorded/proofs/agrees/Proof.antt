@@ -5,9 +5,10 @@ use mathlib.Core.Path.{sym, _∙_}
 use borrow.Author.Needs.{needs}
 use borrow.Author.Tests.{not-true, not-false}
 use Rattle.rules.specs.Assemble.{Slices, slices}
+use Rattle.calls.proofs.Compared.{refuses}
 use Rattle.recorded.specs.Recorded.{WholeRecord}
 use Rattle.recorded.proofs.Bytes.{one-byte}
-use Rattle.recorded.proofs.Parts.{refuses, whole-within}
+use Rattle.recorded.proofs.Parts.{whole-within}
 use Rattle.recorded.proofs.Agree.{Made, made, differs, compared}
 use Rattle.recorded.proofs.agrees.Statement.{statement}
 use Rattle.recorded.proofs.agrees.Tie as tie

@@ -2,7 +2,8 @@
 use mathlib.Core.Path.{sym, _∙_}
 use native.Mathlib.Omega.{arith}
 use borrow.Author.Tests.{leb-true, le-leb}
-use Rattle.recorded.proofs.Parts.{refuses, whole-within, whole-source, within-whole}
+use Rattle.calls.proofs.Compared.{refuses}
+use Rattle.recorded.proofs.Parts.{whole-within, whole-source, within-whole}
 use borrow.Author.Needs.{needs}
 use Rattle.recorded.proofs.is_whole.Statement.{statement}
 use Rattle.recorded.proofs.is_whole.Tie as tie
