@@ -14,6 +14,7 @@ mod lists;
 mod moves;
 mod oracle;
 mod record;
+mod requests;
 #[cfg(linked)]
 mod speed;
 

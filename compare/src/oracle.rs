@@ -6,12 +6,30 @@ macro_rules! println {
     ($($t:tt)*) => {{}};
 }
 
+use std::collections::HashMap;
+
 include!(concat!(env!("OUT_DIR"), "/original.rs"));
 
 /// What `Assembler::assemble` gives for the lines of a source.
 pub fn rust(source: &str) -> Vec<(u32, u16)> {
     let lines: Vec<&str> = source.split('\n').collect();
     original::Assembler::new().assemble(&lines)
+}
+
+/// The label map that the original has made of a source, as it prints it itself: a line for each label, the address in
+/// hexadecimal behind a colon. No name has a colon or a line's end in it.
+pub fn labels(source: &str) -> HashMap<String, u32> {
+    let lines: Vec<&str> = source.split('\n').collect();
+    let mut assembler = original::Assembler::new();
+    assembler.assemble(&lines);
+    let mut printed = String::new();
+    assembler.print_assembly_to_string(&mut printed);
+    let listed = printed.split_once("\n=== Labels ===\n").map_or("", |parts| parts.1);
+    let label = |line: &str| {
+        let (name, address) = line.rsplit_once(": ")?;
+        Some((name.to_string(), u32::from_str_radix(address, 16).expect("an address")))
+    };
+    listed.split('\n').filter_map(label).collect()
 }
 
 /// The source with a first line `ORG base` and every ORG number raised by the base: what the original, which has

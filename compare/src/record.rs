@@ -1,13 +1,17 @@
 //! Recorded answers: what the replay program runs through the Rattle code. Accepted lists and refusal 5 come from
-//! the Rust original; refusals 1 to 4, 6 and 7 are 01's conditions at their limits, written out here.
+//! the Rust original; refusals 1 to 4, 6 and 7 are 01's conditions at their limits, written out here. Calls of 02, and where
+//! their answers come from, are in requests.rs.
 //!
 //! A record, numbers with the low byte first: the number of the call that it records (1 byte), and how many bytes follow (4).
 //! Call 1 assembles a source at a base. Its terms: the source's length (4), the base (4), the lengths of the three slices lent
 //! (4 each), the answer's number, 0 for accepted (1), and the count or the place (4). Then the source; and for an accepted
 //! source `count` times an address (4), a word (2) and a mark (1).
+//! The calls from 2 on are 02's. Each has two numbers whose meaning it says (4 each), the source's length (4), the source, and to
+//! the record's end the text that it must answer.
 
 use crate::generate::{script, Random};
 use crate::oracle;
+use crate::requests::{self, Call};
 
 const LIMIT: u32 = 1 << 30;
 
@@ -24,8 +28,8 @@ pub struct Record {
     pub list: Vec<(u32, u16, u8)>,
 }
 
-/// The answer of 01 for a source within the limits of bytes, lines and labels, by the original alone.
-pub fn answered(source: &str, base: u32) -> Result<Vec<(u32, u16, u8)>, (u8, u32)> {
+/// The line of refusal 5, if the original's address is too high after one.
+pub fn too_high(source: &str, base: u32) -> Option<u32> {
     let lines: Vec<&str> = source.split('\n').collect();
     for k in 1..=lines.len() {
         let t = lines[k - 1].trim().to_uppercase();
@@ -36,10 +40,18 @@ pub fn answered(source: &str, base: u32) -> Result<Vec<(u32, u16, u8)>, (u8, u32
         let probe = oracle::rebased(&(lines[..k].join("\n") + "\nNOP"), base);
         let after = probe.map(|p| oracle::rust(&p).last().unwrap().0);
         if after.map_or(true, |a| a >= LIMIT) {
-            return Err((5, k as u32));
+            return Some(k as u32);
         }
     }
-    Ok(oracle::listed(source, base).expect("two bases give lists of one length"))
+    None
+}
+
+/// The answer of 01 for a source within the limits of bytes, lines and labels, by the original alone.
+pub fn answered(source: &str, base: u32) -> Result<Vec<(u32, u16, u8)>, (u8, u32)> {
+    match too_high(source, base) {
+        Some(line) => Err((5, line)),
+        None => Ok(oracle::listed(source, base).expect("two bases give lists of one length")),
+    }
 }
 
 fn accepted(source: &str, base: u32, more: [i64; 3]) -> Record {
@@ -152,7 +164,7 @@ const READINGS: [&str; 40] = [
     "a:b:c: NOP\nMOVE.L a,D0\nMOVE.L b:c,D0",
 ];
 
-/// All records: the limits, the papers' examples and readings, and `count` random scripts.
+/// All records of call 1: the limits, the papers' examples and readings, and `count` random scripts.
 pub fn records(count: usize) -> Vec<Record> {
     let mut out = Vec::new();
     limits(&mut out);
@@ -177,8 +189,15 @@ pub fn records(count: usize) -> Vec<Record> {
     out
 }
 
-/// The bytes of a record, in the form that the head of this file gives.
-pub fn bytes(record: &Record, out: &mut Vec<u8>) {
+/// A record, in the form that the head of this file gives.
+fn put(call: u8, body: &[u8], out: &mut Vec<u8>) {
+    out.push(call);
+    out.extend((body.len() as u32).to_le_bytes());
+    out.extend(body);
+}
+
+/// The record of a call that assembles.
+fn put_record(record: &Record, out: &mut Vec<u8>) {
     let mut body = Vec::new();
     body.extend((record.source.len() as u32).to_le_bytes());
     body.extend(record.base.to_le_bytes());
@@ -193,17 +212,29 @@ pub fn bytes(record: &Record, out: &mut Vec<u8>) {
         body.extend(word.to_le_bytes());
         body.push(*mark);
     }
-    out.push(ASSEMBLE);
-    out.extend((body.len() as u32).to_le_bytes());
-    out.extend(body);
+    put(ASSEMBLE, &body, out);
+}
+
+/// The record of a call of 02.
+fn put_call(call: &Call, out: &mut Vec<u8>) {
+    let mut body = Vec::new();
+    for n in [call.x, call.y, call.source.len() as u32] {
+        body.extend(n.to_le_bytes());
+    }
+    body.extend(&call.source);
+    body.extend(call.text.as_bytes());
+    put(call.number, &body, out);
 }
 
 /// Writes the records to a file, and says what they hold.
 pub fn write(file: &str, count: usize) {
-    let records = records(count);
+    let (records, calls) = (records(count), requests::calls());
     let mut out = Vec::new();
     for r in &records {
-        bytes(r, &mut out);
+        put_record(r, &mut out);
+    }
+    for c in &calls {
+        put_call(c, &mut out);
     }
     std::fs::write(file, &out).expect("the file is written");
     let accepted = records.iter().filter(|r| r.number == 0).count();
@@ -212,5 +243,8 @@ pub fn write(file: &str, count: usize) {
     println!("{} records, {accepted} accepted, {words} words, {marks} marks, {} bytes", records.len(), out.len());
     for n in 1..=7 {
         println!("refusal {n}: {}", records.iter().filter(|r| r.number == n).count());
+    }
+    for n in 2..=calls.iter().map(|c| c.number).max().unwrap_or(1) {
+        println!("call {n}: {}", calls.iter().filter(|c| c.number == n).count());
     }
 }

@@ -10,7 +10,7 @@ use Rattle.rules.specs.Text.{Text, same}
 use Rattle.rules.specs.Assemble.{Slices, holding, assembleAnswer, assembleSlices}
 use Rattle.text.proofs.Compare.{same-is, same-self}
 use Rattle.answer.specs.Answer.{answerOf, answerNumber, answerPlace}
-use Rattle.calls.specs.Calls.{callText, isCall, CallAgrees}
+use Rattle.calls.specs.Calls.{callText, CallAgrees}
 use Rattle.recorded.specs.Recorded.{rowsIn, Terms, termsIn, countOf, old, onto, lent, WholeRecord, Same, Agrees}
 use Rattle.recorded.specs.Replay.{wholeIn, sameSlices, sameIn, agreesIn, callAgreesIn}
 use Rattle.recorded.proofs.Lent.{by-slice}

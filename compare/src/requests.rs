@@ -1,0 +1,212 @@
+//! Recorded calls of paper 02, a function a request. Each answer is written out here from 02's words and READINGS.md's examples
+//! of them, or comes from the Rust original's own label map where that leaves no choice; none is made by the Rattle code.
+
+use crate::generate::{script, Random};
+use crate::{oracle, record};
+use std::collections::HashMap;
+
+const LIMIT: u32 = 1 << 30;
+
+/// One recorded call: its number, the two numbers that it takes, its source, and the text that it must answer.
+pub struct Call {
+    pub number: u8,
+    pub x: u32,
+    pub y: u32,
+    pub source: Vec<u8>,
+    pub text: String,
+}
+
+/// All recorded calls of 02.
+pub fn calls() -> Vec<Call> {
+    let mut out = Vec::new();
+    nearest(&mut out);
+    out
+}
+
+fn refused(number: u8, place: usize) -> String {
+    format!("refused {number} {place}\n")
+}
+
+// ---- W-201: call 2, with the base and the address
+
+/// What the call must answer: the label's start and length, and the distance.
+fn named(start: usize, length: usize, distance: u32) -> String {
+    format!("{start} {length} {distance}\n")
+}
+
+fn nearest(out: &mut Vec<Call>) {
+    let mut near = |source: &[u8], base, address, text| {
+        out.push(Call { number: 2, x: base, y: address, source: source.to_vec(), text });
+    };
+    for (source, address, (start, length, distance)) in NAMED {
+        near(source.as_bytes(), 0, address, named(start, length, distance));
+        // Accepted at a base and at 0, the answer is the same for an address that is as much higher.
+        near(source.as_bytes(), 0x2000, address + 0x2000, named(start, length, distance));
+        near(source.as_bytes(), 0x2000, 0x1FFF, refused(12, 0));
+    }
+    for (source, address) in NONE_NEAR {
+        near(source.as_bytes(), 0, address, refused(12, 0));
+    }
+    nearest_limits(&mut near);
+    nearest_by_map(&mut near);
+}
+
+/// 02's words and READINGS.md's examples at base 0: a source, an address, and the label's start, length and distance.
+const NAMED: [(&str, u32, (usize, usize, u32)); 40] = [
+    // A name's start is that of its trimmed text, step 5's where the rest's text starts.
+    (" x  y : NOP", 2, (1, 4, 2)),
+    ("A: B : DC.L 5\nA:", 0, (3, 1, 0)),
+    ("A: B : DC.L 5\nA:", 3, (3, 1, 3)),
+    ("A: B : DC.L 5\nA:", 4, (14, 1, 0)),
+    ("\t\u{b} A\r:", 7, (3, 1, 7)),
+    ("NOP\nX   DC.L 5", 2, (4, 1, 0)),
+    ("NOP ; see DC.W", 1, (0, 3, 1)),
+    ("DC.L: 5", 0, (0, 4, 0)),
+    // The empty name starts at its colon.
+    ("NOP\n \t: NOP", 2, (6, 0, 0)),
+    (":", 5, (0, 0, 5)),
+    ("A:\n:", 0, (0, 1, 0)),
+    (":\nA:", 0, (0, 0, 0)),
+    ("A: : DC.L 5", 9, (0, 1, 9)),
+    // A line that records a name twice: the last record is step 5's.
+    (" A: A DC.L 5", 4, (4, 1, 4)),
+    ("A: A: DC.L 5", 0, (3, 1, 0)),
+    ("A: A DC.L 5\nB: NOP", 3, (3, 1, 3)),
+    // A label has one address, the last recorded.
+    ("ORG 8\nA:\nORG 4\nA:", 8, (15, 1, 4)),
+    ("ORG 8\nA:\nORG 4\nA:", 4, (15, 1, 0)),
+    ("A: NOP\nB: NOP\nA: NOP", 3, (7, 1, 1)),
+    ("A: NOP\nB: NOP\nA: NOP", 4, (14, 1, 0)),
+    // The greatest that does not pass the address, wherever it stands.
+    ("ORG 100\nA:\nORG 50\nB:", 99, (18, 1, 49)),
+    ("ORG 100\nA:\nORG 50\nB:", 100, (8, 1, 0)),
+    ("ORG 100\nA:\nORG 50\nB:", 50, (18, 1, 0)),
+    ("A: MOVE.L #5,D0\nB: NOP\nC:", 3, (0, 1, 3)),
+    ("A: MOVE.L #5,D0\nB: NOP\nC:", 4, (16, 1, 0)),
+    ("A: MOVE.L #5,D0\nB: NOP\nC:", 5, (16, 1, 1)),
+    ("A: DC.B 5\nB: DS.W 1\nC:", 1, (10, 1, 0)),
+    ("A: DC.B 5\nB: DS.W 1\nC:", 3, (20, 1, 0)),
+    (record::BEZEL, 0x1003, (10, 3, 3)),
+    (record::BEZEL, 0x100E, (25, 2, 10)),
+    // Of equal addresses, the one whose last record stands first.
+    ("A:\nB:\nA:", 3, (3, 1, 3)),
+    ("A:\nB:\nC:\nB:\nA:", 0, (6, 1, 0)),
+    ("A:\nB:", 0, (0, 1, 0)),
+    ("A: B: DC.L 5", 0, (0, 1, 0)),
+    ("B: A: DC.L 5\nB: NOP", 3, (3, 1, 3)),
+    ("B: NOP\nORG 0\nA:", 0, (0, 1, 0)),
+    // A label before a word that would end the reading or set the address, and labels behind END.
+    ("X: END\nY:", 9, (7, 1, 7)),
+    ("X: ORG 8\nY:", 2, (9, 1, 0)),
+    ("A:\nEND\nB:", 9, (0, 1, 9)),
+    ("A: NOP\nend\nA: NOP", 0, (0, 1, 0)),
+];
+
+/// No label at or below an address, at base 0.
+const NONE_NEAR: [(&str, u32); 13] = [
+    ("", 0),
+    ("", u32::MAX),
+    ("NOP\nNOP", 2),
+    ("; A:", 0),
+    ("DC.L 5", 4),
+    ("NOP\nA:", 1),
+    ("ORG 8\nA:\nORG 9\nB:", 7),
+    ("A: NOP\nNOP\nA: NOP", 3),
+    (record::BEZEL, 0xFFF),
+    // Labels that are not recorded: behind END, and in front of it and of ORG, which are tried on the whole line.
+    ("END\nA:", 9),
+    ("NOP\nEnd\nA: NOP", u32::MAX),
+    ("ENDX: NOP", 0),
+    ("ORG: NOP", 0),
+];
+
+/// Addresses and refusals 1 to 6 at their limits and past them, each refusal before all that come later, and before 12.
+fn nearest_limits(near: &mut impl FnMut(&[u8], u32, u32, String)) {
+    for address in [LIMIT - 1, LIMIT, LIMIT + 1, u32::MAX] {
+        near(b"A:", 0, address, named(0, 1, address));
+        near(b"A:", LIMIT - 1, address, named(0, 1, address - (LIMIT - 1)));
+    }
+    near(b"A:", LIMIT - 1, LIMIT - 2, refused(12, 0));
+    near(b"", LIMIT - 1, u32::MAX, refused(12, 0));
+
+    let filled = |n: usize, end: &str| ";".repeat(n - end.len()) + end;
+    near(filled(32768, "\nA:").as_bytes(), 0, 0, named(32766, 1, 0));
+    let mut long = "\n".repeat(32769).into_bytes();
+    long[0] = 128;
+    near(&long, LIMIT, 0, refused(1, 32769));
+
+    near(b"\x7f:", 0, 0, named(0, 1, 0));
+    near(b"A:\n\x80\xff", 0, 0, refused(2, 3));
+    near(b"END\n\x80", 0, 0, refused(2, 4));
+    near(&[vec![b'\n'; 4096], vec![128]].concat(), LIMIT, 0, refused(2, 4096));
+
+    near(("\n".repeat(4095) + "A:").as_bytes(), 0, 0, named(4095, 1, 0));
+    near("\n".repeat(4096).as_bytes(), LIMIT, 0, refused(3, 4097));
+
+    near(b"", LIMIT, 0, refused(4, 0));
+    near(b"A:", LIMIT, u32::MAX, refused(4, 0));
+    near(b"ORG $FFFFFFFF", u32::MAX, 0, refused(4, 0));
+
+    near(b"A:\nORG $40000000", 0, 0, refused(5, 2));
+    near(b"ORG $40000000", 0, 0, refused(5, 1));
+    near(b"ORG $3FFFFFFF\nA:", 0, u32::MAX, named(14, 1, u32::MAX - (LIMIT - 1)));
+    near(b"ORG $3FFFFFFF\nA:", 1, u32::MAX, refused(5, 1));
+    near(b"ORG $3FFFFFFE\nA: DC.B 5", 0, LIMIT, named(14, 1, 2));
+    near(b"ORG $3FFFFFFE\nA: NOP", 0, LIMIT, refused(5, 2));
+    near(b"A: NOP\nEND\nORG $FFFFFFFF", 0, 1, named(0, 1, 1));
+
+    let labels = |n: usize| (0..n).map(|i| format!("L{i}:\n")).collect::<String>();
+    near(labels(1024).as_bytes(), 0, 9, named(0, 2, 9));
+    near((labels(1024) + "ORG 8\nL1023 DC.L 5").as_bytes(), 0, 9, named(labels(1024).len() + 6, 5, 1));
+    near(labels(1025).as_bytes(), 1, 0, refused(6, 1025));
+    near((labels(1024) + "ORG $3FFFFFFE\nNEW DC.L 5").as_bytes(), 0, 9, refused(6, 1026));
+    near((labels(1024) + "ORG $40000000\nNEW DC.L 5").as_bytes(), 0, 9, refused(5, 1025));
+}
+
+/// Random sources by the original's label map. It leaves no choice where no label is low enough, or one label alone is the
+/// highest and its name stands once in the source; refusal 5 is the original's too.
+fn nearest_by_map(near: &mut impl FnMut(&[u8], u32, u32, String)) {
+    let mut r = Random(20261116);
+    let mut left = 400;
+    while left > 0 {
+        let s = script(&mut r, 12);
+        let base = if r.one_in(2) { 0 } else { r.below(100_000) as u32 };
+        let answer = match record::too_high(&s, base) {
+            Some(line) => Some((r.next() as u32, refused(5, line as usize))),
+            None => {
+                let map = oracle::labels(&oracle::rebased(&s, base).expect("no address is too high"));
+                let address = address_near(&mut r, base, &map);
+                by_map(&s, &map, address).map(|text| (address, text))
+            }
+        };
+        if let Some((address, text)) = answer {
+            near(s.as_bytes(), base, address, text);
+            left -= 1;
+        }
+    }
+}
+
+/// An address to ask for: around a label's, around the base, or any.
+pub fn address_near(r: &mut Random, base: u32, map: &HashMap<String, u32>) -> u32 {
+    let mut known: Vec<u32> = map.values().copied().collect();
+    known.sort();
+    let around = match r.below(6) {
+        0 => return r.next() as u32,
+        1 => base,
+        _ if known.is_empty() => base,
+        _ => known[r.below(known.len())],
+    };
+    (around as i64 + r.below(24) as i64 - 8).clamp(0, u32::MAX as i64) as u32
+}
+
+fn by_map(source: &str, map: &HashMap<String, u32>, address: u32) -> Option<String> {
+    let Some(highest) = map.values().filter(|a| **a <= address).max() else {
+        return Some(refused(12, 0));
+    };
+    let names: Vec<&String> = map.iter().filter(|l| l.1 == highest).map(|l| l.0).collect();
+    let [name] = names[..] else { return None };
+    let stands = |i: &usize| source[*i..].starts_with(name.as_str());
+    let starts: Vec<usize> = (0..source.len()).filter(stands).collect();
+    let [start] = starts[..] else { return None };
+    Some(named(start, name.len(), address - highest))
+}
