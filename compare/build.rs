@@ -24,7 +24,7 @@ fn main() {
         println!("cargo:rustc-link-search=native={}", library.display());
         println!("cargo:rustc-link-lib=static=lagvettu");
         println!("cargo:rustc-cfg=linked");
-        println!("cargo:rerun-if-changed={}", library.join("liblagvettu.a").display());
     }
+    println!("cargo:rerun-if-changed={}", library.join("liblagvettu.a").display());
     println!("cargo:rustc-check-cfg=cfg(linked)");
 }

@@ -24,6 +24,16 @@ extern "C" {
         distance: i32,
         place: *mut usize,
     ) -> u8;
+    fn lagvettu_nearest(
+        source: *const u8,
+        source_length: usize,
+        base: u32,
+        address: u32,
+        start: *mut usize,
+        length: *mut usize,
+        distance: *mut u32,
+        place: *mut usize,
+    ) -> u8;
 }
 
 /// Three slices, as a caller lends them.
@@ -84,4 +94,31 @@ pub fn relocate(x: &mut Slices, count: usize, distance: i32) -> Answer {
         )
     };
     (number, place)
+}
+
+/// The answer to W-201, all that a call writes: 0 and a label, the place 0; or a refusal and its place, the rest 0.
+#[derive(PartialEq, Debug)]
+pub struct Nearest {
+    pub number: u8,
+    pub place: usize,
+    pub start: usize,
+    pub length: usize,
+    pub distance: u32,
+}
+
+pub fn nearest(source: &[u8], base: u32, address: u32) -> Nearest {
+    let mut n = Nearest { number: u8::MAX, place: usize::MAX, start: usize::MAX, length: usize::MAX, distance: u32::MAX };
+    n.number = unsafe {
+        lagvettu_nearest(
+            source.as_ptr(),
+            source.len(),
+            base,
+            address,
+            &mut n.start,
+            &mut n.length,
+            &mut n.distance,
+            &mut n.place,
+        )
+    };
+    n
 }

@@ -5,6 +5,7 @@
 //!   compare speed                   the time of both on the inputs of docs/SPEED.md
 //!   compare calls I N               N calls on input I of these, from 0, for ./counts
 //!   compare moves N [SEED]          N random sources moved between bases, and chains of moves against the tally
+//!   compare nearest N [SEED]        N random sources: the label nearest to an address against the original's label map
 mod generate;
 #[cfg(linked)]
 mod library;
@@ -12,6 +13,8 @@ mod library;
 mod lists;
 #[cfg(linked)]
 mod moves;
+#[cfg(linked)]
+mod nearest;
 mod oracle;
 mod record;
 mod requests;
@@ -31,6 +34,8 @@ fn main() {
         Some("calls") => speed::calls(number(2, 0) as usize, number(3, 0)),
         #[cfg(linked)]
         Some("moves") => moves::compare(number(2, 100_000) as usize, number(3, 20261116)),
-        _ => eprintln!("usage: compare record FILE [COUNT] | lists N [SEED] | moves N [SEED] | speed; all but record want the static library: see ./run"),
+        #[cfg(linked)]
+        Some("nearest") => nearest::compare(number(2, 100_000) as usize, number(3, 20261117)),
+        _ => eprintln!("usage: compare record FILE [COUNT] | lists N [SEED] | moves N [SEED] | nearest N [SEED] | speed; all but record want the static library: see ./run"),
     }
 }
