@@ -9,11 +9,13 @@ use Rattle.rules.specs.Limits.{maxLabels}
 use Rattle.rules.specs.Text.{Text, same}
 use Rattle.rules.specs.Line.{SourceLine, Name}
 
--- a recorded label: its name, where its text starts in the source, and its address
+-- a recorded label: its name, where its text starts in the source, its address, and
+-- "the line, from 1, on which its address was last set" (02)
 pub record Label : Type 0 where
   pub name : Text
   pub start : ℕ
   pub address : ℕ
+  pub line : ℕ
 
 -- the labels, in the order of their first record
 abbrev pub Table : Type 0
@@ -34,12 +36,16 @@ unfoldable pub hasRoom : Option ℕ → Table → Bool
 hasRoom none t = ltb (length t) maxLabels
 hasRoom (some a) t = true
 
+-- the name n of the source line l as a label at the address a
+abbrev pub labelOf : SourceLine → ℕ → Name → Label
+labelOf l a n = record { name = n .text; start = l .start + n .start; address = a; line = l .number }
+
 -- the labels ns of the source line l, recorded in order at the address a;
 -- none where "a new label when 1,024 are recorded" comes
 unfoldable pub recordAll : SourceLine → ℕ → List Name → Table → Option Table
 recordAll l a [] t = some t
 recordAll l a (n ∷ ns) t =
     elim (hasRoom (find (n .text) t) t) [
-      | true ↦ recordAll l a ns (recorded (record { name = n .text; start = l .start + n .start; address = a }) t)
+      | true ↦ recordAll l a ns (recorded (labelOf l a n) t)
       | false ↦ none
     ]
