@@ -12,12 +12,12 @@ use borrow.Author.Tests.{ltb-true, ltb-false, leb-false}
 use Rattle.rules.specs.Limits.{maxSource, maxLines, addressLimit}
 use Rattle.rules.specs.Text.{Text, cutAt}
 use Rattle.rules.specs.Line.{SourceLine, Name, linesOf, lineOf, size}
-use Rattle.rules.specs.Label.{Table, find, recorded, hasRoom}
+use Rattle.rules.specs.Label.{Table, find, recorded, hasRoom, labelOf}
 use Rattle.rules.specs.Answer.{Answer, accepted, refuseIf, refuseAt}
 use Rattle.rules.specs.Assemble.{Pass, Put, addressAfter, firstPassBy, firstPass, firstHigh, checks, passAtBy, passAt}
 use Rattle.label.specs.Table.{AllBelow, no-label}
 use Rattle.label.proofs.Rows.{below-recorded}
-use Rattle.first.specs.Stopped.{labelOf, recordSome, only, before, orNothing, stoppedAt}
+use Rattle.first.specs.Stopped.{recordSome, only, before, orNothing, stoppedAt}
 use Rattle.first.proofs.Turns.{asked, Way, halts, fills, leaves, passes, way, pass-halts, pass-full, pass-out, accepted-is, taken, stop-accepted}
 use Rattle.first.proofs.Naming.{some-room, some-full, record-some}
 

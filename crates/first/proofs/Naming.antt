@@ -11,9 +11,10 @@ use lib.Seq.{drop-drop}
 use Rattle.rules.specs.Limits.{maxSource}
 use Rattle.rules.specs.Text.{Text, same}
 use Rattle.rules.specs.Line.{SourceLine, Name}
-use Rattle.rules.specs.Label.{Label, Table, find, recorded, hasRoom, recordAll}
+use Rattle.rules.specs.Label.{Label, Table, find, recorded, hasRoom, labelOf, recordAll}
 use Rattle.text.specs.declared.Span.{Span}
 use Rattle.text.specs.Spans.{SpanIn}
+use Rattle.text.specs.Breaks.{lineNumber}
 use Rattle.label.specs.Table.{cellOf, tableOf, Held}
 use Rattle.label.specs.Record.{Ready, Recording, spanLabel}
 use Rattle.label.specs.declared.Recorded.{Recorded}
@@ -22,9 +23,9 @@ use Rattle.label.proofs.Table.{table-length}
 use Rattle.label.proofs.Record.{Keeps, kept, refused}
 use Rattle.line.specs.declared.Names.{Names}
 use Rattle.line.specs.Line.{nameAt, namesFor, namesAt, nameFrom}
-use Rattle.first.specs.Stopped.{labelOf, recordSome}
+use Rattle.first.specs.Stopped.{recordSome}
 use Rattle.first.specs.Pass.{HoldsLabels, RoomFor}
-use Rattle.first.specs.Names.{RecordNamesNeeds, recordedOf, atStart, Named}
+use Rattle.first.specs.Names.{RecordNamesNeeds, recordedOf, atStart, OnLine, and-name, Named, RecordNamesGives}
 
 -- ---- recording by the rules
 -- by whether there is room
@@ -59,38 +60,40 @@ record-some l a (n ∷ ns) t t′ e = go (hasRoom (find (n .text) t) t) refl (re
     go true f ih = some-room l a n ns t f ∙ ih (sym (record-room l a n ns t f) ∙ e)
     go false f ih = let c = sym (record-full l a n ns t f) ∙ e in absurd (false≢true cc)
 
--- a label whose start is counted in the source
-at-start : (a : ℕ) (n : Name) → labelOf atStart a n ≡ record { name = n .text; start = n .start; address = a }
-at-start a n = rw (zero-add (n .start))
-
 -- a line's labels recorded, and the same with their starts counted in the source
 module _ (l : SourceLine) (a : ℕ) where
+  abbrev whole : SourceLine
+  whole = atStart (l .number)
+
   abbrev moved : List Name → List Name
   moved ns = map (nameFrom (l .start)) ns
 
-  pub record-from : (ns : List Name) (t : Table) → recordAll atStart a (map (nameFrom (l .start)) ns) t ≡ recordAll l a ns t
+  moved-label : (n : Name) → labelOf whole a (nameFrom (l .start) n) ≡ labelOf l a n
+  moved-label n = rw (zero-add (l .start + n .start))
+
+  pub record-from : (ns : List Name) (t : Table) → recordAll (atStart (l .number)) a (map (nameFrom (l .start)) ns) t ≡ recordAll l a ns t
   unfolding recordAll
   record-from [] t = refl
   record-from (n ∷ ns) t = go (hasRoom (find (n .text) t) t) refl (record-from ns (recorded (labelOf l a n) t))
     where
-      go : (y : Bool) → hasRoom (find (n .text) t) t ≡ y → recordAll atStart a (moved ns) (recorded (labelOf l a n) t) ≡ recordAll l a ns (recorded (labelOf l a n) t)
-          → recordAll atStart a (moved (n ∷ ns)) t ≡ recordAll l a (n ∷ ns) t
+      go : (y : Bool) → hasRoom (find (n .text) t) t ≡ y → recordAll whole a (moved ns) (recorded (labelOf l a n) t) ≡ recordAll l a ns (recorded (labelOf l a n) t)
+          → recordAll whole a (moved (n ∷ ns)) t ≡ recordAll l a (n ∷ ns) t
       go true e ih =
-          record-room atStart a (nameFrom (l .start) n) (moved ns) t e ∙ ap (λ (x : Label). recordAll atStart a (moved ns) (recorded x t)) (at-start a (nameFrom (l .start) n))
+          record-room whole a (nameFrom (l .start) n) (moved ns) t e ∙ ap (λ (x : Label). recordAll whole a (moved ns) (recorded x t)) (moved-label n)
           ∙ ih ∙ sym (record-room l a n ns t e)
-      go false e ih = record-full atStart a (nameFrom (l .start) n) (moved ns) t e ∙ sym (record-full l a n ns t e)
+      go false e ih = record-full whole a (nameFrom (l .start) n) (moved ns) t e ∙ sym (record-full l a n ns t e)
 
-  pub some-from : (ns : List Name) (t : Table) → recordSome atStart a (map (nameFrom (l .start)) ns) t ≡ recordSome l a ns t
+  pub some-from : (ns : List Name) (t : Table) → recordSome (atStart (l .number)) a (map (nameFrom (l .start)) ns) t ≡ recordSome l a ns t
   unfolding recordSome
   some-from [] t = refl
   some-from (n ∷ ns) t = go (hasRoom (find (n .text) t) t) refl (some-from ns (recorded (labelOf l a n) t))
     where
-      go : (y : Bool) → hasRoom (find (n .text) t) t ≡ y → recordSome atStart a (moved ns) (recorded (labelOf l a n) t) ≡ recordSome l a ns (recorded (labelOf l a n) t)
-          → recordSome atStart a (moved (n ∷ ns)) t ≡ recordSome l a (n ∷ ns) t
+      go : (y : Bool) → hasRoom (find (n .text) t) t ≡ y → recordSome whole a (moved ns) (recorded (labelOf l a n) t) ≡ recordSome l a ns (recorded (labelOf l a n) t)
+          → recordSome whole a (moved (n ∷ ns)) t ≡ recordSome l a (n ∷ ns) t
       go true e ih =
-          some-room atStart a (nameFrom (l .start) n) (moved ns) t e ∙ ap (λ (x : Label). recordSome atStart a (moved ns) (recorded x t)) (at-start a (nameFrom (l .start) n))
+          some-room whole a (nameFrom (l .start) n) (moved ns) t e ∙ ap (λ (x : Label). recordSome whole a (moved ns) (recorded x t)) (moved-label n)
           ∙ ih ∙ sym (some-room l a n ns t e)
-      go false e ih = some-full atStart a (nameFrom (l .start) n) (moved ns) t e ∙ sym (some-full l a n ns t e)
+      go false e ih = some-full whole a (nameFrom (l .start) n) (moved ns) t e ∙ sym (some-full l a n ns t e)
 
 -- ---- recording loses no label, and adds at most one
 recorded-most : (x : Label) (t : Table) → length (recorded x t) ≤ suc (length t)
@@ -156,9 +159,9 @@ holds-from source table middle table′ m t h l e d =
     record { rows = d .rows; held = d .held; long = d .long ∙ l; past = d .past ∙ past-more (cellOf m) (cellOf (length t)) middle table (omega arith) e }
 
 -- ---- what the code records
-named-none : (source : Text) (table : List ℕ) (count a : ℕ) → Held source table count → Named source table count a [] (Count count) table
+named-none : (source : Text) (table : List ℕ) (count line a : ℕ) → Held source table count → Named source table count line a [] (Count count) table
 unfolding recordAll recordSome
-named-none source table count a h = record { answered = ap Count (sym (table-length source table count)); stored = holds-same source table count h }
+named-none source table count line a h = record { answered = ap Count (sym (table-length source table count)); stored = holds-same source table count h }
 
 -- ready to record a label
 ready : (source : Text) (table : List ℕ) (count : ℕ) (s : Span) → Held source table count → length source ≤ maxSource → RoomFor (count + 1) table
@@ -167,41 +170,48 @@ ready source table count s h k r x =
     record { held = h; ordered = x .ordered; within = x .inside; short = k; room = λ c. r .row count (omega arith) c }
 
 -- one label recorded, and others after it
-module _ (source : Text) (table : List ℕ) (count a : ℕ) (s : Span) (ns : List Name) (y : Ready source table count (s .start) (s .end)) where
+module _ (source : Text) (table : List ℕ) (count line a : ℕ) (s : Span) (ns : List Name) (y : Ready source table count (s .start) (s .end)) where
+  abbrev on-it : SourceLine
+  on-it = atStart line
+
   named-full : {r : Recorded} {table′ : List ℕ} → Recording source table count (s .start) (s .end) a r table′ → r ≡ Full
-      → Named source table count a (nameAt source s ∷ ns) Full table′
+      → Named source table count line a (nameAt source s ∷ ns) Full table′
   named-full d e =
       let f = refused d e in
       record {
-        answered = ap recordedOf (sym (record-full atStart a (nameAt source s) ns (tableOf source table count) (f .no-room)));
-        stored = rw (some-full atStart a (nameAt source s) ns (tableOf source table count) (f .no-room), f .same) (holds-same source table count (y .held));
+        answered = ap recordedOf (sym (record-full on-it a (nameAt source s) ns (tableOf source table count) (f .no-room)));
+        stored = rw (some-full on-it a (nameAt source s) ns (tableOf source table count) (f .no-room), f .same) (holds-same source table count (y .held));
       }
 
+  -- on that line, a label's start tells its line
+  by-start : lineNumber source (s .start) ≡ line → spanLabel source (s .start) (s .end) a ≡ labelOf on-it a (nameAt source s)
+  by-start o = rw (o, zero-add (s .start))
+
   -- with room for it, what the others leave is what all leave
-  named-then : (next : ℕ) (middle : List ℕ) {r : Recorded} {table′ : List ℕ} → Keeps source table count (s .start) (s .end) a next middle
-      → Named source middle next a ns r table′ → Named source table count a (nameAt source s ∷ ns) r table′
-  named-then next middle k d =
-      let now : tableOf source middle next ≡ recorded (labelOf atStart a (nameAt source s)) (tableOf source table count) = k .table
-      ∙ ap (λ (x : Label). recorded x (tableOf source table count)) (sym (at-start a (nameAt source s))) in
-      let all = record-room atStart a (nameAt source s) ns (tableOf source table count) (k .room) in
+  named-then : lineNumber source (s .start) ≡ line → (next : ℕ) (middle : List ℕ) {r : Recorded} {table′ : List ℕ} → Keeps source table count (s .start) (s .end) a next middle
+      → Named source middle next line a ns r table′ → Named source table count line a (nameAt source s ∷ ns) r table′
+  named-then o next middle k d =
+      let now : tableOf source middle next ≡ recorded (labelOf on-it a (nameAt source s)) (tableOf source table count) = k .table
+      ∙ ap (λ (x : Label). recorded x (tableOf source table count)) (by-start o) in
+      let all = record-room on-it a (nameAt source s) ns (tableOf source table count) (k .room) in
       let n = table-length source middle next in
       record {
-        answered = d .answered ∙ ap recordedOf (ap (recordAll atStart a ns) now ∙ sym all);
+        answered = d .answered ∙ ap recordedOf (ap (recordAll on-it a ns) now ∙ sym all);
         stored =
-            rw (some-room atStart a (nameAt source s) ns (tableOf source table count) (k .room), ← now)
-            (holds-from source table middle _ next _ (omega (arith, some-longer atStart a ns (tableOf source middle next), n)) (k .long) (k .past) (d .stored));
+            rw (some-room on-it a (nameAt source s) ns (tableOf source table count) (k .room), ← now)
+            (holds-from source table middle _ next _ (omega (arith, some-longer on-it a ns (tableOf source middle next), n)) (k .long) (k .past) (d .stored));
       }
 
 -- the only label
-named-one : (source : Text) (table : List ℕ) (count a : ℕ) (s : Span) → Ready source table count (s .start) (s .end)
-    → (r : Recorded) (table′ : List ℕ) → Recording source table count (s .start) (s .end) a r table′ → Named source table count a (nameAt source s ∷ []) r table′
-named-one source table count a s y r table′ d = go r refl
+named-one : (source : Text) (table : List ℕ) (count line a : ℕ) (s : Span) → Ready source table count (s .start) (s .end) → lineNumber source (s .start) ≡ line
+    → (r : Recorded) (table′ : List ℕ) → Recording source table count (s .start) (s .end) a r table′ → Named source table count line a (nameAt source s ∷ []) r table′
+named-one source table count line a s y o r table′ d = go r refl
   where
-    go : (x : Recorded) → r ≡ x → Named source table count a (nameAt source s ∷ []) r table′
-    go Full e = rw e (named-full source table count a s [] y d e)
+    go : (x : Recorded) → r ≡ x → Named source table count line a (nameAt source s ∷ []) r table′
+    go Full e = rw e (named-full source table count line a s [] y d e)
     go (Count m) e =
         let k : Keeps source table count (s .start) (s .end) a m table′ = kept y d e in
-        rw e (named-then source table count a s [] y m table′ k (named-none source table′ m a (k .held)))
+        rw e (named-then source table count line a s [] y o m table′ k (named-none source table′ m line a (k .held)))
 
 -- two labels or more are two
 names-two : (source : Text) (ns : Names) → (ns .count ≡ 0 → ⊥) → (ns .count ≡ 1 → ⊥) → namesAt source ns ≡ nameAt source (ns .first) ∷ nameAt source (ns .second) ∷ []
@@ -212,22 +222,29 @@ names-two source ns z o = go (ns .count) refl
     go (suc zero) e = absurd (o e)
     go (suc (suc k)) e = refl
 
+-- the first of a line's labels, and the others
+on-first : {source : Text} {k : ℕ} {n : Name} {ns : List Name} → OnLine source k (n ∷ ns) → lineNumber source (n .start) ≡ k
+on-first (and-name e o) = e
+
+on-others : {source : Text} {k : ℕ} {n : Name} {ns : List Name} → OnLine source k (n ∷ ns) → OnLine source k ns
+on-others (and-name e o) = o
+
 -- what `record_names` answers, by how many labels there are
 module _ (source : Text) (table : List ℕ) (count a : ℕ) (ns : Names) (y : RecordNamesNeeds source table count ns) where
   pub ready-first : Ready source table count (ns .first .start) (ns .first .end)
   ready-first = ready source table count (ns .first) (y .held) (y .short) (room-less (count + 1) (omega arith) (y .room)) (y .within .first)
 
-  pub named-0 : ns .count ≡ 0 → Named source table count a (namesAt source ns) (Count count) table
-  named-0 e = rw e (named-none source table count a (y .held))
+  pub named-0 : ns .count ≡ 0 → RecordNamesGives source table count ns a (Count count) table
+  named-0 e line on = rw e (named-none source table count line a (y .held))
 
   pub named-1 : (r : Recorded) (table′ : List ℕ) → ns .count ≡ 1 → Recording source table count (ns .first .start) (ns .first .end) a r table′
-      → Named source table count a (namesAt source ns) r table′
-  named-1 r table′ e d = rw e (named-one source table count a (ns .first) ready-first r table′ d)
+      → RecordNamesGives source table count ns a r table′
+  named-1 r table′ e d line on = rw e (named-one source table count line a (ns .first) ready-first (on-first (rw e at on)) r table′ d)
 
   module _ (z : ns .count ≡ 0 → ⊥) (o : ns .count ≡ 1 → ⊥) (x : Recorded) (middle : List ℕ)
       (d : Recording source table count (ns .first .start) (ns .first .end) a x middle) where
-    pub named-2-full : x ≡ Full → Named source table count a (namesAt source ns) Full middle
-    named-2-full e = rw (names-two source ns z o) (named-full source table count a (ns .first) (nameAt source (ns .second) ∷ []) ready-first d e)
+    pub named-2-full : x ≡ Full → RecordNamesGives source table count ns a Full middle
+    named-2-full e line on = rw (names-two source ns z o) (named-full source table count line a (ns .first) (nameAt source (ns .second) ∷ []) ready-first d e)
 
     module _ (next : ℕ) (e : x ≡ Count next) where
       middle-kept : Keeps source table count (ns .first .start) (ns .first .end) a next middle
@@ -239,11 +256,12 @@ module _ (source : Text) (table : List ℕ) (count a : ℕ) (ns : Names) (y : Re
           ready source middle next (ns .second) (middle-kept .held) (y .short) (room-less (next + 1) k (room-same middle (middle-kept .long) (y .room))) (y .within .second)
 
       pub named-2 : (r : Recorded) (table′ : List ℕ) → Recording source middle next (ns .second .start) (ns .second .end) a r table′
-          → Named source table count a (namesAt source ns) r table′
-      named-2 r table′ f =
+          → RecordNamesGives source table count ns a r table′
+      named-2 r table′ f line on =
+          let both = rw (names-two source ns z o) at on in
           rw (names-two source ns z o)
-          (named-then source table count a (ns .first) (nameAt source (ns .second) ∷ []) ready-first next middle middle-kept
-          (named-one source middle next a (ns .second) ready-second r table′ f))
+          (named-then source table count line a (ns .first) (nameAt source (ns .second) ∷ []) ready-first (on-first both) next middle middle-kept
+          (named-one source middle next line a (ns .second) ready-second (on-first (on-others both)) r table′ f))
 
 -- ---- what its answer says of the rules' one
 pub recorded-full : (o : Option Table) → Full ≡ recordedOf o → o ≡ none

@@ -8,17 +8,21 @@ use native.Mathlib.Numerals.{add-one}
 use native.Mathlib.Omega.{arith}
 use borrow.Author.Tests.{lt-ltb, le-ltb}
 use lib.Dec.{ltb}
-use lib.ListN.{length, length-append, length-map}
+use lib.ListN.{length, length-append, length-map, length-drop}
 use Rattle.rules.specs.Limits.{addressLimit, maxLines}
 use Rattle.rules.specs.Text.{Text}
-use Rattle.rules.specs.Line.{SourceLine, Task as SaidTask, skipped, end, org, noOrg, labelOnly, instruction, value, space, Line as Said, lineOf, size}
+use Rattle.rules.specs.Line.{SourceLine, Name, Task as SaidTask, skipped, end, org, noOrg, labelOnly, instruction, value, space, Line as Said, lineOf, size}
 use Rattle.rules.specs.Label.{Table}
 use Rattle.rules.specs.Answer.{Answer, accepted, refused, andThen}
 use Rattle.rules.specs.Assemble.{Pass as Ruled, Put, Place, addressAfter, isEnd, putting, firstPassBy, firstPass, placesAt, dataContents, dataPlaces}
+use Rattle.rules.proofs.Standing.{at-within}
+use Rattle.rules.proofs.Names.{Rising, over, next as behind, names-rise}
 use Rattle.text.specs.declared.Span.{Span}
 use Rattle.text.specs.Spans.{SpanIn}
-use Rattle.outline.specs.Lines.{lineEnd, linesFrom}
-use Rattle.outline.proofs.Lines.{lines-none, lines-step}
+use Rattle.text.specs.Breaks.{lineNumber}
+use Rattle.text.proofs.Breaks.{number-same, number-next}
+use Rattle.outline.specs.Lines.{lineEnd, lineFrom, linesFrom}
+use Rattle.outline.proofs.Lines.{line-length, lines-none, lines-step}
 use Rattle.label.specs.Table.{tableOf}
 use Rattle.label.specs.declared.Recorded.{Recorded}
 use Rattle.label.specs.declared.Recorded.the-variants.{Count, Full}
@@ -36,7 +40,7 @@ use Rattle.cells.proofs.Puts.{address-more, puts-more, lines-more, puts-length}
 use Rattle.cells.proofs.Tasks.{data-places, after-kept, task-fits}
 use Rattle.first.specs.Stopped.{recordSome, only, before, stopped}
 use Rattle.first.specs.Pass.{HoldsLabels}
-use Rattle.first.specs.Names.{RecordNamesNeeds, recordedOf, Named}
+use Rattle.first.specs.Names.{RecordNamesNeeds, recordedOf, OnLine, no-name, and-name, Named, RecordNamesGives}
 use Rattle.first.specs.Progress.{afterPuts, answerAfter, lineHere, linesLeft, passSoFar, Stands, Going, Stopping, PassLineNeeds}
 use Rattle.first.specs.declared.Progress.{Progress}
 use Rattle.first.proofs.Turns.{asked, labelled, pass-halts, stop-halts, pass-full, stop-full, pass-out, stop-out, pass-more, stop-more}
@@ -97,6 +101,12 @@ names-most source l = go (l .names .count)
     go (suc zero) = omega arith
     go (suc (suc k)) = omega arith
 
+-- the labels of the line that starts at i stand on it
+on-line : (source : Text) (i k : ℕ) → lineNumber source i ≡ k → {e b : ℕ} {ns : List Name} → Rising (lineFrom source i) e b ns → OnLine source k (map (nameFrom i) ns)
+on-line source i k n (over h) = no-name
+on-line source i k n (behind {m = m} h a r) =
+    and-name (number-same source i (m .start) (omega (arith, at-within a, line-length source i)) ∙ n) (on-line source i k n r)
+
 -- ---- where the pass stops
 module _ (source : Text) (base : ℕ) (table cells : List ℕ) (p : Progress) where
   abbrev labels : Table
@@ -143,6 +153,9 @@ module _ (source : Text) (base : ℕ) (table cells : List ℕ) (p : Progress) wh
     names-said : namesAt source (l .names) ≡ map (nameFrom (p .at)) (lineOf (this .text) .names)
     names-said = ap (λ (x : Said). x .names) (r .says)
 
+    number : lineNumber source (p .at) ≡ suc (p .lines)
+    number = needs .stands .number (needs .inside)
+
     -- END
     pub ends-here : isEnd (taskAt source (l .task)) ≡ true → Stopping source base table cells p (accepted (passSoFar source base table cells p)) table cells
     ends-here e =
@@ -166,7 +179,7 @@ module _ (source : Text) (base : ℕ) (table cells : List ℕ) (p : Progress) wh
         }
 
     module _ (ne : isEnd (taskAt source (l .task)) ≡ false) (answer : Recorded) (table′ : List ℕ)
-        (d : Named source table (p .labels) (p .address) (namesAt source (l .names)) answer table′) where
+        (d : RecordNamesGives source table (p .labels) (l .names) (p .address) answer table′) where
       goes : isEnd (asked this) ≡ false
       goes = rw task-said at ne
 
@@ -174,11 +187,14 @@ module _ (source : Text) (base : ℕ) (table cells : List ℕ) (p : Progress) wh
       abbrev now : Table
       now = recordSome this (p .address) (lineOf (this .text) .names) labels
 
+      named : Named source table (p .labels) (suc (p .lines)) (p .address) (namesAt source (l .names)) answer table′
+      named = d (suc (p .lines)) (rw names-said (on-line source (p .at) (suc (p .lines)) number (names-rise (this .text))))
+
       answered : answer ≡ recordedOf (labelled (p .address) labels this)
-      answered = rw (names-said, record-from this (p .address) (lineOf (this .text) .names) labels) at (d .answered)
+      answered = rw (names-said, record-from this (p .address) (lineOf (this .text) .names) labels) at (named .answered)
 
       stored : HoldsLabels source now table table′
-      stored = rw (names-said, some-from this (p .address) (lineOf (this .text) .names) labels) at (d .stored)
+      stored = rw (names-said, some-from this (p .address) (lineOf (this .text) .names) labels) at (named .stored)
 
       longer : p .labels ≤ length now
       longer = omega (arith, some-longer this (p .address) (lineOf (this .text) .names) labels, table-length source table (p .labels))
@@ -255,6 +271,7 @@ module _ (source : Text) (base : ℕ) (table cells : List ℕ) (p : Progress) wh
                 held = rw (all-recorded .1) (stored .held);
                 kept = lines-more cells (p .lines) keeps in-cells fits-kept source (needs .stands .kept) (record { within = r .task-in; sized = sized });
                 address = says-later ∙ rw (needs .stands .address) (sym (address-more cells (p .lines) keeps in-cells fits-kept base));
+                number = λ h. number-next source (p .at) (omega (arith, length-drop (p .at) source)) ∙ ap suc number;
                 values = values-now;
                 rows = room-less (n + 2 * length rest) rows-now (room-same table′ (stored .long) (needs .stands .rows));
                 few = omega (arith, ap length left, needs .stands .few);

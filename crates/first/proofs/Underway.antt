@@ -9,6 +9,7 @@ use Rattle.rules.specs.Text.{Text}
 use Rattle.rules.specs.Line.{linesOf, lineOf}
 use Rattle.rules.specs.Answer.{Answer, accepted, refused}
 use Rattle.rules.specs.Assemble.{Pass as Ruled, firstPass}
+use Rattle.text.specs.Breaks.{breaks}
 use Rattle.outline.specs.Lines.{lineFrom}
 use Rattle.outline.proofs.Lines.{lines-all, lines-count}
 use Rattle.label.specs.Table.{cellOf, tableOf}
@@ -44,7 +45,7 @@ answer-whole (refused n k) = refl
 
 module _ (source : Text) (base : ℕ) (table₀ cells₀ : List ℕ) where
   pub begins : FirstPassNeeds source base table₀ cells₀ → Underway source base table₀ cells₀ table₀ cells₀ (record { at = 0; address = base; labels = 0; values = 0; lines = 0 })
-  unfolding putsOf addressAt flatMap afterPuts
+  unfolding putsOf addressAt flatMap afterPuts breaks
   begins n =
       let all = lines-all source in
       let count = lines-count source in
@@ -54,6 +55,7 @@ module _ (source : Text) (base : ℕ) (table₀ cells₀ : List ℕ) where
           held = n .lent .empty;
           kept = record { room = omega arith; line = λ k l. absurd (omega arith) };
           address = refl;
+          number = λ h. refl;
           values = refl;
           rows = room-less _ (omega (arith, ap length all, count)) (n .lent .labels);
           few = omega (arith, ap length all, count, n .few);

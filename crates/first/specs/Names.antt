@@ -2,12 +2,13 @@
 use mathlib.Core.Path.{_≡_}
 use Prim.Native.Nat.{ℕ, _+_, _≤_}
 use mathlib.Core.Option.{Option, none, some}
-use mathlib.Core.List.{List, []}
+use mathlib.Core.List.{List, [], _∷_}
 use lib.ListN.{length}
 use Rattle.rules.specs.Limits.{maxSource}
 use Rattle.rules.specs.Text.{Text}
 use Rattle.rules.specs.Line.{SourceLine, Name}
 use Rattle.rules.specs.Label.{Table, recordAll}
+use Rattle.text.specs.Breaks.{lineNumber}
 use Rattle.label.specs.Table.{tableOf, Held}
 use Rattle.label.specs.declared.Recorded.{Recorded}
 use Rattle.label.specs.declared.Recorded.the-variants.{Count, Full}
@@ -28,14 +29,20 @@ abbrev pub recordedOf : Option Table → Recorded
 recordedOf none = Full
 recordedOf (some t) = Count (length t)
 
--- a line at the source's start: the starts of its labels are counted in the source
-abbrev pub atStart : SourceLine
-atStart = record { number = 1; start = 0; text = [] }
+-- line k, counted from the source's start: the starts of its labels are counted in the source
+abbrev pub atStart : ℕ → SourceLine
+atStart k = record { number = k; start = 0; text = [] }
 
--- labels whose starts are counted in the source, recorded at the address a
-pub record Named (source : Text) (table : List ℕ) (count a : ℕ) (ns : List Name) (r : Recorded) (table′ : List ℕ) : Type 0 where
-  pub answered : r ≡ recordedOf (recordAll atStart a ns (tableOf source table count))
-  pub stored : HoldsLabels source (recordSome atStart a ns (tableOf source table count)) table table′
+-- labels that stand on line k, their starts counted in the source
+pub data OnLine (source : Text) (k : ℕ) : List Name → Type 0 where
+  no-name : OnLine source k []
+  and-name : {n : Name} {ns : List Name} → lineNumber source (n .start) ≡ k → OnLine source k ns → OnLine source k (n ∷ ns)
 
+-- labels of line k, recorded at the address a
+pub record Named (source : Text) (table : List ℕ) (count k a : ℕ) (ns : List Name) (r : Recorded) (table′ : List ℕ) : Type 0 where
+  pub answered : r ≡ recordedOf (recordAll (atStart k) a ns (tableOf source table count))
+  pub stored : HoldsLabels source (recordSome (atStart k) a ns (tableOf source table count)) table table′
+
+-- on whatever line they stand
 abbrev pub RecordNamesGives : Text → List ℕ → ℕ → Names → ℕ → Recorded → List ℕ → Type 0
-RecordNamesGives source table count ns a r table′ = Named source table count a (namesAt source ns) r table′
+RecordNamesGives source table count ns a r table′ = (k : ℕ) → OnLine source k (namesAt source ns) → Named source table count k a (namesAt source ns) r table′

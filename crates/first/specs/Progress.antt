@@ -11,6 +11,7 @@ use Rattle.rules.specs.Line.{SourceLine, lineOf}
 use Rattle.rules.specs.Label.{recordAll}
 use Rattle.rules.specs.Answer.{Answer, accepted, refused}
 use Rattle.rules.specs.Assemble.{Pass as Ruled, Put, isEnd, dataPlaces, firstPass}
+use Rattle.text.specs.Breaks.{lineNumber}
 use Rattle.outline.specs.Lines.{lineEnd, lineFrom, linesFrom}
 use Rattle.label.specs.Table.{cellOf, tableOf, Held}
 use Rattle.line.specs.declared.Line.{Line}
@@ -52,12 +53,13 @@ abbrev pub stopFrom : Text → ℕ → List ℕ → List ℕ → Progress → Ru
 stopFrom source base table cells p =
     afterPuts (putsOf source base cells (p .lines)) (stopped base (p .address) (tableOf source table (p .labels)) (linesLeft source p))
 
--- the arrays hold what is done, and have room for what is left: two labels and one line a line
+-- the arrays hold what is done, and have room for what is left: two labels and one line a line; the next line is where it is said to be
 pub record Stands (source : Text) (base : ℕ) (table cells : List ℕ) (p : Progress) : Type 0 where
   pub short : length source ≤ maxSource
   pub held : Held source table (p .labels)
   pub kept : LinesIn source cells (p .lines)
   pub address : p .address ≡ addressAt base cells (p .lines)
+  pub number : p .at ≤ length source → lineNumber source (p .at) ≡ suc (p .lines)
   pub values : p .values ≡ length (flatMap dataPlaces (putsOf source base cells (p .lines)))
   pub rows : RoomFor (p .labels + 2 * length (linesLeft source p)) table
   pub few : p .lines + length (linesLeft source p) ≤ maxLines

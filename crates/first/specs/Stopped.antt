@@ -1,18 +1,14 @@
 -- What the first pass has recorded and kept when it stops, at its end or at a refusal. Assumes nothing.
-use Prim.Native.Nat.{ℕ, _+_}
+use Prim.Native.Nat.{ℕ}
 use mathlib.Core.Bool.{true, false}
 use mathlib.Core.List.{List, [], _∷_}
 use lib.Dec.{ltb, leb}
 use Rattle.rules.specs.Limits.{addressLimit}
 use Rattle.rules.specs.Text.{Text}
 use Rattle.rules.specs.Line.{SourceLine, linesOf, Name, lineOf}
-use Rattle.rules.specs.Label.{Label, Table, find, recorded, hasRoom}
+use Rattle.rules.specs.Label.{Table, find, recorded, hasRoom, labelOf}
 use Rattle.rules.specs.Answer.{Answer, accepted, refused, refuseIf}
 use Rattle.rules.specs.Assemble.{Pass, Put, halt, full, next, step, checks}
-
--- a label of the source line l, at the address a
-abbrev pub labelOf : SourceLine → ℕ → Name → Label
-labelOf l a n = record { name = n .text; start = l .start + n .start; address = a }
 
 -- labels recorded in order, up to the first for which there is no room
 unfoldable pub recordSome : SourceLine → ℕ → List Name → Table → Table

@@ -24,7 +24,7 @@ use Rattle.label.proofs.Table.{table-length, table-at}
 
 -- a label of that name
 abbrev named : Text → Label
-named n = record { name = n; start = 0; address = 0 }
+named n = record { name = n; start = 0; address = 0; line = 1 }
 
 -- ---- a name's row, by what its rows are
 module _ (source : Text) (cells : List ℕ) (count : ℕ) (name : Text) where

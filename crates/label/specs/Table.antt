@@ -11,6 +11,7 @@ use lib.ListN.{length, take, drop, getD}
 use Rattle.rules.specs.Text.{Text, same}
 use Rattle.rules.specs.Label.{Label, Table}
 use Rattle.text.specs.Find.{further}
+use Rattle.text.specs.Breaks.{lineNumber}
 use Rattle.label.specs.declared.Address.{Address}
 use Rattle.label.specs.declared.Address.the-variants.{At, Nothing}
 
@@ -26,9 +27,9 @@ hashFrom h (b ∷ s) = hashFrom ((37 * h + b) % hashes) s
 abbrev pub hashOf : Text → ℕ
 hashOf n = hashFrom 0 n
 
--- the label that stands at s in the source, l bytes long
+-- the label that stands at s in the source, l bytes long; its line is not kept, for its start tells it
 abbrev pub labelAt : Text → ℕ → ℕ → ℕ → Label
-labelAt source s l a = record { name = take l (drop s source); start = s; address = a }
+labelAt source s l a = record { name = take l (drop s source); start = s; address = a; line = lineNumber source s }
 
 -- the first cell of row k
 abbrev pub cellOf : ℕ → ℕ

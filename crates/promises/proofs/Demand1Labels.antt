@@ -1,6 +1,6 @@
 -- The label table holds the names recorded, each once; a line's labels overflow it exactly where one is new and the table is full.
 -- Assumes nothing.
-use Prim.Native.Nat.{ℕ, suc, _+_, _<_, _≤_}
+use Prim.Native.Nat.{ℕ, suc, _<_, _≤_}
 use mathlib.Core.Path.{_≡_, refl, sym, ap, _∙_}
 use mathlib.Core.Bool.{Bool, true, false, _||_, cond}
 use mathlib.Core.Option.{Option, none, some}
@@ -12,7 +12,7 @@ use lib.Dec.{eqb}
 use Rattle.rules.specs.Limits.{maxLabels}
 use Rattle.rules.specs.Text.{Text, same}
 use Rattle.rules.specs.Line.{SourceLine, Name}
-use Rattle.rules.specs.Label.{Label, Table, find, recorded, hasRoom, recordAll}
+use Rattle.rules.specs.Label.{Label, Table, find, recorded, hasRoom, labelOf, recordAll}
 use Rattle.rules.specs.Encode.{isSome}
 use Rattle.promises.specs.Demand1.{onTop, isAmong, distinct, TooMany, now, later}
 use Rattle.promises.proofs.Compared.{clash}
@@ -118,7 +118,7 @@ records l a [] t ns h = fits (no-names ns) h
 records l a (m ∷ ms) t ns h = go (hasRoom (find (m .text) t) t) refl (λ u. records l a ms u (m .text ∷ ns))
   where
     x : Label
-    x = record { name = m .text; start = l .start + m .start; address = a }
+    x = labelOf l a m
 
     go : (y : Bool) → hasRoom (find (m .text) t) t ≡ y
         → ((u : Table) → Holds u (m .text ∷ ns) → Recorded (map (λ n. n .text) ms) (m .text ∷ ns) (recordAll l a ms u))

@@ -8,13 +8,14 @@ use mathlib.Core.Option.{some}
 use mathlib.Core.List.{List, [], _∷_, map}
 use native.Mathlib.Omega.{arith}
 use borrow.Author.Tests.{eq-eqb}
+use lib.ListN.{length}
 use Rattle.rules.specs.Text.{Text, same}
 use Rattle.rules.specs.Line.{SourceLine, Name}
-use Rattle.rules.specs.Label.{Label, Table, find, recorded, hasRoom, recordAll}
+use Rattle.rules.specs.Label.{Label, Table, find, recorded, hasRoom, labelOf, recordAll}
+use Rattle.rules.proofs.Names.{Rising, over, next}
 use Rattle.promises.specs.Nearest.{In, head, tail}
 use Rattle.promises.proofs.Compared.{clash}
 use Rattle.promises.proofs.RustText.{same-eq}
-use Rattle.promises.proofs.Names.{Rising, over, next}
 
 -- names that do not compare the same are not equal
 same-self : (s : Text) → same s s ≡ true
@@ -146,10 +147,6 @@ keeps-one P b t x l k = record { unique = r .unique; is = is; has = has; below =
     one (inr f) (inl q) e = let h = early q f in absurd (omega arith)
     one (inr f) (inr g) e = f ∙ sym g
 
--- a name of the source line l as a label at the address a
-abbrev pub labelOf : SourceLine → ℕ → Name → Label
-labelOf l a n = record { name = n .text; start = l .start + n .start; address = a }
-
 -- the names of a line
 module _ (l : SourceLine) (a : ℕ) where
   pub keeps-all : (P : Label → Type 0) {ns : List Name} {c e : ℕ} (b : ℕ) (t t′ : Table) → b ≤ l .start + c → Rising (l .text) e c ns → recordAll l a ns t ≡ some t′
@@ -180,7 +177,7 @@ module _ (l : SourceLine) (a : ℕ) where
       back y (inr (tail i)) = inr i
 
       go : (y : Bool) → hasRoom (find (n .text) t) t ≡ y
-          → ((c : ℕ) (u : Table) → c ≤ l .start + suc (n .start) → recordAll l a ns u ≡ some t′ → Keeps Q c u
+          → ((c : ℕ) (u : Table) → c ≤ l .start + suc (n .start + length (n .text)) → recordAll l a ns u ≡ some t′ → Keeps Q c u
           → Keeps (λ y. Q y ⊎ In y (map (labelOf l a) ns)) (l .start + e) t′)
           → Keeps (λ y. P y ⊎ In y (map (labelOf l a) (n ∷ ns))) (l .start + e) t′
       go true g ih =

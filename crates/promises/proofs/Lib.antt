@@ -41,7 +41,6 @@ pub mod Moves
 pub mod Demand3
 pub mod Longest
 pub mod Standing
-pub mod Names
 pub mod Kept
 pub mod Records
 pub mod Nearest

@@ -138,8 +138,8 @@ accepts base s h = go (passAt base s) refl
 -- the nearest in a table that holds the last records
 module _ (base : ℕ) (s : Text) (a : ℕ) (t : Table) (law : LastRecords base s t) where
   -- a last record is in the table
-  label-in : (n : Text) (i k x : ℕ) → LastRecord base s n i k x → In (record { name = n; start = i; address = x }) t
-  label-in n i k x h = law .exactly (record { name = n; start = i; address = x }) .1 (k, h)
+  label-in : (n : Text) (i k x : ℕ) → LastRecord base s n i k x → In (record { name = n; start = i; address = x; line = k }) t
+  label-in n i k x h = law .exactly (record { name = n; start = i; address = x; line = k }) .1 h
 
   -- what the search finds is near
   found-near : ((m q : ℕ) → ¬ PassCondition size base s m q) → (l : Label) → Found a t l
@@ -148,10 +148,10 @@ module _ (base : ℕ) (s : Text) (a : ℕ) (t : Table) (law : LastRecords base s
       let h = law .exactly l .0 (f .is) in
       record {
         name = l .name;
-        line = h .0;
+        line = l .line;
         address = l .address;
         clear = c;
-        last = h .1;
+        last = h;
         length = refl;
         distance = omega (arith, f .at-most);
         greatest = λ {n} {i} {k} {x} r u. f .beats (label-in n i k x r) u .higher;
@@ -164,16 +164,16 @@ module _ (base : ℕ) (s : Text) (a : ℕ) (t : Table) (law : LastRecords base s
   near-told r none h (nothing f) =
       let u = f _ (label-in (h .name) (r .start) (h .line) (h .address) (h .last)) in
       absurd (omega (arith, h .distance))
-  near-told r (some l) h (found f) = on (law .exactly l .0 (f .is) .0) (law .exactly l .0 (f .is) .1)
+  near-told r (some l) h (found f) = on (law .exactly l .0 (f .is))
     where
-      b : Beats l (record { name = h .name; start = r .start; address = h .address })
+      b : Beats l (record { name = h .name; start = r .start; address = h .address; line = h .line })
       b = f .beats (label-in (h .name) (r .start) (h .line) (h .address) (h .last)) (omega (arith, h .distance))
 
-      on : (k : ℕ) → LastRecord base s (l .name) (l .start) k (l .address) → toldNearest a (some l) ≡ accepted r
-      on k q =
+      on : LastRecord base s (l .name) (l .start) (l .line) (l .address) → toldNearest a (some l) ≡ accepted r
+      on q =
           let e : l .address ≡ h .address = omega (arith, b .higher, h .greatest q (f .at-most)) in
           let g : l .start ≡ r .start = omega (arith, b .foremost (sym e), h .foremost {i = l .start} (rw e at q)) in
-          let w = law .one (record { line = k; made = q .made }) (record { line = h .line; made = h .last .made }) g in
+          let w = law .one {x = l} {y = record { name = h .name; start = r .start; address = h .address; line = h .line }} (q .made) (h .last .made) g in
           let v : a - h .address ≡ r .distance = omega (arith, h .distance) in
           rw (w, v, ← (h .length))
 
@@ -224,7 +224,7 @@ module _ (base : ℕ) (s : Text) (a : ℕ) where
   told t none law (nothing f) = stop (none-near (λ n i k x r. f _ (label-in base s a t law n i k x r))) (λ q c. to-12 q c .0)
   told t (some l) law (found f) =
       let h = law .exactly l .0 (f .is) in
-      pass (λ q c. let u = to-12 q c .1 (l .name) (l .start) (h .0) (l .address) (h .1) in omega (arith, f .at-most)) done
+      pass (λ q c. let u = to-12 q c .1 (l .name) (l .start) (l .line) (l .address) h in omega (arith, f .at-most)) done
 
   answered : Runs C nearing (nearest base s a)
   unfolding nearest

@@ -1,6 +1,6 @@
 -- The labels that an accepted pass comes to are the last records, one for each name recorded. Assumes nothing.
 use Prim.Native.Nat.{ℕ, zero, suc, _+_, _<_, _≤_}
-use mathlib.Core.Path.{_≡_, refl, sym, _∙_}
+use mathlib.Core.Path.{_≡_, refl, sym, ap, _∙_}
 use mathlib.Core.Logic.{_↔_, _⊎_, inl, inr}
 use mathlib.Core.Option.{some}
 use mathlib.Core.List.{List, [], _∷_, map}
@@ -9,20 +9,21 @@ use lib.Dec.{eqb}
 use lib.ListN.{length, getElem?, drop}
 use Rattle.rules.specs.Text.{Text, cutAt}
 use Rattle.rules.specs.Line.{SourceLine, numbered, linesOf, Name, name, Task, end, lineOf, size}
-use Rattle.rules.specs.Label.{Label, Table, recordAll}
+use Rattle.rules.specs.Label.{Label, Table, labelOf, recordAll}
 use Rattle.rules.specs.Answer.{Answer, accepted, refused, andThen}
 use Rattle.rules.specs.Assemble.{Pass, addressAfter, putting, firstPassBy, passAtBy, passAt}
+use Rattle.rules.proofs.Standing.{At, at-within, at-take, at-in}
+use Rattle.rules.proofs.Names.{Rising, next, names-rise}
 use Rattle.promises.specs.Demand1.{IsLine, namesOf, onTop, Reached, start, further}
-use Rattle.promises.specs.Nearest.{In, startAfter, Records, records, LastRecord, RecordsStand}
+use Rattle.promises.specs.Nearest.{In, head, tail, startAfter, Records, records, LastRecord, RecordsStand}
 use Rattle.promises.proofs.Compared.{clash, Compared, less, more, equal, compared}
 use Rattle.promises.proofs.Accepted.{not-refused, checks-passed}
 use Rattle.promises.proofs.Tasks.{next-address, pass-line}
 use Rattle.promises.proofs.Shapes.{end-unlabelled}
 use Rattle.promises.proofs.Demand1Lines.{line-at, no-line}
 use Rattle.promises.proofs.Demand1Passes.{reached-once, not-end}
-use Rattle.promises.proofs.Standing.{At, at-within, at-take, at-in, texts-at}
-use Rattle.promises.proofs.Names.{Rising, next, rising-in, names-rise}
-use Rattle.promises.proofs.Kept.{Unique, Last, Keeps, keeps-by, labelOf, keeps-all, mapped, map-in}
+use Rattle.promises.proofs.Standing.{texts-at}
+use Rattle.promises.proofs.Kept.{Unique, Last, Keeps, keeps-by, keeps-all, mapped, map-in}
 
 -- the line after starts after its bytes and the byte 10
 start-next : (ls : List Text) (j : ℕ) (l : Text) → getElem? ls j ≡ some l → startAfter (suc j) ls ≡ suc (startAfter j ls + length l)
@@ -49,19 +50,18 @@ module _ (base : ℕ) (s : Text) where
       record { index = j; offset = m; names = ns; text = l; reached = r; is = e; named = h; starts = refl; number = refl }
 
   -- a label that is recorded, and one that is so by the first j lines
-  pub record Made (x : Label) : Type 0 where
-    pub line : ℕ
-    pub made : Records base s (x .name) (x .start) line (x .address)
+  abbrev pub Made : Label → Type 0
+  Made x = Records base s (x .name) (x .start) (x .line) (x .address)
 
   record Early (j : ℕ) (x : Label) : Type 0 where
     is : Made x
-    early : is .line ≤ j
+    early : x .line ≤ j
 
   -- after the last line, or END, all is recorded
   whole : (j b : ℕ) (t : Table) → ((n : Text) (i k a : ℕ) (r : Apart n i k a) → ¬ (j ≤ r .index)) → Keeps (Early j) b t → Keeps Made b t
   whole j b t f k =
       keeps-by (Early j) Made b b t (omega arith) (λ x e. e .is)
-      (λ x m. record { is = m; early = on (apart (m .made)) (compared (apart (m .made) .index) j) }) k
+      (λ x m. record { is = m; early = on (apart m) (compared (apart m .index) j) }) k
     where
       on : {n : Text} {i k a : ℕ} (r : Apart n i k a) → Compared (r .index) j → k ≤ j
       on r (less l) = omega (arith, r .number)
@@ -78,12 +78,12 @@ module _ (base : ℕ) (s : Text) where
     forth x (inr f) = let h = mapped here a (lineOf l .names) f in on (h .0) (h .1) (h .2)
       where
         on : (n : Name) → In n (lineOf l .names) → x ≡ labelOf here a n → Early (suc j) x
-        on n i g = record { is = record { line = suc j; made = rw (g, p) (records r e i) }; early = omega arith }
+        on n i g = record { is = rw (g, p) (records r e i); early = rw g (omega arith) }
 
     back : (x : Label) → Early (suc j) x → Early j x ⊎ In x (map (labelOf here a) (lineOf l .names))
-    back x f = on (apart (f .is .made)) (compared (apart (f .is .made) .index) j)
+    back x f = on (apart (f .is)) (compared (apart (f .is) .index) j)
       where
-        on : (q : Apart (x .name) (x .start) (f .is .line) (x .address)) → Compared (q .index) j → Early j x ⊎ In x (map (labelOf here a) (lineOf l .names))
+        on : (q : Apart (x .name) (x .start) (x .line) (x .address)) → Compared (q .index) j → Early j x ⊎ In x (map (labelOf here a) (lineOf l .names))
         on q (less h) = inl (record { is = f .is; early = omega (arith, q .number) })
         on q (more h) = absurd (omega (arith, q .number, f .early))
         on q (equal h) =
@@ -91,7 +91,8 @@ module _ (base : ℕ) (s : Text) where
             let g = rw h at (q .is) in
             let v : q .text ≡ l = cc in
             let w : x .start ≡ i + q .offset = q .starts ∙ rw (h, p) in
-            let y : x ≡ labelOf here a (name (q .offset) (x .name)) = rw (← w, ← u) in
+            let z : x .line ≡ suc j = q .number ∙ ap suc h in
+            let y : x ≡ labelOf here a (name (q .offset) (x .name)) = rw (← w, ← u, ← z) in
             inr (rw y (map-in here a (rw v at (q .named))))
 
   -- what an accepted pass keeps
@@ -137,7 +138,7 @@ module _ (base : ℕ) (s : Text) where
 
   -- before the first line nothing is recorded
   none-early : {x : Label} → Early 0 x → ⊥
-  none-early e = let h = apart (e .is .made) .number in omega (arith, e .early)
+  none-early e = let h = apart (e .is) .number in omega (arith, e .early)
 
   keeps-none : Keeps (Early 0) 0 []
   keeps-none =
@@ -151,21 +152,21 @@ module _ (base : ℕ) (s : Text) where
 
   -- a label is in the table exactly if it is the last record of its name; no name is in it twice, and no two records start at one place
   pub record LastRecords (t : Table) : Type 0 where
-    pub exactly : (x : Label) → In x t ↔ ((k : ℕ) × LastRecord base s (x .name) (x .start) k (x .address))
+    pub exactly : (x : Label) → In x t ↔ LastRecord base s (x .name) (x .start) (x .line) (x .address)
     pub unique : Unique t
     pub one : {x y : Label} → Made x → Made y → x .start ≡ y .start → x ≡ y
 
   kept-last : {t : Table} {b : ℕ} → Keeps Made b t → LastRecords t
-  kept-last {t} k = record { exactly = λ x. (to x, λ h. from x (h .0) (h .1)); unique = k .unique; one = k .one }
+  kept-last {t} k = record { exactly = λ x. (to x, from x); unique = k .unique; one = k .one }
     where
       latest : {x : Label} → Last Made x → {i′ k′ a′ : ℕ} → Records base s (x .name) i′ k′ a′ → i′ ≤ x .start
-      latest {x} h {i′} {k′} {a′} r = h .latest {y = record { name = x .name; start = i′; address = a′ }} (record { line = k′; made = r }) refl
+      latest {x} h {i′} {k′} {a′} r = h .latest {y = record { name = x .name; start = i′; address = a′; line = k′ }} r refl
 
-      to : (x : Label) → In x t → (k : ℕ) × LastRecord base s (x .name) (x .start) k (x .address)
-      to x i = let h = k .is i in (h .holds .line, record { made = h .holds .made; last = latest h })
+      to : (x : Label) → In x t → LastRecord base s (x .name) (x .start) (x .line) (x .address)
+      to x i = let h = k .is i in record { made = h .holds; last = latest h }
 
-      from : (x : Label) (j : ℕ) → LastRecord base s (x .name) (x .start) j (x .address) → In x t
-      from x j h = k .has (record { holds = record { line = j; made = h .made }; latest = λ {y} m e. h .last {i′ = y .start} (rw e at (m .made)) })
+      from : (x : Label) → LastRecord base s (x .name) (x .start) (x .line) (x .address) → In x t
+      from x h = k .has (record { holds = h .made; latest = λ {y} m e. h .last {i′ = y .start} (rw e at m) })
 
   pub labels-are-last : (p : Pass) → passAt base s ≡ accepted p → LastRecords (p .labels)
   unfolding passAtBy linesOf startAfter
@@ -181,25 +182,65 @@ start-le ls (suc j) zero h = absurd (omega arith)
 start-le [] (suc j) (suc k) h = omega arith
 start-le (l ∷ ls) (suc j) (suc k) h = omega (arith, start-le ls j k (omega arith))
 
--- records stand where they say, in their order
-stands : {base : ℕ} {s n : Text} {i k a : ℕ} → Records base s n i k a → At n i s
-unfolding cutAt
-stands {base} {s} {i = i} r =
-    let q = apart base s r in
-    let l = texts-at (eqb 10) s (q .index) (q .text) (q .is) in
-    at-in i (sym (q .starts)) (rising-in (names-rise (q .text)) (q .named) .0) l
+-- the names of a line stand in it, and a name that starts after another one starts behind its end
+name-at : {l : Text} {e b : ℕ} {m : Name} {ms : List Name} → Rising l e b ms → In m ms → At (m .text) (m .start) l
+name-at (next h c r) (head f) = rw f c
+name-at (next h c r) (tail i) = name-at r i
 
-by-lines : {base : ℕ} {s n n′ : Text} {i i′ k k′ a a′ : ℕ} → Records base s n i k a → Records base s n′ i′ k′ a′ → k < k′ → i < i′
-by-lines {base} {s} r r′ h =
-    let q = apart base s r in
-    let q′ = apart base s r′ in
-    let b = rising-in (names-rise (q .text)) (q .named) .1 in
-    let u = start-next (cutAt 10 s) (q .index) (q .text) (q .is) in
-    let v = start-le (cutAt 10 s) (suc (q .index)) (q′ .index) (omega (arith, q .number, q′ .number)) in
-    omega (arith, q .starts, q′ .starts)
+name-from : {l : Text} {e b : ℕ} {m : Name} {ms : List Name} → Rising l e b ms → In m ms → b ≤ m .start
+name-from (next h c r) (head f) = rw f h
+name-from (next h c r) (tail i) = omega (arith, name-from r i)
+
+name-behind : {l : Text} {e b : ℕ} {m m′ : Name} {ms : List Name} → Rising l e b ms → In m ms → In m′ ms → m .start < m′ .start → m .start + length (m .text) ≤ m′ .start
+name-behind (next h c r) (head f) (head g) k = let u = rw (f, g) at k in absurd (omega arith)
+name-behind (next h c r) (head f) (tail i) k = let u = name-from r i in rw f (omega arith)
+name-behind (next h c r) (tail i) (head g) k = let u = name-from r i in let v = rw g at k in absurd (omega arith)
+name-behind (next h c r) (tail i) (tail j) k = name-behind r i j k
+
+-- records stand where they say, in their order, and do not overlap
+module _ {base : ℕ} {s : Text} where
+  pub stands-at : {n : Text} {i k a : ℕ} → Records base s n i k a → At n i s
+  unfolding cutAt
+  stands-at {i = i} r =
+      let q = apart base s r in
+      at-in i (sym (q .starts)) (name-at (names-rise (q .text)) (q .named)) (texts-at (eqb 10) s (q .index) (q .text) (q .is))
+
+  -- a record's end, on an earlier line than another record
+  ends-before : {n n′ : Text} {i i′ k k′ a a′ : ℕ} → Records base s n i k a → Records base s n′ i′ k′ a′ → k < k′ → i + length n < i′
+  ends-before r r′ h =
+      let q = apart base s r in
+      let q′ = apart base s r′ in
+      let b = at-within (name-at (names-rise (q .text)) (q .named)) in
+      let u = start-next (cutAt 10 s) (q .index) (q .text) (q .is) in
+      let v = start-le (cutAt 10 s) (suc (q .index)) (q′ .index) (omega (arith, q .number, q′ .number)) in
+      omega (arith, q .starts, q′ .starts)
+
+  ends-behind : {n n′ : Text} {i i′ k k′ a a′ : ℕ} → Records base s n i k a → Records base s n′ i′ k′ a′ → i < i′ → i + length n ≤ i′
+  ends-behind {n} {n′} {i} {i′} {k} {k′} r r′ h = go (compared k k′)
+    where
+      go : Compared k k′ → i + length n ≤ i′
+      go (less l) = omega (arith, ends-before r r′ l)
+      go (more l) = absurd (omega (arith, ends-before r′ r l))
+      go (equal e) =
+          let q = apart base s r in
+          let q′ = apart base s r′ in
+          let f : q .index ≡ q′ .index = omega (arith, q .number, q′ .number) in
+          let is = rw f at (q .is) in
+          let is′ = q′ .is in
+          let t : q .text ≡ q′ .text = cc in
+          let g = rw f at (q .starts) in
+          let b = name-behind (names-rise (q′ .text)) (rw t at (q .named)) (q′ .named) (omega (arith, q′ .starts)) in
+          omega (arith, q′ .starts)
 
 on-line : {l : Text} {e b : ℕ} {m m′ : Name} → Rising l e b (m ∷ m′ ∷ []) → m .start < m′ .start
-on-line (next h a (next k c r)) = k
+on-line (next h a (next k c r)) = omega arith
 
 pub records-stand : RecordsStand
-records-stand = record { within = λ r. at-within (stands r); text = λ r. at-take (stands r); lines = by-lines; names = λ l m m′ e. on-line (rw e at (names-rise l)) }
+records-stand =
+    record {
+      within = λ r. at-within (stands-at r);
+      text = λ r. at-take (stands-at r);
+      behind = ends-behind;
+      lines = λ r r′ h. omega (arith, ends-before r r′ h);
+      names = λ l m m′ e. on-line (rw e at (names-rise l));
+    }

@@ -1,5 +1,5 @@
 -- The labels of a line go into the rules' table exactly where the Rust's map has room for them by its keys. Assumes nothing.
-use Prim.Native.Nat.{ℕ, suc, _+_, _^_, _≤_, _<_}
+use Prim.Native.Nat.{ℕ, suc, _^_, _≤_, _<_}
 use mathlib.Core.Path.{_≡_, refl, sym, _∙_}
 use mathlib.Core.Bool.{Bool, true, false, cond}
 use mathlib.Core.Option.{Option, none, some}
@@ -9,7 +9,7 @@ use lib.ListN.{length}
 use Rattle.rules.specs.Limits.{maxLabels}
 use Rattle.rules.specs.Text.{Text}
 use Rattle.rules.specs.Line.{SourceLine, Name}
-use Rattle.rules.specs.Label.{Label, Table, find, recorded, hasRoom, recordAll}
+use Rattle.rules.specs.Label.{Label, Table, find, recorded, hasRoom, labelOf, recordAll}
 use Rattle.rules.specs.Encode.{isSome}
 use Rattle.promises.specs.RustStr.{is-some, HashMap, insert, look-up}
 use Rattle.promises.specs.RustAssembler.{State, insert-label}
@@ -70,7 +70,7 @@ inserted l a h [] t st c v = fits v
 inserted l a h (n ∷ ns) t st c v = go (hasRoom (find (n .text) t) t) refl (inserted l a h ns (recorded x t) (insert-label (n .text) st) c)
   where
     x : Label
-    x = record { name = n .text; start = l .start + n .start; address = a }
+    x = labelOf l a n
 
     more : keys (insert (st .labels) (n .text) (st .current-address)) ≡ length (recorded x t)
     more = rw c (count-insert (st .labels) t x (v .agrees) (v .count))

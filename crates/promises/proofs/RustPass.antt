@@ -9,7 +9,7 @@ use native.Mathlib.Omega.{arith}
 use native.Mathlib.Nat.{mod-eq-of-lt, zero-add}
 use Rattle.rules.specs.Text.{Text, same}
 use Rattle.rules.specs.Line.{SourceLine, Name, Task, skipped, end, org, noOrg, labelOnly, instruction, value, space, Line, lineOf, size}
-use Rattle.rules.specs.Label.{Label, Table, find, recorded, hasRoom, recordAll}
+use Rattle.rules.specs.Label.{Label, Table, find, recorded, hasRoom, labelOf, recordAll}
 use Rattle.rules.specs.Answer.{Answer, accepted, refused, andThen}
 use Rattle.rules.specs.Assemble.{Put, Pass, addressAfter, putting, firstPass, firstPassBy}
 use Rattle.promises.specs.RustStr.{HashMap, add-u32, insert, look-up}
@@ -65,7 +65,7 @@ recordAll-agrees l a h (n ∷ ns) t t′ s c g e =
     go (hasRoom (find (n .text) t) t) refl (recordAll-agrees l a h ns (recorded x t) t′ (insert-label (n .text) s) c (rw c (insert-agrees x h g)))
   where
     x : Label
-    x = record { name = n .text; start = l .start + n .start; address = a }
+    x = labelOf l a n
 
     go : (y : Bool) → hasRoom (find (n .text) t) t ≡ y
         → (recordAll l a ns (recorded x t) ≡ some t′ → Agrees (insertAll ns (insert-label (n .text) s) .labels) t′)

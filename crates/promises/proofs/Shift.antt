@@ -3,7 +3,7 @@ use Prim.Native.Nat.{ℕ, _+_}
 use mathlib.Core.Path.{_≡_, refl, ap}
 use mathlib.Core.Bool.{Bool, true, false, false≢true}
 use mathlib.Core.Option.{Option, none, some, Option·map}
-use mathlib.Core.List.{List, [], _∷_, map}
+use mathlib.Core.List.{List, [], _∷_}
 use native.Mathlib.Nat.{add-assoc, zero-add}
 use native.Mathlib.Omega.{arith}
 use borrow.Author.Tests.{ltb-true, lt-ltb}
@@ -12,9 +12,9 @@ use lib.ListN.{length-map}
 use Rattle.rules.specs.Limits.{addressLimit}
 use Rattle.rules.specs.Text.{Text, same}
 use Rattle.rules.specs.Line.{SourceLine, Name, Task, skipped, end, org, noOrg, labelOnly, instruction, value, space, Line, lineOf}
-use Rattle.rules.specs.Label.{Label, Table, find, recorded, hasRoom, recordAll}
+use Rattle.rules.specs.Label.{Label, Table, find, recorded, hasRoom, labelOf, recordAll}
 use Rattle.rules.specs.Answer.{Answer, accepted, refused, andThen}
-use Rattle.rules.specs.Assemble.{Sizes, Put, Pass, addressAfter, isEnd, Step, halt, full, next, leaving, stepBy, putting, firstPassBy}
+use Rattle.rules.specs.Assemble.{Sizes, Pass, addressAfter, isEnd, Step, halt, full, next, leaving, stepBy, putting, firstPassBy}
 use Rattle.promises.specs.Lawful.{shiftPut, shiftPass, shiftLabel, shiftTable}
 
 -- what a line does, each address b higher
@@ -58,7 +58,7 @@ recordAll-shift b l a [] t = refl
 recordAll-shift b l a (n ∷ ns) t = go (hasRoom (find (n .text) t) t) refl (recordAll-shift b l a ns _)
   where
     x : Label
-    x = record { name = n .text; start = l .start + n .start; address = a }
+    x = labelOf l a n
 
     go : (y : Bool) → hasRoom (find (n .text) t) t ≡ y
         → recordAll l (b + a) ns (shiftTable b (recorded x t)) ≡ Option·map (shiftTable b) (recordAll l a ns (recorded x t))

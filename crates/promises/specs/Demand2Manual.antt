@@ -135,7 +135,7 @@ QuickReadsBack = (k : ℕ) → 1 ≤ k → k ≤ 8 → (quick k < 8) × (quickOf
 
 -- the label X at 16
 abbrev pub X : Table
-X = record { name = bytes "X"; start = 0; address = 16 } ∷ []
+X = record { name = bytes "X"; start = 0; address = 16; line = 1 } ∷ []
 
 -- every form has a line; every branch one with a label and one with a signed number
 pub record EveryFormHasALine : Type 0 where

@@ -10,7 +10,7 @@ use Rattle.rules.specs.Assemble.{Put, Pass, Sizes, Encoder, wordsBy}
 
 -- labels d higher
 unfoldable pub shiftLabel : ℕ → Label → Label
-shiftLabel d l = record { name = l .name; start = l .start; address = d + l .address }
+shiftLabel d l = record { name = l .name; start = l .start; address = d + l .address; line = l .line }
 
 abbrev pub shiftTable : ℕ → Table → Table
 shiftTable d t = map (shiftLabel d) t

@@ -34,11 +34,12 @@ pub record LastRecord (base : ℕ) (s n : Text) (i k a : ℕ) : Type 0 where
   pub made : Records base s n i k a
   pub last : {i′ k′ a′ : ℕ} → Records base s n i′ k′ a′ → i′ ≤ i
 
--- a record's name stands in the source, at its start, and records start in the order in which they are made: line by line, and on one
--- line step 4's before step 5's
+-- a record's name stands in the source, at its start, no two names overlap, and records start in the order in which they are made: line by
+-- line, and on one line step 4's before step 5's
 pub record RecordsStand : Type 0 where
   pub within : {base : ℕ} {s n : Text} {i k a : ℕ} → Records base s n i k a → i + length n ≤ length s
   pub text : {base : ℕ} {s n : Text} {i k a : ℕ} → Records base s n i k a → take (length n) (drop i s) ≡ n
+  pub behind : {base : ℕ} {s n n′ : Text} {i i′ k k′ a a′ : ℕ} → Records base s n i k a → Records base s n′ i′ k′ a′ → i < i′ → i + length n ≤ i′
   pub lines : {base : ℕ} {s n n′ : Text} {i i′ k k′ a a′ : ℕ} → Records base s n i k a → Records base s n′ i′ k′ a′ → k < k′ → i < i′
   pub names : (l : Text) (m m′ : Name) → lineOf l .names ≡ m ∷ m′ ∷ [] → m .start < m′ .start
 

@@ -8,3 +8,4 @@ pub mod Pieces
 pub mod Joined
 pub mod Spans
 pub mod Over
+pub mod Breaks

@@ -1,3 +1,4 @@
 pub mod Find
 pub mod Pieces
 pub mod Spans
+pub mod Breaks

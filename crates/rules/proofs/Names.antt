@@ -6,24 +6,15 @@ use mathlib.Core.List.{List, [], _∷_, _++_, append-nil}
 use native.Mathlib.Omega.{arith}
 use lib.Dec.{eqb}
 use lib.ListN.{length}
 use Rattle.rules.specs.Text.{Text, bytes, uppers, leading, trim, pieces, joined, Cut, uncut, around, firstCut, starts}
 use Rattle.rules.specs.Line.{Name, name, line, dataTask, isDirective, dataPieces, nonempty, dataLine, isData, restLine, afterLabel, labelLine, trimmedLine, lineOf}
-use Rattle.promises.specs.Nearest.{In, head, tail}
-use Rattle.promises.proofs.Standing.{At, at-within, at-in, at-start, trim-at, front-led, trim-led, cut-is, after-cut, first-piece}
+use Rattle.rules.proofs.Standing.{At, at-within, at-in, at-start, trim-at, front-led, trim-led, cut-is, after-cut, first-piece}
 
--- names that stand in the line l, from b on, each after the one before, and start before e
+-- names that stand in the line l, from b on, each behind the end of the one before, and end before e
 pub data Rising (l : Text) (e : ℕ) : ℕ → List Name → Type 0 where
   over : {b : ℕ} → b ≤ e → Rising l e b []
-  next : {b : ℕ} {m : Name} {ms : List Name} → b ≤ m .start → At (m .text) (m .start) l → Rising l e (suc (m .start)) ms → Rising l e b (m ∷ ms)
-
--- one of them
-pub rising-in : {l : Text} {e b : ℕ} {m : Name} {ms : List Name} → Rising l e b ms → In m ms → At (m .text) (m .start) l × (m .start < e)
-rising-in (next h a r) (head f) = rw f (a, before r)
-  where
-    before : {l : Text} {e b : ℕ} {ms : List Name} → Rising l e b ms → b ≤ e
-    before (over k) = k
-    before (next k c q) = omega (arith, before q)
-rising-in (next h a r) (tail i) = rising-in r i
+  next : {b : ℕ} {m : Name} {ms : List Name} → b ≤ m .start → At (m .text) (m .start) l → Rising l e (suc (m .start + length (m .text))) ms
+      → Rising l e b (m ∷ ms)
 
 module _ (l : Text) where
   -- more room at the end, and a name there
@@ -31,7 +22,7 @@ module _ (l : Text) where
   wider h (over {b} k) = over {b = b} (omega arith)
   wider h (next k a r) = next k a (wider h r)
 
-  one-more : {i e b : ℕ} {p : Text} {ms : List Name} → i < e → At p i l → Rising l i b ms → Rising l e b (ms ++ (name i p ∷ []))
+  one-more : {i e b : ℕ} {p : Text} {ms : List Name} → i + length p < e → At p i l → Rising l i b ms → Rising l e b (ms ++ (name i p ∷ []))
   one-more h a (over k) = next k a (over h)
   one-more h a (next k c r) = next k c (one-more h a r)
 
@@ -44,50 +35,56 @@ module _ (l : Text) where
       at-in i (omega arith) (rw k at (trim-at p)) (at-in i (omega arith) g a)
 
   -- step 5: after the names ns, a text s that stands at i
-  module _ (ns : List Name) (i : ℕ) (s : Text) (a : At s i l) (d : leading s ≡ 0) (e : ℕ) (h : i < e) (r : Rising l i 0 ns) where
-    data-pieces : (ps : List Text) → pieces s ≡ ps → Rising l e 0 (dataPieces ns i s ps .names)
+  module _ (ns : List Name) (i : ℕ) (s : Text) (a : At s i l) (d : leading s ≡ 0) (r : Rising l i 0 ns) where
+    all : Rising l (suc (length l)) 0 ns
+    all = wider (omega (arith, at-within a)) r
+
+    last : (p : Text) → At p i l → Rising l (suc (length l)) 0 (ns ++ (name i p ∷ []))
+    last p c = one-more (omega (arith, at-within c)) c r
+
+    data-pieces : (ps : List Text) → pieces s ≡ ps → Rising l (suc (length l)) 0 (dataPieces ns i s ps .names)
     unfolding dataPieces
-    data-pieces [] f = wider (omega arith) r
-    data-pieces (p ∷ []) f = wider (omega arith) r
+    data-pieces [] f = all
+    data-pieces (p ∷ []) f = all
     data-pieces (p ∷ q ∷ ps) f = go (isDirective p)
       where
-        go : (x : Bool) → Rising l e 0 (cond x (line ns (dataTask s s)) (line (ns ++ (name i p ∷ [])) (dataTask s (joined (q ∷ ps)))) .names)
-        go true = wider (omega arith) r
-        go false = one-more h (at-in i (omega arith) (first-piece s p (q ∷ ps) d f) a) r
+        go : (x : Bool) → Rising l (suc (length l)) 0 (cond x (line ns (dataTask s s)) (line (ns ++ (name i p ∷ [])) (dataTask s (joined (q ∷ ps)))) .names)
+        go true = all
+        go false = last p (at-in i (omega arith) (first-piece s p (q ∷ ps) d f) a)
 
-    a-nonempty : (p : Text) → At p i l → Rising l e 0 (ns ++ nonempty i p)
+    a-nonempty : (p : Text) → At p i l → Rising l (suc (length l)) 0 (ns ++ nonempty i p)
     unfolding nonempty
-    a-nonempty [] c = rw (append-nil ns) (wider (omega arith) r)
-    a-nonempty (b ∷ p) c = one-more h c r
+    a-nonempty [] c = rw (append-nil ns) all
+    a-nonempty (b ∷ p) c = last (b ∷ p) c
 
-    rest-line : Rising l e 0 (restLine ns i s .names)
+    rest-line : Rising l (suc (length l)) 0 (restLine ns i s .names)
     unfolding restLine dataLine
     rest-line = go (isData s) refl
       where
-        on : (k : Cut) → firstCut 58 s ≡ k → Rising l e 0 (dataLine ns i s .names)
+        on : (k : Cut) → firstCut 58 s ≡ k → Rising l (suc (length l)) 0 (dataLine ns i s .names)
         on uncut f = rw (dataLine, f) (data-pieces (pieces s) refl)
         on (around p q) f = rw (dataLine, f) (a-nonempty (trim p) (trimmed-front i s a d p q f))
 
-        go : (x : Bool) → isData s ≡ x → Rising l e 0 (restLine ns i s .names)
+        go : (x : Bool) → isData s ≡ x → Rising l (suc (length l)) 0 (restLine ns i s .names)
         go true f = rw (restLine, f) (on (firstCut 58 s) refl)
-        go false f = rw (restLine, f) (wider (omega arith) r)
+        go false f = rw (restLine, f) all
 
   -- step 4
   label-line : (i : ℕ) (s : Text) → At s i l → leading s ≡ 0 → Rising l (suc (length l)) 0 (labelLine i s .names)
   unfolding labelLine afterLabel
   label-line i s a d = go (firstCut 58 s) refl
     where
-      past : (n : Text) (j : ℕ) (q : Text) → i < j → At n i l → At q j l → leading q ≡ 0 → Rising l (suc (length l)) 0 (afterLabel (name i n) j q .names)
-      past n j [] k b c g = next {b = 0} {m = name i n} (omega arith) b (over {b = suc i} (omega (arith, at-within c)))
-      past n j (x ∷ q) k b c g = rest-line (name i n ∷ []) j (x ∷ q) c g (suc (length l)) (omega (arith, at-within c)) (next {b = 0} {m = name i n} (omega arith) b (over k))
+      past : (n : Text) (j : ℕ) (q : Text) → i + length n < j → At n i l → At q j l → leading q ≡ 0 → Rising l (suc (length l)) 0 (afterLabel (name i n) j q .names)
+      past n j [] k b c g = next {b = 0} {m = name i n} (omega arith) b (over {b = suc (i + length n)} (omega (arith, at-within c)))
+      past n j (x ∷ q) k b c g = rest-line (name i n ∷ []) j (x ∷ q) c g (next {b = 0} {m = name i n} (omega arith) b (over k))
 
       go : (k : Cut) → firstCut 58 s ≡ k → Rising l (suc (length l)) 0 (labelLine i s .names)
-      go uncut f = rw (labelLine, f) (rest-line [] i s a d (suc (length l)) (omega (arith, at-within a)) (over {b = 0} (omega arith)))
+      go uncut f = rw (labelLine, f) (rest-line [] i s a d (over {b = 0} (omega arith)))
       go (around p q) f =
           let c = cut-is 58 s p q f in
           let g : At q (length p + 1) s = rw (c .1) (after-cut p (c .0) q) in
           rw (labelLine, f)
-          (past (trim p) (i + length p + 1 + leading q) (trim q) (omega arith) (trimmed-front i s a d p q f)
+          (past (trim p) (i + length p + 1 + leading q) (trim q) (omega (arith, at-within (trim-at p))) (trimmed-front i s a d p q f)
           (at-in (i + length p + 1 + leading q) (omega arith) (trim-at q) (at-in (i + length p + 1) (omega arith) g a)) (trim-led q))
 
 -- all steps
