@@ -171,6 +171,7 @@ ready source table count s h k r x =
 
 -- one label recorded, and others after it
 module _ (source : Text) (table : List ℕ) (count line a : ℕ) (s : Span) (ns : List Name) (y : Ready source table count (s .start) (s .end)) where
+  -- the line that they stand on
   abbrev on-it : SourceLine
   on-it = atStart line
 
@@ -183,7 +184,7 @@ module _ (source : Text) (table : List ℕ) (count line a : ℕ) (s : Span) (ns 
         stored = rw (some-full on-it a (nameAt source s) ns (tableOf source table count) (f .no-room), f .same) (holds-same source table count (y .held));
       }
 
-  -- on that line, a label's start tells its line
+  -- a label's start tells its line
   by-start : lineNumber source (s .start) ≡ line → spanLabel source (s .start) (s .end) a ≡ labelOf on-it a (nameAt source s)
   by-start o = rw (o, zero-add (s .start))
 

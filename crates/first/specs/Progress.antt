@@ -53,7 +53,8 @@ abbrev pub stopFrom : Text → ℕ → List ℕ → List ℕ → Progress → Ru
 stopFrom source base table cells p =
     afterPuts (putsOf source base cells (p .lines)) (stopped base (p .address) (tableOf source table (p .labels)) (linesLeft source p))
 
--- the arrays hold what is done, and have room for what is left: two labels and one line a line; the next line is where it is said to be
+-- the arrays hold what is done, and have room for what is left: two labels and one line a line; the line ahead has the number after the
+-- lines done
 pub record Stands (source : Text) (base : ℕ) (table cells : List ℕ) (p : Progress) : Type 0 where
   pub short : length source ≤ maxSource
   pub held : Held source table (p .labels)

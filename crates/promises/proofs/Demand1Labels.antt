@@ -96,6 +96,12 @@ unfolding hasRoom isSome
 new-room none t e f = ltb-true (length t) maxLabels e
 new-room (some a) t e f = clash cc
 
+-- recorded where there is room, at most as many labels as there may be stay so many
+pub recorded-room : (x : Label) (t : Table) (o : Option ℕ) → find (x .name) t ≡ o → length t ≤ maxLabels → hasRoom o t ≡ true → length (recorded x t) ≤ maxLabels
+unfolding isSome
+recorded-room x t none e h r = rw (length-recorded x t, e) (new-room none t r refl)
+recorded-room x t (some a) e h r = rw (length-recorded x t, e) h
+
 -- a name that has room: if one is too many, it is one after it
 later-only : (m : Text) (ms ns : List Text) (o : Option Table) → (isAmong m ns ≡ false → distinct ns < maxLabels)
     → Recorded ms (m ∷ ns) o → Recorded (m ∷ ms) ns o

@@ -51,12 +51,12 @@ data-two (codes i) = omega arith
 data-two (holds n v) = omega arith
 
 -- what holds of an accepted answer
-abbrev Holds : {A : Type 0} → (A → Type 0) → Answer A → Type 0
+abbrev pub Holds : {A : Type 0} → (A → Type 0) → Answer A → Type 0
 Holds P (accepted a) = P a
 Holds P (refused n i) = Unit {0}
 
 -- what holds of an answer, and of what follows it
-holds-then : {A B : Type 0} (P : A → Type 0) (Q : B → Type 0) (m : Answer A) (f : A → Answer B) → Holds P m → ((a : A) → P a → Holds Q (f a)) → Holds Q (andThen m f)
+pub holds-then : {A B : Type 0} (P : A → Type 0) (Q : B → Type 0) (m : Answer A) (f : A → Answer B) → Holds P m → ((a : A) → P a → Holds Q (f a)) → Holds Q (andThen m f)
 unfolding andThen
 holds-then P Q (accepted a) f h k = k a h
 holds-then P Q (refused n i) f h k = tt

@@ -85,11 +85,12 @@ pub record Last (P : Label → Type 0) (x : Label) : Type 0 where
   pub holds : P x
   pub latest : {y : Label} → P y → y .name ≡ x .name → y .start ≤ x .start
 
--- a table holds the last of what P says to be recorded, all of which starts before b, each at another place
+-- a table holds the last of what P says to be recorded, so some label of each name, all of which starts before b, each at another place
 pub record Keeps (P : Label → Type 0) (b : ℕ) (t : Table) : Type 0 where
   pub unique : Unique t
   pub is : {x : Label} → In x t → Last P x
   pub has : {x : Label} → Last P x → In x t
+  pub covers : {x : Label} → P x → (y : Label) × In y t × (y .name ≡ x .name)
   pub below : {x : Label} → P x → x .start < b
   pub one : {x y : Label} → P x → P y → x .start ≡ y .start → x ≡ y
 
@@ -99,13 +100,14 @@ keeps-by P Q b c t l f g k =
       unique = k .unique;
       is = λ {x} i. let h = k .is i in record { holds = f x (h .holds); latest = λ {y} q. h .latest (g y q) };
       has = λ {x} h. k .has (record { holds = g x (h .holds); latest = λ {y} p. h .latest (f y p) });
+      covers = λ {x} q. k .covers (g x q);
       below = λ {x} q. let h = k .below (g x q) in omega arith;
       one = λ {x} {y} q r. k .one (g x q) (g y r);
     }
 
 -- one more record
 keeps-one : (P : Label → Type 0) (b : ℕ) (t : Table) (x : Label) → b ≤ x .start → Keeps P b t → Keeps (λ y. P y ⊎ (y ≡ x)) (suc (x .start)) (recorded x t)
-keeps-one P b t x l k = record { unique = r .unique; is = is; has = has; below = below; one = one }
+keeps-one P b t x l k = record { unique = r .unique; is = is; has = has; covers = covers; below = below; one = one }
   where
     r : Taken x t (recorded x t)
     r = taken x t (k .unique)
@@ -136,6 +138,14 @@ keeps-one P b t x l k = record { unique = r .unique; is = is; has = has; below =
             r .keeps (k .has (record { holds = p; latest = λ q. h .latest (inl q) }))
             (λ e. let u = h .latest (inr refl) (sym e) in let v = k .below p in omega arith)
         go (inr e) = rw e (r .has)
+
+    covers : {y : Label} → P y ⊎ (y ≡ x) → (z : Label) × In z (recorded x t) × (z .name ≡ y .name)
+    covers {y} (inl p) = let c = k .covers p in go (c .0) (c .1) (c .2) (same (c .0 .name) (x .name)) refl
+      where
+        go : (z : Label) → In z t → z .name ≡ y .name → (b : Bool) → same (z .name) (x .name) ≡ b → (z : Label) × In z (recorded x t) × (z .name ≡ y .name)
+        go z i f true e = (x, r .has, sym (same-eq (z .name) (x .name) e) ∙ f)
+        go z i f false e = (z, r .keeps i (not-same (z .name) (x .name) e), f)
+    covers (inr e) = (x, r .has, ap (λ (z : Label). z .name) (sym e))
 
     below : {y : Label} → P y ⊎ (y ≡ x) → y .start < suc (x .start)
     below (inl p) = let h = k .below p in omega arith

@@ -44,3 +44,7 @@ pub mod Standing
 pub mod Kept
 pub mod Records
 pub mod Nearest
+pub mod Sorted
+pub mod Symbols
+pub mod SymbolsFit
+pub mod SymbolsRows

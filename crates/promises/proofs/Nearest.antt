@@ -122,12 +122,12 @@ searched a (l ∷ t) = go (leb (l .address) a) refl (searched a t)
     go false e ih = passing-by a l t (nearestIn a t) (leb-false (l .address) a e) ih
 
 -- an accepted source: no condition of refusals 1 to 6 holds, and the other way round
-clear : (base : ℕ) (s : Text) (p : Pass) → passAt base s ≡ accepted p → (m q : ℕ) → ¬ PassCondition size base s m q
+pub clear : (base : ℕ) (s : Text) (p : Pass) → passAt base s ≡ accepted p → (m q : ℕ) → ¬ PassCondition size base s m q
 unfolding apart
 clear base s p e =
     none-holds (PassCondition size base s) passing (are-apart passing refl) (pass-known size base s) p (passAt base s) e (pass-answered size base s)
 
-accepts : (base : ℕ) (s : Text) → ((m q : ℕ) → ¬ PassCondition size base s m q) → (p : Pass) × (passAt base s ≡ accepted p)
+pub accepts : (base : ℕ) (s : Text) → ((m q : ℕ) → ¬ PassCondition size base s m q) → (p : Pass) × (passAt base s ≡ accepted p)
 unfolding PassRefusesExactly
 accepts base s h = go (passAt base s) refl
   where

@@ -34,18 +34,18 @@ start-next (k ∷ ls) (suc j) l e = let h = start-next ls j l e in omega arith
 
 module _ (base : ℕ) (s : Text) where
   -- a record, taken apart
-  record Apart (n : Text) (i k a : ℕ) : Type 0 where
-    index : ℕ
-    offset : ℕ
-    names : List Text
-    text : Text
-    reached : Reached size base s index a names
-    is : IsLine s index text
-    named : In (name offset n) (lineOf text .names)
-    starts : i ≡ startAfter index (cutAt 10 s) + offset
-    number : k ≡ suc index
+  pub record Apart (n : Text) (i k a : ℕ) : Type 0 where
+    pub index : ℕ
+    pub offset : ℕ
+    pub names : List Text
+    pub text : Text
+    pub reached : Reached size base s index a names
+    pub is : IsLine s index text
+    pub named : In (name offset n) (lineOf text .names)
+    pub starts : i ≡ startAfter index (cutAt 10 s) + offset
+    pub number : k ≡ suc index
 
-  apart : {n : Text} {i k a : ℕ} → Records base s n i k a → Apart n i k a
+  pub apart : {n : Text} {i k a : ℕ} → Records base s n i k a → Apart n i k a
   apart (records {j} {a} {m} {ns} {l} r e h) =
       record { index = j; offset = m; names = ns; text = l; reached = r; is = e; named = h; starts = refl; number = refl }
 
@@ -146,18 +146,21 @@ module _ (base : ℕ) (s : Text) where
         unique = tt;
         is = elim [ ];
         has = λ h. absurd (none-early (h .holds));
+        covers = λ e. absurd (none-early e);
         below = λ e. absurd (none-early e);
         one = λ e f. absurd (none-early e);
       }
 
-  -- a label is in the table exactly if it is the last record of its name; no name is in it twice, and no two records start at one place
+  -- a label is in the table exactly if it is the last record of its name; each name that is recorded is in it once, and no two records
+  -- start at one place
   pub record LastRecords (t : Table) : Type 0 where
     pub exactly : (x : Label) → In x t ↔ LastRecord base s (x .name) (x .start) (x .line) (x .address)
     pub unique : Unique t
+    pub covers : {x : Label} → Made x → (y : Label) × In y t × (y .name ≡ x .name)
     pub one : {x y : Label} → Made x → Made y → x .start ≡ y .start → x ≡ y
 
   kept-last : {t : Table} {b : ℕ} → Keeps Made b t → LastRecords t
-  kept-last {t} k = record { exactly = λ x. (to x, from x); unique = k .unique; one = k .one }
+  kept-last {t} k = record { exactly = λ x. (to x, from x); unique = k .unique; covers = k .covers; one = k .one }
     where
       latest : {x : Label} → Last Made x → {i′ k′ a′ : ℕ} → Records base s (x .name) i′ k′ a′ → i′ ≤ x .start
       latest {x} h {i′} {k′} {a′} r = h .latest {y = record { name = x .name; start = i′; address = a′; line = k′ }} r refl

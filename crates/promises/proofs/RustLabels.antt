@@ -14,7 +14,7 @@ use Rattle.rules.specs.Encode.{isSome}
 use Rattle.promises.specs.RustStr.{is-some, HashMap, insert, look-up}
 use Rattle.promises.specs.RustAssembler.{State, insert-label}
 use Rattle.promises.specs.Demand2Rust.{insertAll, keys}
-use Rattle.promises.proofs.Demand1Labels.{length-recorded, full-new, new-room}
+use Rattle.promises.proofs.Demand1Labels.{length-recorded, full-new, recorded-room}
 use Rattle.promises.proofs.RustOperand.{Agrees}
 use Rattle.promises.proofs.RustPass.{insert-agrees}
 
@@ -57,11 +57,6 @@ count-insert : (m : HashMap) (t : Table) (x : Label) → Agrees m t → keys m �
 count-insert m t x g c =
     keys-insert m (x .name) (x .address)
     ∙ rw (some-is (look-up m (x .name)), g .finds (x .name), c) (sym (length-recorded x t))
-
-recorded-room : (x : Label) (t : Table) (o : Option ℕ) → find (x .name) t ≡ o → length t ≤ maxLabels → hasRoom o t ≡ true → length (recorded x t) ≤ maxLabels
-unfolding isSome
-recorded-room x t none e h r = rw (length-recorded x t, e) (new-room none t r refl)
-recorded-room x t (some a) e h r = rw (length-recorded x t, e) h
 
 pub inserted : (l : SourceLine) (a : ℕ) → a < 2 ^ 30 → (ns : List Name) (t : Table) (st : State) → st .current-address ≡ a → Level (st .labels) t
     → Inserted (insertAll ns st .labels) (recordAll l a ns t)

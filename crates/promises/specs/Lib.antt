@@ -9,3 +9,4 @@ pub mod Lawful
 pub mod Demand3
 pub mod Longest
 pub mod Nearest
+pub mod Symbols

@@ -5,7 +5,7 @@ use mathlib.Core.Bool.{Bool, true, false, cond}
 use mathlib.Core.List.{List, [], _∷_, _++_, append-nil}
 use native.Mathlib.Omega.{arith}
 use lib.Dec.{eqb}
-use lib.ListN.{length}
+use lib.ListN.{length, length-append}
 use Rattle.rules.specs.Text.{Text, bytes, uppers, leading, trim, pieces, joined, Cut, uncut, around, firstCut, starts}
 use Rattle.rules.specs.Line.{Name, name, line, dataTask, isDirective, dataPieces, nonempty, dataLine, isData, restLine, afterLabel, labelLine, trimmedLine, lineOf}
 use Rattle.rules.proofs.Standing.{At, at-within, at-in, at-start, trim-at, front-led, trim-led, cut-is, after-cut, first-piece}
@@ -87,18 +87,62 @@ module _ (l : Text) where
           (past (trim p) (i + length p + 1 + leading q) (trim q) (omega (arith, at-within (trim-at p))) (trimmed-front i s a d p q f)
           (at-in (i + length p + 1 + leading q) (omega arith) (trim-at q) (at-in (i + length p + 1) (omega arith) g a)) (trim-led q))
 
--- all steps
-pub names-rise : (s : Text) → Rising s (suc (length s)) 0 (lineOf s .names)
+-- steps 1 to 3 record no name
+by-label : (P : List Name → Type 0) (s : Text) → P [] → P (labelLine (leading s) (trim s) .names) → P (lineOf s .names)
 unfolding lineOf trimmedLine
-names-rise s = go (trim s) (trim-at s) (trim-led s)
+by-label P s none some = go (trim s) some
   where
-    go : (t : Text) → At t (leading s) s → leading t ≡ 0 → Rising s (suc (length s)) 0 (trimmedLine (leading s) t .names)
-    go [] a d = over {b = 0} (omega arith)
-    go (b ∷ t) a d = on (eqb b 59) refl (starts (bytes "END") (uppers (b ∷ t))) refl (starts (bytes "ORG") (uppers (b ∷ t))) refl
+    go : (t : Text) → P (labelLine (leading s) t .names) → P (trimmedLine (leading s) t .names)
+    go [] h = none
+    go (b ∷ t) h = on (eqb b 59) refl (starts (bytes "END") (uppers (b ∷ t))) refl (starts (bytes "ORG") (uppers (b ∷ t))) refl
       where
         on : (x : Bool) → eqb b 59 ≡ x → (y : Bool) → starts (bytes "END") (uppers (b ∷ t)) ≡ y → (z : Bool)
-            → starts (bytes "ORG") (uppers (b ∷ t)) ≡ z → Rising s (suc (length s)) 0 (trimmedLine (leading s) (b ∷ t) .names)
-        on true e y f z g = rw (trimmedLine, e) (over {b = 0} (omega arith))
-        on false e true f z g = rw (trimmedLine, e, f) (over {b = 0} (omega arith))
-        on false e false f true g = rw (trimmedLine, e, f, g) (over {b = 0} (omega arith))
-        on false e false f false g = rw (trimmedLine, e, f, g) (label-line s (leading s) (b ∷ t) a d)
+            → starts (bytes "ORG") (uppers (b ∷ t)) ≡ z → P (trimmedLine (leading s) (b ∷ t) .names)
+        on true e y f z g = rw (trimmedLine, e) none
+        on false e true f z g = rw (trimmedLine, e, f) none
+        on false e false f true g = rw (trimmedLine, e, f, g) none
+        on false e false f false g = rw (trimmedLine, e, f, g) h
+
+pub names-rise : (s : Text) → Rising s (suc (length s)) 0 (lineOf s .names)
+names-rise s = by-label (Rising s (suc (length s)) 0) s (over {b = 0} (omega arith)) (label-line s (leading s) (trim s) (trim-at s) (trim-led s))
+
+-- and there are at most two: step 5 adds at most one
+module _ (ns : List Name) (i : ℕ) (s : Text) where
+  few-pieces : (ps : List Text) → length (dataPieces ns i s ps .names) ≤ length ns + 1
+  unfolding dataPieces
+  few-pieces [] = omega arith
+  few-pieces (p ∷ []) = omega arith
+  few-pieces (p ∷ q ∷ ps) = go (isDirective p)
+    where
+      go : (x : Bool) → length (cond x (line ns (dataTask s s)) (line (ns ++ (name i p ∷ [])) (dataTask s (joined (q ∷ ps)))) .names) ≤ length ns + 1
+      go true = omega arith
+      go false = rw (length-append ns (name i p ∷ [])) (omega arith)
+
+  few-nonempty : (p : Text) → length (ns ++ nonempty i p) ≤ length ns + 1
+  unfolding nonempty
+  few-nonempty [] = rw (append-nil ns) (omega arith)
+  few-nonempty (b ∷ p) = rw (length-append ns (name i (b ∷ p) ∷ [])) (omega arith)
+
+  few-rest : length (restLine ns i s .names) ≤ length ns + 1
+  unfolding restLine dataLine
+  few-rest = go (isData s) refl (firstCut 58 s) refl
+    where
+      go : (x : Bool) → isData s ≡ x → (k : Cut) → firstCut 58 s ≡ k → length (restLine ns i s .names) ≤ length ns + 1
+      go true e uncut f = rw (restLine, e, dataLine, f) (few-pieces (pieces s))
+      go true e (around p q) f = rw (restLine, e, dataLine, f) (few-nonempty (trim p))
+      go false e k f = rw (restLine, e) (omega arith)
+
+few-label : (i : ℕ) (s : Text) → length (labelLine i s .names) ≤ 2
+unfolding labelLine afterLabel
+few-label i s = go (firstCut 58 s) refl
+  where
+    past : (n : Name) (j : ℕ) (q : Text) → length (afterLabel n j q .names) ≤ 2
+    past n j [] = omega arith
+    past n j (b ∷ q) = few-rest (n ∷ []) j (b ∷ q)
+
+    go : (k : Cut) → firstCut 58 s ≡ k → length (labelLine i s .names) ≤ 2
+    go uncut f = rw (labelLine, f) (omega (arith, few-rest [] i s))
+    go (around p q) f = rw (labelLine, f) (past (name i (trim p)) (i + length p + 1 + leading q) (trim q))
+
+pub names-few : (s : Text) → length (lineOf s .names) ≤ 2
+names-few s = by-label (λ ns. length ns ≤ 2) s (omega arith) (few-label (leading s) (trim s))
