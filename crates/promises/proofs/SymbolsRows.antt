@@ -40,12 +40,21 @@ lengths x n = go (ltb (length (x .starts)) n) (ltb (length (x .lengths)) n) (ltb
     go false false false false e f g h =
         enough (ltb-false (length (x .starts)) n e) (ltb-false (length (x .lengths)) n f) (ltb-false (length (x .addresses)) n g) (ltb-false (length (x .lines)) n h)
 
+-- the test passes: one of them is too short
 shorter : (x : Rows) (n : ℕ) → shortRows x n ≡ true → RowsShorter x n
 shorter x n = go (lengths x n)
   where
     go : {y : Bool} → Lengths x n y → y ≡ true → RowsShorter x n
     go (less h) e = h
     go (enough h k l m) e = clash cc
+
+-- the test fails: each slice has n places
+pub long-enough : (x : Rows) (n : ℕ) → shortRows x n ≡ false → (n ≤ length (x .starts)) × (n ≤ length (x .lengths)) × (n ≤ length (x .addresses)) × (n ≤ length (x .lines))
+long-enough x n = go (lengths x n)
+  where
+    go : {y : Bool} → Lengths x n y → y ≡ false → (n ≤ length (x .starts)) × (n ≤ length (x .lengths)) × (n ≤ length (x .addresses)) × (n ≤ length (x .lines))
+    go (less h) e = clash cc
+    go (enough h k l m) e = (h, k, l, m)
 
 is-short : (x : Rows) (n : ℕ) → RowsShorter x n → shortRows x n ≡ true
 is-short x n r = go r (lengths x n)
