@@ -15,7 +15,9 @@ use Rattle.requests.specs.Nearest.{Nearest}
 use Rattle.nearest.specs.Nearest.{nearestOf}
 use Rattle.nearest.proofs.Answers.{named, not-named}
 use Rattle.nearest.specs.declared.Nearest.the-variants.{Label, Refused}
-use Rattle.lagvettu.specs.Called.{Answers, Assembles, Moves, Nears, of-label, of-refusal}
+use Rattle.requests.specs.Symbols.{Rows}
+use Rattle.symbols.specs.Symbols.{ListSymbolsGives}
+use Rattle.lagvettu.specs.Called.{Answers, Assembles, Moves, Lists, Nears, of-label, of-refusal}
 
 module _ {r : Answer} {n p : ℕ} (hn : n ≡ answerNumber r) (hp : p ≡ answerPlace r) where
   passed-on : {a : Ruled ℕ} → r ≡ answerOf a → Answers a n p
@@ -26,6 +28,9 @@ module _ {r : Answer} {n p : ℕ} (hn : n ≡ answerNumber r) (hp : p ≡ answer
 
   pub moves : {x : Slices} {count : ℕ} {distance : ℤ} {xs ws : List ℕ} → Moved x count distance r xs ws → Moves x count distance n p xs ws
   moves h = record { answer = passed-on (h .answer); addresses = h .addresses; words = h .words }
+
+  pub lists : {base : ℕ} {source : Text} {x y : Rows} → ListSymbolsGives base source x r y → Lists base source x n p y
+  lists h = record { answer = passed-on (h .answered); rows = h .written }
 
 pub nears-named : (a : Ruled Nearest) {s l d : ℕ} → nearestOf a ≡ Label s l d → Nears a 0 s l d 0
 nears-named a {s} {l} {d} e = rw (named a s l d e) (of-label (record { start = s; length = l; distance = d }))

@@ -8,6 +8,7 @@ use Rattle.rules.specs.Answer.{Answer as Ruled, accepted, refused}
 use Rattle.rules.specs.Assemble.{Slices, assembleAnswer, assembleSlices}
 use Rattle.rules.specs.Relocate.{moveAnswer, moveSlices}
 use Rattle.requests.specs.Nearest.{Nearest}
+use Rattle.requests.specs.Symbols.{Rows, symbolsAnswer, symbolsRows}
 use Rattle.answer.specs.Answer.{answerOf, answerNumber, answerPlace}
 
 -- 01's answer a as C gets it: n is what the call returns, p what it leaves in the number that the caller lends
@@ -30,3 +31,8 @@ pub record Moves (x : Slices) (count : ℕ) (distance : ℤ) (n p : ℕ) (xs ws 
 pub data Nears : Ruled Nearest → ℕ → ℕ → ℕ → ℕ → ℕ → Type 0 where
   of-label : (r : Nearest) → Nears (accepted r) 0 (r .start) (r .length) (r .distance) 0
   of-refusal : (n p : ℕ) → Nears (refused n p) n 0 0 0 p
+
+-- the contract of `lagvettu_symbols`, lent the slices x, which it leaves as y
+pub record Lists (base : ℕ) (source : Text) (x : Rows) (n p : ℕ) (y : Rows) : Type 0 where
+  pub answer : Answers (symbolsAnswer base source x) n p
+  pub rows : y ≡ symbolsRows base source x

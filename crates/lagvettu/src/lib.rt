@@ -4,7 +4,8 @@ use nearest::Nearest;
 ghost use mathlib.Core.Path.{_≡_};
 ghost use Rattle.rules.specs.Assemble.{slices};
 ghost use Rattle.requests.specs.Nearest.{nearest};
-ghost use Rattle.lagvettu.specs.Called.{Assembles, Moves, Nears};
+ghost use Rattle.requests.specs.Symbols.{rows};
+ghost use Rattle.lagvettu.specs.Called.{Assembles, Moves, Nears, Lists};
 
 // Assembles a source at a base: the list in the first places of the three slices, or a refusal and nothing written.
 #[no_mangle]
@@ -71,4 +72,23 @@ pub extern "C" fn lagvettu_nearest(
             n
         }
     }
+}
+
+// Lists the labels of a source at a base in the first places of the four slices, in the order of their lines: each one's start
+// and length in the source, its address and its line; or refuses, with nothing written.
+#[no_mangle]
+pub extern "C" fn lagvettu_symbols(
+    source: &[u8],
+    base: u32,
+    starts: &mut [u32],
+    lengths: &mut [u32],
+    addresses: &mut [u32],
+    lines: &mut [u32],
+    place: &mut usize,
+) -> u8
+    ensures { λ r. ⌜ Lists base (now (source .entry)) (rows (now (starts .entry)) (now (lengths .entry)) (now (addresses .entry)) (now (lines .entry))) r (now (place .exit)) (rows (now (starts .exit)) (now (lengths .exit)) (now (addresses .exit)) (now (lines .exit))) ⌝ }
+{
+    let answer = symbols::list_symbols(source, base, starts, lengths, addresses, lines);
+    *place = answer::place(answer);
+    answer::number(answer)
 }
