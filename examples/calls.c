@@ -33,8 +33,21 @@ static void nearest(void)
     expect(number == LAGVETTU_NO_LABEL_NEAR && start == 0 && length == 0 && distance == 0 && place == 0, "lagvettu_nearest, refused");
 }
 
+static void symbols(void)
+{
+    const char *script = "A: B DC.L 5\nC: A DS.B 1";
+    const uint32_t wanted[4][3] = {{3, 12, 15}, {1, 1, 1}, {0, 4, 4}, {1, 2, 2}};
+    uint32_t rows[4][3] = {{0}};
+    size_t count;
+    uint8_t number = lagvettu_symbols(bytes(script), strlen(script), 0, rows[0], 2, rows[1], 3, rows[2], 3, rows[3], 3, &count);
+    expect(number == LAGVETTU_SLICE_TOO_SHORT && count == 3 && rows[1][0] == 0, "lagvettu_symbols, refused");
+    number = lagvettu_symbols(bytes(script), strlen(script), 0, rows[0], 3, rows[1], 3, rows[2], 3, rows[3], 3, &count);
+    expect(number == LAGVETTU_ACCEPTED && count == 3 && memcmp(rows, wanted, sizeof rows) == 0, "lagvettu_symbols");
+}
+
 int main(void)
 {
     nearest();
+    symbols();
     return wrong;
 }

@@ -48,6 +48,9 @@ enum lagvettu_refusal {
 /* The longest source that is not refused, in bytes. */
 #define LAGVETTU_MAX_SOURCE 32768
 
+/* The most labels that a source has. */
+#define LAGVETTU_MAX_LABELS 1024
+
 /* The most places that a list has: three slices of this length are never refused as too short. */
 #define LAGVETTU_MAX_PLACES 8192
 
@@ -87,6 +90,22 @@ uint8_t lagvettu_nearest(const uint8_t *source, size_t source_length,
                          uint32_t base,
                          uint32_t address,
                          size_t *start, size_t *length, uint32_t *distance,
+                         size_t *place);
+
+/*
+ * Lists the labels of a source at a base in the first places of the four slices: where a label's name starts in the source and
+ * how long it is, in its last record, its address, and the line, from 1, on which its address was last set. They come in the
+ * order of these lines, and of one line the label before the first colon first. Checks 1 to 6 as lagvettu_assemble, then 7 over
+ * the four slices; slices of LAGVETTU_MAX_LABELS are never too short.
+ *
+ *     "A: B DC.L 5\nC: A DS.B 1" at base 0: starts 3, 12, 15; lengths 1, 1, 1; addresses 0, 4, 4; lines 1, 2, 2: B, C, A.
+ */
+uint8_t lagvettu_symbols(const uint8_t *source, size_t source_length,
+                         uint32_t base,
+                         uint32_t *starts, size_t starts_length,
+                         uint32_t *lengths, size_t lengths_length,
+                         uint32_t *addresses, size_t addresses_length,
+                         uint32_t *lines, size_t lines_length,
                          size_t *place);
 
 #ifdef __cplusplus

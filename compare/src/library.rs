@@ -24,6 +24,20 @@ extern "C" {
         distance: i32,
         place: *mut usize,
     ) -> u8;
+    fn lagvettu_symbols(
+        source: *const u8,
+        source_len: usize,
+        base: u32,
+        starts: *mut u32,
+        starts_len: usize,
+        lengths: *mut u32,
+        lengths_len: usize,
+        addresses: *mut u32,
+        addresses_len: usize,
+        lines: *mut u32,
+        lines_len: usize,
+        place: *mut usize,
+    ) -> u8;
     fn lagvettu_nearest(
         source: *const u8,
         source_length: usize,
@@ -121,4 +135,47 @@ pub fn nearest(source: &[u8], base: u32, address: u32) -> Nearest {
         )
     };
     n
+}
+
+/// The four slices that the symbols are put into: starts, lengths, addresses and lines.
+#[derive(Clone, PartialEq, Debug)]
+pub struct Rows(pub [Vec<u32>; 4]);
+
+impl Rows {
+    /// Slices of these lengths, every place holding something that no row has.
+    pub fn old(lengths: [usize; 4]) -> Rows {
+        Rows(lengths.map(|n| vec![0xAAAAAAAA; n]))
+    }
+
+    /// The first rows.
+    pub fn rows(&self, count: usize) -> Vec<(u32, u32, u32, u32)> {
+        (0..count).map(|i| (self.0[0][i], self.0[1][i], self.0[2][i], self.0[3][i])).collect()
+    }
+
+    /// What stands behind them.
+    pub fn past(&self, count: usize) -> Vec<&[u32]> {
+        self.0.iter().map(|x| &x[count..]).collect()
+    }
+}
+
+pub fn symbols(source: &[u8], base: u32, x: &mut Rows) -> Answer {
+    let mut place = usize::MAX;
+    let [starts, lengths, addresses, lines] = &mut x.0;
+    let number = unsafe {
+        lagvettu_symbols(
+            source.as_ptr(),
+            source.len(),
+            base,
+            starts.as_mut_ptr(),
+            starts.len(),
+            lengths.as_mut_ptr(),
+            lengths.len(),
+            addresses.as_mut_ptr(),
+            addresses.len(),
+            lines.as_mut_ptr(),
+            lines.len(),
+            &mut place,
+        )
+    };
+    (number, place)
 }

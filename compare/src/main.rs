@@ -6,6 +6,7 @@
 //!   compare calls I N               N calls on input I of these, from 0, for ./counts
 //!   compare moves N [SEED]          N random sources moved between bases, and chains of moves against the tally
 //!   compare nearest N [SEED]        N random sources: the label nearest to an address against the original's label map
+//!   compare symbols N [SEED]        N random sources: the symbols with their lines against the original's label map
 mod generate;
 #[cfg(linked)]
 mod library;
@@ -17,9 +18,13 @@ mod moves;
 mod nearest;
 mod oracle;
 mod record;
+#[cfg(linked)]
+mod records;
 mod requests;
 #[cfg(linked)]
 mod speed;
+#[cfg(linked)]
+mod symbols;
 
 fn main() {
     let args: Vec<String> = std::env::args().collect();
@@ -36,6 +41,8 @@ fn main() {
         Some("moves") => moves::compare(number(2, 100_000) as usize, number(3, 20261116)),
         #[cfg(linked)]
         Some("nearest") => nearest::compare(number(2, 100_000) as usize, number(3, 20261117)),
-        _ => eprintln!("usage: compare record FILE [COUNT] | lists N [SEED] | moves N [SEED] | nearest N [SEED] | speed; all but record want the static library: see ./run"),
+        #[cfg(linked)]
+        Some("symbols") => symbols::compare(number(2, 100_000) as usize, number(3, 20261118)),
+        _ => eprintln!("usage: compare record FILE [COUNT] | lists N [SEED] | moves N [SEED] | nearest N [SEED] | symbols N [SEED] | speed; all but record want the static library: see ./run"),
     }
 }

@@ -1,50 +1,11 @@
 //! The label nearest to an address (W-201) against the Rust original's own label map. The map has names and addresses; where
-//! a name was recorded last is found by a search written here, which must find the map's names and no other.
+//! a name was recorded last is found by `records`.
 use crate::generate::{script, Random};
 use crate::library::{nearest, Nearest};
+use crate::records::{base, last_records};
 use crate::requests::address_near;
 use crate::{oracle, record};
 use std::collections::HashMap;
-
-/// The names that a line records, in their order: what stands before its first colon, and the label of data.
-fn names(line: &str) -> Vec<&str> {
-    let mut out = Vec::new();
-    let mut rest = line;
-    if let Some((name, behind)) = line.split_once(':') {
-        out.push(name.trim_end());
-        rest = behind.trim();
-    }
-    let upper = rest.to_uppercase();
-    if upper.contains("DC.") || upper.contains("DS.") {
-        let pieces: Vec<&str> = rest.split_whitespace().collect();
-        let label = match rest.split_once(':') {
-            Some((label, _)) => label.trim_end(),
-            None if pieces.len() > 1 && !upper.starts_with("DC") && !upper.starts_with("DS") => pieces[0],
-            None => "",
-        };
-        if !label.is_empty() {
-            out.push(label);
-        }
-    }
-    out
-}
-
-/// Where each name starts in the source that was recorded, the last time.
-fn last_records(source: &str) -> HashMap<&str, usize> {
-    let mut out = HashMap::new();
-    for line in source.split('\n').map(str::trim).filter(|t| !t.is_empty() && !t.starts_with(';')) {
-        let upper = line.to_uppercase();
-        if upper.starts_with("END") {
-            break;
-        }
-        if !upper.starts_with("ORG") {
-            for name in names(line) {
-                out.insert(name, name.as_ptr() as usize - source.as_ptr() as usize);
-            }
-        }
-    }
-    out
-}
 
 fn refused(number: u8, place: usize) -> Nearest {
     Nearest { number, place, start: 0, length: 0, distance: 0 }
@@ -58,16 +19,6 @@ fn by_map(map: &HashMap<String, u32>, records: &HashMap<&str, usize>, address: u
     let there = map.iter().filter(|l| *l.1 == highest).map(|l| l.0.as_str());
     let (start, name) = there.map(|n| (records[n], n)).min().expect("a label is there");
     Nearest { number: 0, place: 0, start, length: name.len(), distance: address - highest }
-}
-
-fn base(r: &mut Random) -> u32 {
-    match r.below(12) {
-        0 => r.below(1 << 30) as u32,
-        1 => (1 << 30) - 1 - r.below(3000) as u32,
-        2 => (1 << 30) + r.below(3) as u32,
-        3..=6 => r.below(200_000) as u32,
-        _ => 0,
-    }
 }
 
 pub fn compare(sources: usize, seed: u64) {
