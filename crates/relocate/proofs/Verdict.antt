@@ -9,17 +9,18 @@ use lib.IntN.{ℤ}
 use lib.ListN.{length}
 use lib.Dec.{ltb}
 use borrow.Author.Tests.{ltb-false}
-use Rattle.rules.specs.Answer.{Answer as Ruled, accepted, refused, refuseIf, refuseAt}
+use Rattle.rules.specs.Answer.{Answer as Ruled, accepted, refuseIf, refuseAt}
 use Rattle.rules.specs.Assemble.{Slices, short}
 use Rattle.rules.specs.Relocate.{far, firstIndex, moveAnswer, moveBy, moveSlices, moveAddresses, moveWords}
 use Rattle.answer.specs.declared.Answer.{Answer}
 use Rattle.answer.specs.declared.Answer.the-variants.{Accepted, Refused}
 use Rattle.answer.specs.Answer.{answerOf}
+use Rattle.answer.proofs.Answers.{told-accepted, told-refused}
 use Rattle.relocate.specs.declared.Found.the-variants.{At, Nothing}
 use Rattle.relocate.specs.Found.{foundOf, badMark, leaving}
 use Rattle.relocate.specs.Moved.{Moved}
 
--- the code's enums tell the definitions' values
+-- the code's enum tells the definition's value
 found-at : (o : Option ℕ) (i : ℕ) → foundOf o ≡ At i → o ≡ some i
 found-at none i e = absurd (let z : _≡_ {A = ℕ} 0 1 = cc in omega arith)
 found-at (some j) i e = cc
@@ -27,14 +28,6 @@ found-at (some j) i e = cc
 found-none : (o : Option ℕ) → foundOf o ≡ Nothing → o ≡ none
 found-none none e = refl
 found-none (some j) e = absurd (let z : _≡_ {A = ℕ} 0 1 = cc in omega arith)
-
-told-accepted : (a : Ruled ℕ) (n : ℕ) → answerOf a ≡ Accepted n → a ≡ accepted n
-told-accepted (accepted m) n e = cc
-told-accepted (refused r p) n e = absurd (let z : _≡_ {A = ℕ} 0 1 = cc in omega arith)
-
-told-refused : (a : Ruled ℕ) (r p : ℕ) → answerOf a ≡ Refused r p → a ≡ refused r p
-told-refused (accepted m) r p e = absurd (let z : _≡_ {A = ℕ} 0 1 = cc in omega arith)
-told-refused (refused s q) r p e = cc
 
 -- a refusal that did not come
 past-if : (b : Bool) (r p : ℕ) {n : ℕ} {a : Ruled ℕ} → refuseIf b r p a ≡ accepted n → (b ≡ false) × (a ≡ accepted n)
