@@ -19,7 +19,7 @@ fn digit_byte(d: u64) -> u8
 }
 
 // Puts the last `count` digits of n at an index, from the last one on.
-fn write_digits(out: &mut [u8], at: usize, base: u64, count: usize, n: u64)
+pub fn write_digits(out: &mut [u8], at: usize, base: u64, count: usize, n: u64)
     requires { ⌜ (0 < base) × (base ≤ 16) × (at + count ≤ length (now out)) ⌝ }
     ensures { λ _. ⌜ now (out .exit) ≡ overFrom at (digitsOf base count n) (now (out .entry)) ⌝ }
 {

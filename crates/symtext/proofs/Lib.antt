@@ -1,0 +1,4 @@
+pub mod SymbolLine
+pub mod Lines
+pub mod Held
+pub mod Told

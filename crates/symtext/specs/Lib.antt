@@ -1,0 +1,2 @@
+pub mod Symlist
+pub mod Rows
