@@ -20,6 +20,7 @@ pub struct Call {
 pub fn calls() -> Vec<Call> {
     let mut out = Vec::new();
     nearest(&mut out);
+    symbols(&mut out);
     out
 }
 
@@ -210,3 +211,60 @@ fn by_map(source: &str, map: &HashMap<String, u32>, address: u32) -> Option<Stri
     let [start] = starts[..] else { return None };
     Some(named(start, name.len(), address - highest))
 }
+
+// ---- W-202: call 3, with the base
+
+fn symbols(out: &mut Vec<Call>) {
+    let mut list = |source: &[u8], base, text: String| {
+        out.push(Call { number: 3, x: base, y: 0, source: source.to_vec(), text });
+    };
+    for (source, rows) in SYMBOLS {
+        for base in [0, 0x2000] {
+            let text: String = rows.iter().map(|(name, address, line)| format!("{name} {:08X} {line}\n", address + base)).collect();
+            list(source.as_bytes(), base, text);
+        }
+    }
+    for (source, base, number, place) in [
+        (";".repeat(32769), LIMIT, 1, 32769),
+        ("A:\n\u{80}".to_string(), LIMIT, 2, 3),
+        ("\n".repeat(4096), LIMIT, 3, 4097),
+        ("A:".to_string(), LIMIT, 4, 0),
+        ("A:\nORG $40000000".to_string(), 0, 5, 2),
+        ("A:\nORG $3FFFFFFF".to_string(), 1, 5, 2),
+    ] {
+        list(source.as_bytes(), base, refused(number, place));
+    }
+    list(b"A:", LIMIT - 1, "A 3FFFFFFF 1\n".to_string());
+    let name = "x".repeat(32767);
+    list((name.clone() + ":").as_bytes(), 0, name + " 00000000 1\n");
+    list(("\n".repeat(4095) + "A:").as_bytes(), 0, "A 00000000 4096\n".to_string());
+    let labels = |n: usize| (0..n).map(|i| format!("L{i}:\n")).collect::<String>();
+    let rows = |n: usize| (0..n).map(|i| format!("L{i} 00000000 {}\n", i + 1)).collect::<String>();
+    list(labels(1024).as_bytes(), 0, rows(1024));
+    list(labels(1025).as_bytes(), 0, refused(6, 1025));
+}
+
+/// 02's words and READINGS.md's examples at base 0: a source, and each label's name, address and line in order.
+const SYMBOLS: [(&str, &[(&str, u32, u32)]); 16] = [
+    // In order of the line on which the address was last set, be it the same; step 4's label before step 5's.
+    ("A:\nB:\nA:", &[("B", 0, 2), ("A", 0, 3)]),
+    ("A: B DC.L 5\nC: A DS.B 1", &[("B", 0, 1), ("C", 4, 2), ("A", 4, 2)]),
+    ("B: A DC.L 5", &[("B", 0, 1), ("A", 0, 1)]),
+    ("ORG 8\nZ:\nORG 4\nY:", &[("Z", 8, 2), ("Y", 4, 4)]),
+    // The same name at both steps of a line is one row.
+    (" A: A DC.L 5", &[("A", 0, 1)]),
+    ("A: A: DC.L 5\nB:", &[("A", 0, 1), ("B", 4, 2)]),
+    // Names are the source's bytes, inner blanks as they are; the empty one too.
+    (" x  y : NOP\nx y: NOP", &[("x  y", 0, 1), ("x y", 2, 2)]),
+    ("NOP\n \t: NOP", &[("", 2, 2)]),
+    ("a:\nA:", &[("a", 0, 1), ("A", 0, 2)]),
+    // A data line without a colon names its first piece.
+    ("NOP ; see DC.W", &[("NOP", 0, 1)]),
+    ("DC.L 5\nDC.L: 5", &[("DC.L", 4, 2)]),
+    // No label; labels behind END, and in front of END and ORG.
+    ("", &[]),
+    ("NOP\n; A:\nMOVE.L #5,D0", &[]),
+    ("A:\nEND\nB:", &[("A", 0, 1)]),
+    ("ENDX: NOP\nB:", &[]),
+    ("ORG: NOP\nX: ORG 8\nX: END\n\nY:", &[("X", 2, 3), ("Y", 4, 5)]),
+];

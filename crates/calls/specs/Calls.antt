@@ -8,6 +8,7 @@ use Rattle.rules.specs.Text.{Text}
 use Rattle.rules.specs.Answer.{Answer, accepted, refused}
 use Rattle.requests.specs.Nearest.{Nearest, nearest}
 use Rattle.listing.specs.Listing.{decimal, refusedText}
+use Rattle.symtext.specs.Symlist.{symbolsText}
 
 -- ---- texts
 
@@ -26,13 +27,13 @@ answeredText f (refused n p) = refusedText n p
 unfoldable pub nearestText : Nearest → Text
 nearestText n = (numberText (n .start) 32 ++ numberText (n .length) 32) ++ numberText (n .distance) 10
 
--- 2 is W-201, x its base and y its address; a call that is not known has no text
+-- 2 is W-201, x its base and y its address; 3 is W-202, x its base, as `symlist` prints it; a call that is not known has no text
 unfoldable pub callText : ℕ → ℕ → ℕ → Text → Text
-callText call x y s = cond (eqb call 2) (answeredText nearestText (nearest x s y)) []
+callText call x y s = cond (eqb call 2) (answeredText nearestText (nearest x s y)) (cond (eqb call 3) (symbolsText x s) [])
 
 -- the calls' numbers go on from the assembler's, which is 1, to the last one's
 abbrev lastCall : ℕ
-lastCall = 2
+lastCall = 3
 
 unfoldable pub isCall : ℕ → Bool
 isCall call = leb 2 call && leb call lastCall

@@ -3,6 +3,7 @@ use listing::writing::write_decimal;
 use listing::writing::write_refused;
 use nearest::Nearest;
 use nearest::nearest_label;
+use symtext::write_symbols;
 use text::starts_with;
 ghost use mathlib.Core.Path.{_≡_};
 ghost use mathlib.Core.Bool.{true};
@@ -21,7 +22,7 @@ pub const ROOM: usize = station::TEXT;
 // The calls' numbers go on from the assembler's, which is 1.
 const FIRST: u8 = 2;
 
-const LAST: u8 = 2;
+const LAST: u8 = 3;
 
 // ---- Texts.
 
@@ -62,6 +63,7 @@ pub fn call_text(call: u8, x: u32, y: u32, source: &[u8], out: &mut [u8; ROOM]) 
 {
     match call {
         2 => nearest_text(source, x, y, out),
+        3 => write_symbols(source, x, out),
         _ => 0,
     }
 }

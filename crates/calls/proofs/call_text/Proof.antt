@@ -12,7 +12,11 @@ returns c = rw (c .before .before .match .keys1) (c .nearest-text .ensures)
 
 returns-2 : tie.Need-returns-2
 unfolding callText
-returns-2 c = rw (ne-eqb _ 2 (c .match .rest .1)) (printed-none _)
+returns-2 c = rw (c .before .before .match .keys2) (c .write-symbols .ensures)
+
+returns-3 : tie.Need-returns-3
+unfolding callText
+returns-3 c = rw (ne-eqb _ 2 (c .match .rest .0 .1), ne-eqb _ 3 (c .match .rest .1)) (printed-none _)
 
 pub call-text-spec : {M : Type 1} → statement M
-call-text-spec = tie.close (tie.spec (λ c κs. search needs) returns returns-2)
+call-text-spec = tie.close (tie.spec (λ c κs. search needs) (λ c κs. search needs) returns returns-2 returns-3)
