@@ -32,7 +32,7 @@ enum lagvettu_refusal {
     LAGVETTU_TOO_MANY_LINES = 3,    /* over 4,096 lines; place the line count */
     LAGVETTU_BASE_TOO_HIGH = 4,     /* base 2^30 or more; place 0 */
     LAGVETTU_ADDRESS_TOO_HIGH = 5,  /* address 2^30 or more after a line; place the line, from 1 */
-    LAGVETTU_TOO_MANY_LABELS = 6,   /* a new label when 1,024 are recorded; place the line */
+    LAGVETTU_TOO_MANY_LABELS = 6,   /* a new label when 256 are recorded; place the line */
 
     /* From the state lent. */
     LAGVETTU_SLICE_TOO_SHORT = 7,   /* any slice shorter than the count needed; place that count */

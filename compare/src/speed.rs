@@ -63,19 +63,21 @@ fn inputs() -> Vec<(&'static str, String)> {
     ]
     .map(String::from)
     .to_vec();
-    let many: Vec<String> = (0..1024).map(|i| format!("L{i}: NOP")).collect();
-    let looked: Vec<String> = (0..1024).map(|i| format!("MOVE.L L{i},D1")).collect();
+    let many: Vec<String> = (0..256).map(|i| format!("L{i}: NOP")).collect();
+    let looked: Vec<String> = (0..256).map(|i| format!("MOVE.L L{i},D1")).collect();
     let name = |i: usize| format!("{}{:03}", "A_VERY_LONG_NAME_OF_A_LABEL_", i);
-    let long: Vec<String> = (0..300).map(|i| format!("{}: NOP", name(i))).collect();
-    let sought: Vec<String> = (0..300).map(|i| format!("MOVE.L {},D1", name(i))).collect();
+    let long: Vec<String> = (0..256).map(|i| format!("{}: NOP", name(i))).collect();
+    let sought: Vec<String> = (0..256).map(|i| format!("MOVE.L {},D1", name(i))).collect();
     let mut high = filled("", &forms, 4096).into_bytes();
     let last = high.len() - 1;
     high[last] = 0x7F;
     vec![
         ("bezel script", record::BEZEL.to_string()),
         ("hinge script", hinge),
+        ("40 lines, every form", filled("", &forms, 40)),
+        ("200 lines, every form", filled("", &forms, 200)),
         ("32 KB, every form", filled("", &forms, 4096)),
-        ("1,024 labels, each looked up", filled(&(many.join("\n") + "\n"), &looked, 4096)),
+        ("256 labels, each looked up", filled(&(many.join("\n") + "\n"), &looked, 4096)),
         ("long names, last byte differs", filled(&(long.join("\n") + "\n"), &sought, 4096)),
         ("4,096 short lines", "NOP\n".repeat(4095)),
         ("one line of 32 KB", format!("MOVE.L {},D1", "A ".repeat(16_000))),

@@ -31,12 +31,9 @@ pub record Starting (source : Text) (base lines : ℕ) : Type 0 where
   pub low : base < addressLimit
   pub lines-are : lines ≡ length (cutAt 10 source)
 
--- so many lines have room for their labels in the small table, and so many in the middle one
+-- so many lines have room for their labels in the small table
 abbrev pub shortLines : ℕ
 shortLines = 32
-
-abbrev pub middleLines : ℕ
-middleLines = 256
 
 -- what both passes need: a source to start from, a table and cells
 pub record PassesInNeeds (source : Text) (base lines : ℕ) (table cells : List ℕ) : Type 0 where

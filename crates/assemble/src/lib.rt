@@ -6,7 +6,7 @@ ghost use mathlib.Core.Path.{_≡_};
 ghost use Prim.Native.Nat.{_≤_};
 ghost use Rattle.rules.specs.Answer.{accepted};
 ghost use Rattle.rules.specs.Assemble.{slices, assemble as ruled};
-ghost use Rattle.assemble.specs.Assembled.{SecondPassNeeds, PassesInNeeds, listOf, fitOf, Outcome, Starting, shortLines, middleLines, Assembled};
+ghost use Rattle.assemble.specs.Assembled.{SecondPassNeeds, PassesInNeeds, listOf, fitOf, Outcome, Starting, shortLines, Assembled};
 
 // Whether the slices have room for the list: if not, how many places it has.
 enum Fit {
@@ -83,10 +83,8 @@ fn passes_in(
     }
 }
 
-// The most lines whose labels, two a line, have room in a small table, and in a middle one.
+// The most lines whose labels, two a line, have room in a small table.
 const SHORT: usize = label::SMALL_LABELS / 2;
-
-const MIDDLE: usize = label::MIDDLE_LABELS / 2;
 
 // Both passes over a short source.
 fn short_passes(
@@ -102,32 +100,6 @@ fn short_passes(
 {
     let mut table = [0u32; label::SMALL];
     let mut cells = [0u32; 2 * SHORT];
-    passes_in(
-        source,
-        base,
-        lines,
-        &mut table,
-        &mut cells,
-        addresses,
-        words,
-        marks,
-    )
-}
-
-// Both passes over a source of middle length.
-fn middle_passes(
-    source: &[u8],
-    base: u32,
-    lines: usize,
-    addresses: &mut [u32],
-    words: &mut [u16],
-    marks: &mut [u8],
-) -> Answer
-    requires { ⌜ Starting (now source) base lines × (lines ≤ middleLines) ⌝ }
-    ensures { λ r. ⌜ Outcome (ruled base (now (source .entry))) (slices (now (addresses .entry)) (now (words .entry)) (now (marks .entry))) r (slices (now (addresses .exit)) (now (words .exit)) (now (marks .exit))) ⌝ }
-{
-    let mut table = [0u32; label::MIDDLE];
-    let mut cells = [0u32; 2 * MIDDLE];
     passes_in(
         source,
         base,
@@ -180,9 +152,6 @@ fn passes(
 {
     if lines <= SHORT {
         return short_passes(source, base, lines, addresses, words, marks);
-    }
-    if lines <= MIDDLE {
-        return middle_passes(source, base, lines, addresses, words, marks);
     }
     long_passes(source, base, lines, addresses, words, marks)
 }

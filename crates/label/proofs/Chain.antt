@@ -23,7 +23,7 @@ pub hash-start : (t : Text) → Hashing t 0 0
 hash-start t = record { upto = omega arith; small = omega arith; so-far = refl }
 
 module _ {t : Text} {h i : ℕ} (inv : Hashing t h i) where
-  pub hash-more : i < length t → Hashing t ((37 * h + getD t i 0) % hashes) (i + 1)
+  pub hash-more : i < length t → Hashing t ((53 * h + getD t i 0) % hashes) (i + 1)
   unfolding hashFrom
   hash-more l = record { upto = omega arith; small = omega arith; so-far = rw (add-one i) (rw (drop-cons t i 0 l) at (inv .so-far)) }
 
@@ -34,7 +34,7 @@ module _ {t : Text} {h i : ℕ} (inv : Hashing t h i) where
 hash-small : (h : ℕ) (t : Text) → h < hashes → hashFrom h t < hashes
 unfolding hashFrom
 hash-small h [] l = l
-hash-small h (b ∷ t) l = hash-small ((37 * h + b) % hashes) t (omega arith)
+hash-small h (b ∷ t) l = hash-small ((53 * h + b) % hashes) t (omega arith)
 
 pub hash-below : (t : Text) → hashOf t < hashes
 hash-below t = hash-small 0 t (omega arith)

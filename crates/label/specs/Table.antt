@@ -17,12 +17,12 @@ use Rattle.label.specs.declared.Address.the-variants.{At, Nothing}
 
 -- how many hashes there are
 abbrev pub hashes : ℕ
-hashes = 256
+hashes = 128
 
 -- the hash of a name, whose bytes before these have the hash h
 unfoldable pub hashFrom : ℕ → Text → ℕ
 hashFrom h [] = h
-hashFrom h (b ∷ s) = hashFrom ((37 * h + b) % hashes) s
+hashFrom h (b ∷ s) = hashFrom ((53 * h + b) % hashes) s
 
 abbrev pub hashOf : Text → ℕ
 hashOf n = hashFrom 0 n

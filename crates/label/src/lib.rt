@@ -13,20 +13,16 @@ ghost use Rattle.label.specs.Record.{withRow, withHead, Ready, Recording
 ghost use Rattle.label.specs.Numbers.{ReadRowGives};
 
 // The hashes that a name can have.
-const HEADS: usize = 256;
+const HEADS: usize = 128;
 
 // The cells of a table: one for each hash, and four for each label.
 pub const TABLE: usize = HEADS + 4 * rules::MAX_LABELS;
 
-// The labels of a small table, and of a middle one.
+// The labels of a small table.
 pub const SMALL_LABELS: usize = 64;
 
-pub const MIDDLE_LABELS: usize = 512;
-
-// Their cells.
+// Its cells.
 pub const SMALL: usize = HEADS + 4 * SMALL_LABELS;
-
-pub const MIDDLE: usize = HEADS + 4 * MIDDLE_LABELS;
 
 pub enum Address {
     At(u32),
@@ -40,7 +36,7 @@ fn hash_name(name: &[u8]) -> usize
     let mut h = 0;
     let mut i = 0;
     while i < name.len() {
-        h = (37 * h + name[i] as usize) % HEADS;
+        h = (53 * h + name[i] as usize) % HEADS;
         i += 1;
     }
     h

@@ -42,7 +42,7 @@ keys-grow (n ∷ ns) st =
     rw (keys-insert (st .labels) (n .text) (st .current-address)) (no-fewer (is-some (look-up (st .labels) (n .text))) (keys (st .labels))) in
     omega arith
 
--- a map and a table with the same labels, at most 1,024
+-- a map and a table with the same labels, at most 256
 pub record Level (m : HashMap) (t : Table) : Type 0 where
   pub agrees : Agrees m t
   pub count : keys m ≡ length t

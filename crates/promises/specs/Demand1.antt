@@ -70,7 +70,7 @@ pub data Reached (z : Sizes) (base : ℕ) (s : Text) : ℕ → ℕ → List Text
   further : {j a : ℕ} {ns : List Text} {l : Text} → Reached z base s j a ns → IsLine s j l → lineOf l .task ≢ end
       → Reached z base s (suc j) (nextAddress z base a (lineOf l .task)) (onTop (namesOf (lineOf l)) ns)
 
--- of names recorded on top of ns, one is "a new label when 1,024 are recorded"
+-- of names recorded on top of ns, one is "a new label when" 256 "are recorded" (W-203)
 pub data TooMany : List Text → List Text → Type 0 where
   now : {m : Text} {ms ns : List Text} → isAmong m ns ≡ false → maxLabels ≤ distinct ns → TooMany (m ∷ ms) ns
   later : {m : Text} {ms ns : List Text} → TooMany ms (m ∷ ns) → TooMany (m ∷ ms) ns
@@ -103,7 +103,7 @@ pub data PassCondition (z : Sizes) (base : ℕ) (s : Text) : ℕ → ℕ → Typ
   -- "5 address 2^30 or more after a line; place the line, from 1"
   address-over : {j a : ℕ} {ns : List Text} {l : Text} → Reached z base s j a ns → IsLine s j l
       → addressLimit ≤ nextAddress z base a (lineOf l .task) → PassCondition z base s 5 (suc j)
-  -- "6 a new label when 1,024 are recorded; place the line"
+  -- "6 a new label when" 256 "are recorded; place the line" (W-203)
   labels-over : {j a : ℕ} {ns : List Text} {l : Text} → Reached z base s j a ns → IsLine s j l
       → TooMany (namesOf (lineOf l)) ns → PassCondition z base s 6 (suc j)
 

@@ -86,7 +86,7 @@ pub data RustCondition (s : Text) : ℕ → ℕ → Type 0 where
   of-source : {n p : ℕ} → SourceCondition s n p → RustCondition s n p
   -- "5 address 2^30 or more after a line; place the line, from 1"
   address-over : {j : ℕ} {st : State} → Looped s (suc j) st → addressLimit ≤ st .current-address → RustCondition s 5 (suc j)
-  -- "6 a new label when 1,024 are recorded; place the line": after it, there are more
+  -- "6 a new label when" 256 "are recorded; place the line" (W-203): after it, there are more
   labels-over : {j : ℕ} {st : State} → Looped s (suc j) st → maxLabels < keys (st .labels) → RustCondition s 6 (suc j)
 
 abbrev pub atZero : List Stage

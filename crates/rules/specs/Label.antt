@@ -41,7 +41,7 @@ abbrev pub labelOf : SourceLine → ℕ → Name → Label
 labelOf l a n = record { name = n .text; start = l .start + n .start; address = a; line = l .number }
 
 -- the labels ns of the source line l, recorded in order at the address a;
--- none where "a new label when 1,024 are recorded" comes
+-- none where "a new label when" 256 "are recorded" (W-203) comes
 unfoldable pub recordAll : SourceLine → ℕ → List Name → Table → Option Table
 recordAll l a [] t = some t
 recordAll l a (n ∷ ns) t =

@@ -1,15 +1,16 @@
 -- Paper 01's limits, each named once. Assumes nothing.
 use Prim.Native.Nat.{ℕ, _+_, _^_}
 
--- "source 32,768 bytes, 4,096 lines, 1,024 distinct labels"
+-- "source 32,768 bytes, 4,096 lines"
 abbrev pub maxSource : ℕ
 maxSource = 32768
 
 abbrev pub maxLines : ℕ
 maxLines = 4096
 
+-- W-203: "256 distinct names"; 01 had 1,024
 abbrev pub maxLabels : ℕ
-maxLabels = 1024
+maxLabels = 256
 
 -- "addresses below 2^30": of lines and labels
 abbrev pub addressLimit : ℕ

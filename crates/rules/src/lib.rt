@@ -7,7 +7,7 @@ pub const MAX_SOURCE: usize = 32768;
 pub const MAX_LINES: usize = 4096;
 
 // The most distinct labels.
-pub const MAX_LABELS: usize = 1024;
+pub const MAX_LABELS: usize = 256;
 
 // Addresses of lines and labels lie below this.
 pub const ADDRESS_LIMIT: u32 = 1073741824;

@@ -31,13 +31,13 @@ names-holds : tie.Need-names-holds Inv-loop μ-loop Inv-names μ-names
 names-holds c = left-start (c .before .pre .0) (c .before .pre .1)
 
 cast-start : tie.Need-cast-start Inv-loop μ-loop Inv-names μ-names
-cast-start c = omega (arith, c .shared-slice-known2 .given (256 + 4 * (c .before .before .names .k - 1)))
+cast-start c = omega (arith, c .shared-slice-known2 .given (128 + 4 * (c .before .before .names .k - 1)))
 
 cast-len : tie.Need-cast-len Inv-loop μ-loop Inv-names μ-names
-cast-len c = omega (arith, c .shared-slice-known3 .given (256 + 4 * (c .before .before .before .names .k - 1) + 1))
+cast-len c = omega (arith, c .shared-slice-known3 .given (128 + 4 * (c .before .before .before .names .k - 1) + 1))
 
 cast-k-2 : tie.Need-cast-k-2 Inv-loop μ-loop Inv-names μ-names
-cast-k-2 c = omega (arith, c .shared-slice-known4 .given (256 + 4 * (c .before .before .before .before .names .k - 1) + 3))
+cast-k-2 c = omega (arith, c .shared-slice-known4 .given (128 + 4 * (c .before .before .before .before .names .k - 1) + 3))
 
 names-less : tie.Need-names-less Inv-loop μ-loop Inv-names μ-names
 names-less c = nearer (c .before .before .before .before .before .names .inv) (c .before .before .before .before .before .before .before .pre .0) (omega arith)

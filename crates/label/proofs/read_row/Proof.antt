@@ -17,10 +17,10 @@ name-length source cells count k h l =
     length-take-le (getD cells (cellOf k + 1) 0) (drop (getD cells (cellOf k) 0) source) (rw length-drop (omega (arith, h .within k l)))
 
 cast-t7 : tie.Need-cast-t7
-cast-t7 c = omega (arith, c .shared-slice-known .given (256 + 4 * c .before .args .k))
+cast-t7 c = omega (arith, c .shared-slice-known .given (128 + 4 * c .before .args .k))
 
 cast-t12 : tie.Need-cast-t12
-cast-t12 c = omega (arith, c .shared-slice-known2 .given (256 + 4 * c .before .before .args .k + 1))
+cast-t12 c = omega (arith, c .shared-slice-known2 .given (128 + 4 * c .before .before .args .k + 1))
 
 returns : tie.Need-returns
 returns c = λ source count h l. rw (name-length source _ count _ h l)
