@@ -49,7 +49,7 @@ enum lagvettu_refusal {
 #define LAGVETTU_MAX_SOURCE 32768
 
 /* The most labels that a source has. */
-#define LAGVETTU_MAX_LABELS 1024
+#define LAGVETTU_MAX_LABELS 256
 
 /* The most places that a list has: three slices of this length are never refused as too short. */
 #define LAGVETTU_MAX_PLACES 8192

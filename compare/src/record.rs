@@ -96,13 +96,19 @@ fn limits(out: &mut Vec<Record>) {
     out.push(refused(vec![b'\n'; 4096], 0, 3, 4097));
     out.push(accepted(&("DC.B 1\n".repeat(4095) + "NOP"), 0, [0; 3]));
     let labels = |n: usize| (0..n).map(|i| format!("L{i}:\n")).collect::<String>();
-    out.push(accepted(&labels(1024), 0, [0; 3]));
-    out.push(accepted(&(labels(1024) + "L7: NOP\nMOVE.L L7,D0\nL1023 DC.L 5"), 0, [0; 3]));
-    out.push(refused(labels(1025).into_bytes(), 0, 6, 1025));
-    out.push(refused((labels(1024) + "NOP\nNEW DC.L 5").into_bytes(), 0, 6, 1026));
+    out.push(accepted(&labels(256), 0, [0; 3]));
+    out.push(accepted(&(labels(255) + ": NOP"), 0, [0; 3]));
+    out.push(accepted(&(labels(256) + "L7: NOP\nMOVE.L L7,D0\nL255 DC.L 5"), 0, [0; 3]));
+    out.push(refused(labels(257).into_bytes(), 0, 6, 257));
+    for (line, at) in [("Z: NOP", 257), (": NOP", 257), ("Z DC.L 5", 257), ("L0: Z DS.B 1", 257), ("NOP\nNEW DC.L 5", 258)] {
+        out.push(refused((labels(256) + line).into_bytes(), 0, 6, at));
+    }
     // Refusal 6 comes before refusal 5 of the same line, and after refusal 5 of a line before.
-    out.push(refused((labels(1024) + "ORG $3FFFFFFE\nNEW DC.L 5").into_bytes(), 0, 6, 1026));
-    out.push(accepted(&(labels(1024) + "ORG $40000000\nNEW DC.L 5"), 0, [0; 3]));
+    for line in ["Z: NOP", "NEW DC.L 5", "L0: Z DC.L 5"] {
+        out.push(refused((labels(256) + "ORG $3FFFFFFE\n" + line).into_bytes(), 0, 6, 258));
+    }
+    out.push(accepted(&(labels(256) + "ORG $3FFFFFFE\nL0: NOP"), 0, [0; 3]));
+    out.push(accepted(&(labels(256) + "ORG $40000000\nNEW DC.L 5"), 0, [0; 3]));
     out.push(accepted("", LIMIT - 1, [0; 3]));
     out.push(accepted("A:", LIMIT - 1, [0; 3]));
     out.push(accepted("NOP", LIMIT - 1, [0; 3]));

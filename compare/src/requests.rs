@@ -157,11 +157,11 @@ fn nearest_limits(near: &mut impl FnMut(&[u8], u32, u32, String)) {
     near(b"A: NOP\nEND\nORG $FFFFFFFF", 0, 1, named(0, 1, 1));
 
     let labels = |n: usize| (0..n).map(|i| format!("L{i}:\n")).collect::<String>();
-    near(labels(1024).as_bytes(), 0, 9, named(0, 2, 9));
-    near((labels(1024) + "ORG 8\nL1023 DC.L 5").as_bytes(), 0, 9, named(labels(1024).len() + 6, 5, 1));
-    near(labels(1025).as_bytes(), 1, 0, refused(6, 1025));
-    near((labels(1024) + "ORG $3FFFFFFE\nNEW DC.L 5").as_bytes(), 0, 9, refused(6, 1026));
-    near((labels(1024) + "ORG $40000000\nNEW DC.L 5").as_bytes(), 0, 9, refused(5, 1025));
+    near(labels(256).as_bytes(), 0, 9, named(0, 2, 9));
+    near((labels(256) + "ORG 8\nL255 DC.L 5").as_bytes(), 0, 9, named(labels(256).len() + 6, 4, 1));
+    near(labels(257).as_bytes(), 1, 0, refused(6, 257));
+    near((labels(256) + "ORG $3FFFFFFE\nNEW DC.L 5").as_bytes(), 0, 9, refused(6, 258));
+    near((labels(256) + "ORG $40000000\nNEW DC.L 5").as_bytes(), 0, 9, refused(5, 257));
 }
 
 /// Random sources by the original's label map. It leaves no choice where no label is low enough, or one label alone is the
@@ -240,8 +240,8 @@ fn symbols(out: &mut Vec<Call>) {
     list(("\n".repeat(4095) + "A:").as_bytes(), 0, "A 00000000 4096\n".to_string());
     let labels = |n: usize| (0..n).map(|i| format!("L{i}:\n")).collect::<String>();
     let rows = |n: usize| (0..n).map(|i| format!("L{i} 00000000 {}\n", i + 1)).collect::<String>();
-    list(labels(1024).as_bytes(), 0, rows(1024));
-    list(labels(1025).as_bytes(), 0, refused(6, 1025));
+    list(labels(256).as_bytes(), 0, rows(256));
+    list(labels(257).as_bytes(), 0, refused(6, 257));
 }
 
 /// 02's words and READINGS.md's examples at base 0: a source, and each label's name, address and line in order.
