@@ -6,9 +6,10 @@ use native.Mathlib.Omega.{arith}
 use lib.IntN.{ℤ}
 use Rattle.rules.specs.Text.{Text}
 use Rattle.rules.specs.Label.{Table}
+use Rattle.rules.proofs.Readings.{all-some, imm16-all}
 use Rattle.manual.specs.Manual.{InByte, byte, widths, Layout, moveSize, sizeField, opmode, mode, register, extension, Condition, T, CC, CS, NE, EQ, GE, LT, GT, LE, condition, Instruction, layout, extensions}
 use Rattle.promises.specs.Demand2Manual.{Written, moveq, load, store, copy, mulsData, muls, add, sub, cmp, tst, subq, asl, nop, branch, Words, FieldsHold}
-use Rattle.promises.proofs.ManualLaws.{imm8-byte, imm16-word, all-some, bytes-read-back, quick-reads-back, displaced-byte, no-word}
+use Rattle.promises.proofs.ManualLaws.{imm8-byte, bytes-read-back, quick-reads-back, displaced-byte, no-word}
 
 -- a condition has four bits
 condition-fits : (c : Condition) → condition c < 16
@@ -35,7 +36,7 @@ held (moveq {s} {z} e h) = omega (arith, byte-fits z (all-some InByte (imm8-byte
 held (load h k) = omega arith
 held (store h k) = omega arith
 held (copy h k) = omega arith
-held (mulsData {s} e h) = omega (arith, all-some (λ v. v < 2 ^ 16) (imm16-word s) e)
+held (mulsData {s} e h) = omega (arith, all-some (λ v. v < 2 ^ 16) (imm16-all s) e)
 held (muls h k) = omega arith
 held (add h k) = omega arith
 held (sub h k) = omega arith

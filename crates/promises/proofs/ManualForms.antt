@@ -1,15 +1,15 @@
 -- Every listed form has a line, by computation. Assumes nothing.
 use Prim.Native.Nat.{ℕ}
 use mathlib.Core.Path.{_≡_, refl}
-use mathlib.Core.Option.{Option, none}
+use mathlib.Core.Option.{Option, none, bind}
 use mathlib.Core.List.{List, [], _∷_, _++_}
 use native.Mathlib.Omega.{arith}
 use lib.IntN.{ℤ, pos}
 use Rattle.rules.specs.Text.{Text, bytes, blank, upper, uppers, leading, trimStart, keepEnd, trimEnd, trim, onFirst, cutWhere, cutAt, dropEmpty, pieces, joinMore, joined, inFront, firstCut, same, starts, contains, after, nth, firstText, otherTexts}
-use Rattle.rules.specs.Number.{digitValue, digits, someDigits, below, without, number, number16, within, positive, negative, signed, hexTail, byPrefix, imm8, imm16}
+use Rattle.rules.specs.Number.{digitValue, digits, someDigits, ranged, below, within, without, unsignedReading, signedReading, hexTail, byPrefix, reading16, reading8, immediate, valueOf, imm8, imm16}
 use Rattle.rules.specs.Line.{Instruction as Said, instruction, instructionOf, operandsOf, isData, restLine, afterLabel, labelLine, trimmedLine, lineOf}
 use Rattle.rules.specs.Label.{Table, find}
-use Rattle.rules.specs.Encode.{writtenSigned}
+use Rattle.rules.specs.Encode.{writtenReading, writtenSigned}
 use Rattle.manual.specs.Manual.{Condition, T, CC, CS, NE, EQ, GE, LT, GT, LE, Instruction}
 use Rattle.promises.specs.Demand2Manual.{X, branchName, InReach, label, signedNumber, Written, moveq, load, store, copy, mulsData, muls, add, sub, cmp, tst, subq, asl, nop, branch, LineSays, EveryFormHasALine}
 
@@ -53,7 +53,7 @@ branch-lines GT = (refl, refl)
 branch-lines LE = (refl, refl)
 
 pub every-form-has-a-line : EveryFormHasALine
-unfolding bytes blank upper uppers leading trimStart keepEnd trimEnd trim onFirst cutWhere cutAt dropEmpty pieces joinMore joined inFront firstCut starts contains nth firstText otherTexts instructionOf operandsOf isData restLine afterLabel labelLine trimmedLine lineOf after digitValue digits someDigits below without number number16 within positive negative signed hexTail byPrefix imm8 imm16 writtenSigned
+unfolding bytes blank upper uppers leading trimStart keepEnd trimEnd trim onFirst cutWhere cutAt dropEmpty pieces joinMore joined inFront firstCut starts contains nth firstText otherTexts instructionOf operandsOf isData restLine afterLabel labelLine trimmedLine lineOf after digitValue digits someDigits ranged below within without unsignedReading signedReading hexTail byPrefix reading16 reading8 immediate valueOf imm8 imm16 writtenReading writtenSigned bind
 every-form-has-a-line =
     record {
       moveq = line (moveq {s = bytes "#3"} refl (omega arith)) refl;

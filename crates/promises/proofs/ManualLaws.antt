@@ -6,12 +6,14 @@ use mathlib.Core.Option.{Option, none, some, bind, orElse}
 use mathlib.Core.List.{[], _∷_}
 use native.Mathlib.Omega.{arith}
 use lib.Dec.{ltb, eqb}
-use lib.IntN.{ℤ, pos, negsuc, subℕ, negℤ, _+ℤ_}
+use lib.IntN.{ℤ, pos, negsuc, subℕ, _+ℤ_}
+use lib.Signed.{mag}
 use borrow.Author.Tests.{lt-ltb, le-ltb, le-leb, ltb-true, ltb-false, eqb-true, eqb-false, ne-eqb}
 use Rattle.rules.specs.Text.{Text, bytes, after, starts}
-use Rattle.rules.specs.Number.{digitValue, below, number, number16, within, positive, negative, signed, someDigits, without, hexTail, byPrefix, imm8, imm16, modulo}
+use Rattle.rules.specs.Number.{digitValue, within, immediate, imm8, imm16, modulo}
 use Rattle.rules.specs.Label.{Table, find}
 use Rattle.rules.specs.Encode.{registerDigit, dataRegister, closed, indirect, reach, displacement, writtenSigned}
+use Rattle.rules.proofs.Readings.{All, all-some, within-all, written-all, imm8-all}
 use Rattle.manual.specs.Manual.{InByte, byte, signOf, quick, quickOf, displacementWord}
 use Rattle.promises.specs.Demand2Manual.{D, atA, InReach, Displaced, label, signedNumber, BytesReadBack, QuickReadsBack}
 
@@ -30,11 +32,11 @@ indirect-register n h = rw (digit n h, lt-ltb n 8 h)
 
 -- what a register is not
 pub D-not-immediate : (n : ℕ) → imm16 (D n) ≡ none
-unfolding imm16 after bytes
+unfolding imm16 immediate after bytes bind
 D-not-immediate n = refl
 
 pub atA-not-immediate : (n : ℕ) → imm16 (atA n) ≡ none
-unfolding imm16 after bytes
+unfolding imm16 immediate after bytes bind
 atA-not-immediate n = refl
 
 pub D-not-indirect : (n : ℕ) → indirect (D n) ≡ none
@@ -43,73 +45,13 @@ D-not-indirect n = refl
 
 pub ruleset operand = (data-register, indirect-register, D-not-immediate, atA-not-immediate, D-not-indirect)
 
--- what is there, if anything, satisfies P
-abbrev pub All : {A : Type 0} → (A → Type 0) → Option A → Type 0
-All P none = Unit
-All P (some a) = P a
-
-pub all-some : {A : Type 0} (P : A → Type 0) {x : Option A} {a : A} → All P x → x ≡ some a → P a
-all-some P h e = rw e at h
-
--- what a test lets through, and what `within` lets through
-kept : {A : Type 0} (P : A → Type 0) (a : A) (t : Bool) → (t ≡ true → P a) → All P (cond t (some a) none)
-kept P a true h = h refl
-kept P a false h = tt
-
-within-keeps : (P : ℤ → Type 0) (z : ℤ) → (InByte z → P z) → All P (within 128 z)
-unfolding within
-within-keeps P (pos n) h = kept P (pos n) (ltb n 128) (λ e. h (ltb-true n 128 e))
-within-keeps P (negsuc n) h = kept P (negsuc n) (ltb n 128) (λ e. h (ltb-true n 128 e))
-
--- signed numbers are signed bytes
-signed-byte : (radix : ℕ) (s : Text) → All InByte (signed radix 128 s)
-unfolding signed positive negative
-signed-byte radix [] = tt
-signed-byte radix (b ∷ s) = go (eqb b 45) (someDigits radix s) (someDigits radix (without 43 (b ∷ s)))
-  where
-    go : (t : Bool) (x y : Option ℕ) → All InByte (elim t [ true ↦ negative 128 x | false ↦ positive 128 y ])
-    go true none y = tt
-    go true (some v) y = within-keeps InByte (negℤ (pos v)) (λ h. h)
-    go false x none = tt
-    go false x (some v) = within-keeps InByte (pos v) (λ h. h)
-
--- unsigned numbers are below the bound
-below-bound : (bound : ℕ) (x : Option ℕ) → All (λ v. v < bound) (below bound x)
-unfolding below
-below-bound bound none = tt
-below-bound bound (some v) = kept (λ w. w < bound) v (ltb v bound) (λ e. ltb-true v bound e)
-
--- what a reader answers satisfies P, so what an immediate reads as does
-immediate : {A : Type 0} (P : A → Type 0) (f : ℕ → Text → Option A) → ((r : ℕ) (t : Text) → All P (f r t)) → (s : Text)
-    → All P (elim (after (bytes "#") s) [ none ↦ none | some t ↦ byPrefix f t ])
-unfolding byPrefix
-immediate P f h s = go (after (bytes "#") s)
-  where
-    by-prefix : (t : Text) (x : Option Text) → All P (elim x [ none ↦ f 10 t | some u ↦ f 16 u ])
-    by-prefix t none = h 10 t
-    by-prefix t (some u) = h 16 u
-
-    go : (x : Option Text) → All P (elim x [ none ↦ none | some t ↦ byPrefix f t ])
-    go none = tt
-    go (some t) = by-prefix t (hexTail t)
-
 -- the ranges of immediates and of a branch's signed number
+in-byte : (z : ℤ) → mag z < 128 → InByte z
+in-byte (pos n) h = h
+in-byte (negsuc n) h = h
+
 pub imm8-byte : (s : Text) → All InByte (imm8 s)
-unfolding imm8
-imm8-byte s = immediate InByte (λ r u. signed r 128 u) (λ r u. signed-byte r u) s
-
-pub imm16-word : (s : Text) → All (λ v. v < 2 ^ 16) (imm16 s)
-unfolding imm16 number16 number
-imm16-word s =
-    immediate (λ v. v < 2 ^ 16) (λ r u. number r (2 ^ 16) u) (λ r u. below-bound (2 ^ 16) (someDigits r (without 43 u))) s
-
-pub signed-number-byte : (s : Text) → All InByte (writtenSigned s)
-unfolding writtenSigned
-signed-number-byte s = go (starts (bytes "+") s || starts (bytes "-") s)
-  where
-    go : (t : Bool) → All InByte (cond t (signed 10 128 s) none)
-    go true = signed-byte 10 s
-    go false = tt
+imm8-byte = imm8-all InByte in-byte
 
 -- the byte of a signed number, as 01 has it
 pub byte-modulo : (z : ℤ) → InByte z → byte z ≡ modulo 256 z
@@ -179,7 +121,7 @@ displaced {ls} {a} {s} {z} (signedNumber away e) = go (find s ls) refl
     go none p = e
     go (some t) p =
         unreached (reach t a)
-        (within-keeps (InReach ls a s) (subℕ t (a + 2)) (λ h. record { target = t; found = p; leads = leads-there (a + 2) t; near = h }))
+        (within-all 128 (InReach ls a s) (subℕ t (a + 2)) (λ h. record { target = t; found = p; leads = leads-there (a + 2) t; near = in-byte (subℕ t (a + 2)) h }))
       where
         unreached : (x : Option ℤ) → All (InReach ls a s) x → orElse x (writtenSigned s) ≡ some z
         unreached none h = e
@@ -187,7 +129,7 @@ displaced {ls} {a} {s} {z} (signedNumber away e) = go (find s ls) refl
 
 pub displaced-byte : {ls : Table} {a : ℕ} {s : Text} {z : ℤ} → Displaced ls a s z → InByte z
 displaced-byte (label r) = r .near
-displaced-byte {s = s} (signedNumber away e) = all-some InByte (signed-number-byte s) e
+displaced-byte {s = s} (signedNumber away e) = all-some InByte (written-all InByte in-byte s) e
 
 -- a branch of another displacement than 0 has no word after
 pub no-word : (z : ℤ) → (z ≡ pos 0 → ⊥) → displacementWord z ≡ []

@@ -8,9 +8,10 @@ use Rattle.rules.specs.Text.{Text, bytes, same}
 use Rattle.rules.specs.Label.{Table}
 use Rattle.rules.specs.Encode.{literal, branch as branchOn, branches, otherMnemonics, mnemonics, operationIn, R, two, one, oneOrMore, registersRow, highRow, lowRow, fromIndirect, toIndirect, moveRows, mulsRows, cmpRows, moveqRow, quickRow, tstRow, branchRow, encodeOperation, encodeBy, encode}
 use Rattle.rules.specs.Assemble.{placeOf, placesAt, dataContents, dataPlaces, secondPassBy, codeContentsBy, codePlacesBy}
+use Rattle.rules.proofs.Readings.{all-some}
 use Rattle.manual.specs.Manual.{InByte, join, moveSize, sizeField, opmode, mode, register, extension, Condition, T, CC, CS, NE, EQ, GE, LT, GT, LE, condition, Instruction, layout, extensions, manualWords}
 use Rattle.promises.specs.Demand2Manual.{branchName, Written, moveq, load, store, copy, mulsData, muls, add, sub, cmp, tst, subq, asl, nop, branch, emitted, markedZero, LinesAreTheManuals}
-use Rattle.promises.proofs.ManualLaws.{data-register, operand, imm8-byte, all-some, byte-modulo, quick-modulo, displaced, displaced-byte, no-word}
+use Rattle.promises.proofs.ManualLaws.{data-register, operand, imm8-byte, byte-modulo, quick-modulo, displaced, displaced-byte, no-word}
 
 -- one word for another
 one-word : {v w : ℕ} → v ≡ w → some (literal v ∷ []) ≡ some (literal w ∷ [])

@@ -14,11 +14,12 @@ use Rattle.rules.specs.Number.{imm8, imm16}
 use Rattle.rules.specs.Line.{Instruction as Said}
 use Rattle.rules.specs.Label.{Table}
 use Rattle.rules.specs.Encode.{Content, literal, address, moveq, move, movea, muls, tst, subq, asl, dbra, add, sub, cmp, jmp, branch, Mnemonic, branches, otherMnemonics, mnemonics, operationIn, R, registerDigit, dataRegister, addressRegister, two, one, oneOrMore, displacement, jumps, withLabel, registersRow, highRow, lowRow, fromIndirect, toIndirect, fromLabel, toLabel, moveRows, moveaRow, mulsRows, cmpRows, moveqRow, quickRow, tstRow, jumpRow, dbraRow, branchRow, encodeOperation, encodeBy, encode}
+use Rattle.rules.proofs.Readings.{All}
 use Rattle.promises.specs.RustStr.{when, at, is-empty, equals, starts-with, as-u16, i8-as-u16, HashMap, look-up, Arm, match}
 use Rattle.promises.specs.RustAssembler.{AssemblyInstruction, Code, no-ext, parse-immediate, parse-immediate-u16, parse-data-register, parse-address-register, parse-branch-displacement, encode-moveq, encode-move-with-ext, encode-movea-with-ext, encode-muls-with-ext, encode-branch, encode-add, encode-sub, encode-cmp-with-ext, encode-jump, encode-tst, encode-subq, encode-asl, encode-dbra, encode-instruction-with-ext, _or_, _and_, _<<_}
 use Rattle.promises.specs.Demand2Rust.{instAt}
 use Rattle.promises.proofs.RustText.{same-eq, equals-is, after-is}
-use Rattle.promises.proofs.RustNumber.{All, Small, clash, imm8-is, imm8-small, imm16-is, imm16-none}
+use Rattle.promises.proofs.RustNumber.{Small, clash, imm8-is, imm8-small, imm16-is, imm16-none}
 use Rattle.promises.proofs.RustOperand.{Register, data-is, data-below, address-is, address-below, indirect-is, indirect-below, Agrees, displacement-is, displacement-small, jumps-is}
 use Rattle.promises.proofs.RustOpcode.{at-low, at-high, registers, moveq-word, branch-word, quick-word}
 

@@ -9,14 +9,14 @@ use lib.ListN.{length, drop, getD}
 use lib.Dec.{leb, ltb, eqb}
 use borrow.Author.Tests.{lt-ltb, le-leb}
 use Rattle.rules.specs.Text.{Text, bytes, uppers, leading, trim, trimStart, trimEnd, cutWhere, cutAt, dropEmpty, pieces, joined, Cut, uncut, around, firstCut, same, starts, contains, nth, firstText, otherTexts, lastText}
-use Rattle.rules.specs.Number.{number32}
-use Rattle.rules.specs.Line.{Name, name, instruction, line, numberIn, operandsOf, instructionOf, dataSize, dataValue, sized, dataTask, isDirective, dataPieces, nonempty, dataLine, isData, restLine, afterLabel, labelLine, orgTask, trimmedLine, lineOf, isL, isPlain, isLong, instructionSize, size}
+use Rattle.rules.specs.Number.{valueOf}
+use Rattle.rules.specs.Line.{Name, name, instruction, line, readingIn, numberIn, operandsOf, instructionOf, dataSize, dataValue, sized, dataTask, isDirective, dataPieces, nonempty, dataLine, isData, restLine, afterLabel, labelLine, orgTask, trimmedLine, lineOf, isL, isPlain, isLong, instructionSize, size}
 use Rattle.promises.specs.RustStr.{at, add-u32, filter, is-empty, split, split-whitespace, splitn-2, to-uppercase, starts-with, join}
 use Rattle.promises.specs.RustStr as Rust
 use Rattle.promises.specs.RustAssembler.{AssemblyInstruction, parse-org-directive, Parts, label-and-directive, directive-size, directive-value, parse-data-directive-with-value, is-l, instruction-size, parse-instruction, State, continue, break, set-address, insert-label, push-value, handle-directive, handle-instruction, handle-rest, handle-label, handle-org, body}
 use Rattle.promises.specs.Demand2Rust.{instAt, performTask, insertAll, perform, LinesAreTheRusts}
 use Rattle.promises.proofs.RustText.{eqb-comm, starts-is, equals-is, contains-is, uppercase-is, trim-is, split-is, nonempty-is, pieces-is, join-is, cutTexts, isCut, splitn-is, contains-one, second-is, second-trimmed, get-is, AllFull, nil, cons, full-pieces, solid-pieces}
-use Rattle.promises.proofs.RustNumber.{clash, number32-is}
+use Rattle.promises.proofs.RustNumber.{clash, number32, number32-is}
 
 -- an instruction's operands
 operands-is : (ps : List Text) → cond (ltb 1 (length ps)) (filter (λ s. not (is-empty s)) (map Rust.trim (split 44 (join (drop 1 ps) (bytes " "))))) []
@@ -163,7 +163,7 @@ unfolding directive-size dataSize
 size-of s = simp (uppercase-is, contains-is)
 
 numberIn-is : (o : Option Text) → bind o number32 ≡ numberIn o
-unfolding bind numberIn
+unfolding bind numberIn readingIn valueOf
 numberIn-is none = refl
 numberIn-is (some p) = refl
 

@@ -12,16 +12,12 @@ use lib.IntN.{ℤ, pos, negsuc, negℤ, subℕ, _-ℤ_}
 use lib.Signed.{mag}
 use borrow.Author.Tests.{ltb-true, ltb-false, leb-true, leb-false, eqb-true, lt-ltb, le-ltb, lt-leb}
 use Rattle.rules.specs.Text.{Text, bytes, after}
-use Rattle.rules.specs.Number.{digitValue, someDigits, below, without, number, within, positive, negative, signed, hexTail, byPrefix, number32, number16, imm8, imm16}
+use Rattle.rules.specs.Number.{digitValue, someDigits, below, within, without, unsignedReading, signedReading, hexTail, byPrefix, reading32, reading16, reading8, immediate, valueOf, signed, imm8, imm16}
 use Rattle.rules.specs.Number as Rules
+use Rattle.rules.proofs.Readings.{All, ranged-value, prefix-map, within-all, imm8-all}
 use Rattle.promises.specs.RustStr.{when, is-empty, is-ascii-digit, digit, to-digit, digits-from, digits, strip-plus, u-from-str-radix, u-parse, i8-from-str-radix, i8-range, negated, unnegated, range-contains, as-unsigned, as-signed, as-i8, sub-i32, starts-with, strip-prefix}
 use Rattle.promises.specs.RustAssembler.{hex-str, parse-immediate, parse-immediate-u16}
 use Rattle.promises.proofs.RustText.{eqb-comm, after-is}
-
--- what holds of the value of an option, if there is one
-abbrev pub All : {A : Type 0} → (A → Type 0) → Option A → Type 0
-All P none = Unit {0}
-All P (some a) = P a
 
 -- digits: where Rust's letters go on to Z, the rules stop at F, and no radix here reaches so far
 Read : ℕ → Option ℕ → ℕ → Type 0
@@ -53,19 +49,19 @@ digit-is b radix r =
     gap : 70 < b → b ≤ 90 → 16 ≤ cond (leb 97 b && leb b 102) (b - 87) 255
     gap p q = rw (lt-leb 97 b (omega arith)) (omega arith)
 
-pub digits-is : (radix v : ℕ) (s : Text) → radix ≤ 16 → digits-from radix v s ≡ Rules.digits radix v s
-unfolding digits-from Rules.digits
+pub digits-is : (radix v : ℕ) (s : Text) → radix ≤ 16 → digits-from radix v s ≡ valueOf (Rules.digits radix v s)
+unfolding digits-from Rules.digits valueOf
 digits-is radix v [] r = refl
 digits-is radix v (b ∷ s) r = go (ltb (digitValue b) radix) refl (digits-is radix (v * radix + digitValue b) s r)
   where
     go : (x : Bool) → ltb (digitValue b) radix ≡ x
-        → digits-from radix (v * radix + digitValue b) s ≡ Rules.digits radix (v * radix + digitValue b) s
-        → digits-from radix v (b ∷ s) ≡ Rules.digits radix v (b ∷ s)
+        → digits-from radix (v * radix + digitValue b) s ≡ valueOf (Rules.digits radix (v * radix + digitValue b) s)
+        → digits-from radix v (b ∷ s) ≡ valueOf (Rules.digits radix v (b ∷ s))
     go true e ih = rw (digit-is b radix r, e, digits-from, Rules.digits) ih
     go false e ih = rw (digit-is b radix r, e, digits-from, Rules.digits)
 
-some-is : (radix : ℕ) (s : Text) → radix ≤ 16 → digits radix s ≡ someDigits radix s
-unfolding digits someDigits is-empty
+some-is : (radix : ℕ) (s : Text) → radix ≤ 16 → digits radix s ≡ valueOf (someDigits radix s)
+unfolding digits someDigits is-empty valueOf
 some-is radix [] r = refl
 some-is radix (b ∷ s) r = digits-is radix 0 (b ∷ s) r
 
@@ -74,14 +70,9 @@ unfolding strip-plus without starts-with bytes
 plus-is [] = refl
 plus-is (b ∷ s) = rw (and-true (eqb 43 b), eqb-comm 43 b)
 
-below-is : (bound : ℕ) (o : Option ℕ) → bind o (λ v. when (ltb v bound) (some v)) ≡ below bound o
-unfolding bind below
-below-is bound none = refl
-below-is bound (some v) = refl
-
-pub number-is : (bits radix : ℕ) (s : Text) → radix ≤ 16 → u-from-str-radix bits s radix ≡ number radix (2 ^ bits) s
-unfolding u-from-str-radix number
-number-is bits radix s r = rw (plus-is s, some-is radix (without 43 s) r) (below-is (2 ^ bits) _)
+pub number-is : (bits radix : ℕ) (s : Text) → radix ≤ 16 → u-from-str-radix bits s radix ≡ valueOf (unsignedReading radix (2 ^ bits) s)
+unfolding u-from-str-radix unsignedReading below
+number-is bits radix s r = rw (plus-is s, some-is radix (without 43 s) r, ranged-value (below (2 ^ bits)) (someDigits radix (without 43 s)))
 
 -- signed numbers, -128 to 127
 lt-128 : (n : ℕ) → leb n 127 ≡ ltb n 128
@@ -92,28 +83,27 @@ unfolding within
 range-is (pos n) = rw (lt-128 n)
 range-is (negsuc n) = rw (and-true (leb n 127), lt-128 n)
 
-negative-is : (o : Option ℕ) → i8-range (negated o) ≡ negative 128 o
-unfolding i8-range negated negative bind
+negative-is : (o : Option ℕ) → i8-range (negated o) ≡ bind o (λ v. within 128 (negℤ (pos v)))
+unfolding i8-range negated bind
 negative-is none = refl
 negative-is (some v) = range-is (negℤ (pos v))
 
-positive-is : (o : Option ℕ) → i8-range (unnegated o) ≡ positive 128 o
-unfolding i8-range unnegated positive bind
+positive-is : (o : Option ℕ) → i8-range (unnegated o) ≡ bind o (λ v. within 128 (pos v))
+unfolding i8-range unnegated bind
 positive-is none = refl
 positive-is (some v) = range-is (pos v)
 
 pub signed-is : (radix : ℕ) (s : Text) → radix ≤ 16 → i8-from-str-radix s radix ≡ signed radix 128 s
-unfolding i8-from-str-radix signed starts-with bytes positive someDigits without
-signed-is radix [] r = positive-is (digits radix (strip-plus [])) ∙ nothing
-  where
-    nothing : positive 128 (digits radix (strip-plus [])) ≡ none
-    nothing = rw (plus-is [], some-is radix (without 43 []) r)
+unfolding i8-from-str-radix signed signedReading starts-with bytes someDigits without valueOf bind
+signed-is radix [] r = rw (plus-is [], some-is radix [] r) (positive-is (valueOf (someDigits radix [])))
 signed-is radix (b ∷ s) r = rw (and-true (eqb 45 b), eqb-comm 45 b) (go (eqb b 45) refl)
   where
     go : (x : Bool) → eqb b 45 ≡ x
         → cond (eqb b 45) (i8-range (negated (digits radix s))) (i8-range (unnegated (digits radix (strip-plus (b ∷ s))))) ≡ signed radix 128 (b ∷ s)
-    go true e = rw (e, signed, some-is radix s r) (negative-is _)
-    go false e = rw (e, signed, plus-is (b ∷ s), some-is radix (without 43 (b ∷ s)) r) (positive-is _)
+    go true e = rw (e, signedReading, some-is radix s r, ranged-value (λ v. within 128 (negℤ (pos v))) (someDigits radix s)) (negative-is _)
+    go false e =
+        rw (e, signedReading, plus-is (b ∷ s), some-is radix (without 43 (b ∷ s)) r, ranged-value (λ v. within 128 (pos v)) (someDigits radix (without 43 (b ∷ s))))
+        (positive-is _)
 
 -- a text that starts with one byte does not start with another
 pub clash : (a c : ℕ) (p q s : Text) → eqb c a ≡ false → starts-with s (a ∷ p) ≡ true → starts-with s (c ∷ q) ≡ false
@@ -126,110 +116,95 @@ clash a c p q (b ∷ s) d e = go (eqb a b) refl
     go false f = absurd (false≢true (rw f at e))
 
 -- the prefixes `$` and `0x`
-module _ {A : Type 0} (read : ℕ → Text → Option A) (s : Text) where
-  pub prefix-is : cond (starts-with s (bytes "$")) (read 16 (drop 1 s)) (cond (starts-with s (bytes "0x")) (read 16 (drop 2 s)) (read 10 s)) ≡ byPrefix read s
+module _ {A : Type 0} (f : ℕ → Text → A) (s : Text) where
+  pub prefix-is : cond (starts-with s (bytes "$")) (f 16 (drop 1 s)) (cond (starts-with s (bytes "0x")) (f 16 (drop 2 s)) (f 10 s)) ≡ byPrefix f s
   unfolding byPrefix hexTail bytes
   prefix-is = go (starts-with s (bytes "$")) refl (starts-with s (bytes "0x")) refl
     where
       go : (x : Bool) → starts-with s (36 ∷ []) ≡ x → (y : Bool) → starts-with s (48 ∷ 120 ∷ []) ≡ y
-          → cond (starts-with s (36 ∷ [])) (read 16 (drop 1 s)) (cond (starts-with s (48 ∷ 120 ∷ [])) (read 16 (drop 2 s)) (read 10 s)) ≡ byPrefix read s
-      go true e y f = rw (e, byPrefix, hexTail, after-is (36 ∷ []) s, e)
-      go false e true f = rw (e, f, byPrefix, hexTail, after-is (36 ∷ []) s, e, after-is (48 ∷ 120 ∷ []) s, f)
-      go false e false f = rw (e, f, byPrefix, hexTail, after-is (36 ∷ []) s, e, after-is (48 ∷ 120 ∷ []) s, f)
+          → cond (starts-with s (36 ∷ [])) (f 16 (drop 1 s)) (cond (starts-with s (48 ∷ 120 ∷ [])) (f 16 (drop 2 s)) (f 10 s)) ≡ byPrefix f s
+      go true e y g = rw (e, byPrefix, hexTail, after-is (36 ∷ []) s, e)
+      go false e true g = rw (e, g, byPrefix, hexTail, after-is (36 ∷ []) s, e, after-is (48 ∷ 120 ∷ []) s, g)
+      go false e false g = rw (e, g, byPrefix, hexTail, after-is (36 ∷ []) s, e, after-is (48 ∷ 120 ∷ []) s, g)
 
-  pub hex-is : cond (starts-with s (bytes "0x") || starts-with s (bytes "$")) (read 16 (hex-str s)) (read 10 s) ≡ byPrefix read s
+  pub hex-is : cond (starts-with s (bytes "0x") || starts-with s (bytes "$")) (f 16 (hex-str s)) (f 10 s) ≡ byPrefix f s
   unfolding hex-str strip-prefix bytes
   hex-is = go (starts-with s (bytes "$")) refl (starts-with s (bytes "0x")) refl ∙ prefix-is
     where
       go : (x : Bool) → starts-with s (36 ∷ []) ≡ x → (y : Bool) → starts-with s (48 ∷ 120 ∷ []) ≡ y
-          → cond (starts-with s (48 ∷ 120 ∷ []) || starts-with s (36 ∷ [])) (read 16 (hex-str s)) (read 10 s)
-          ≡ cond (starts-with s (36 ∷ [])) (read 16 (drop 1 s)) (cond (starts-with s (48 ∷ 120 ∷ [])) (read 16 (drop 2 s)) (read 10 s))
-      go true e true f = absurd (false≢true (sym (clash 48 36 (120 ∷ []) [] s refl f) ∙ e))
-      go true e false f = rw (e, f, hex-str)
-      go false e true f = rw (e, f, hex-str)
-      go false e false f = rw (e, f)
+          → cond (starts-with s (48 ∷ 120 ∷ []) || starts-with s (36 ∷ [])) (f 16 (hex-str s)) (f 10 s)
+          ≡ cond (starts-with s (36 ∷ [])) (f 16 (drop 1 s)) (cond (starts-with s (48 ∷ 120 ∷ [])) (f 16 (drop 2 s)) (f 10 s))
+      go true e true g = absurd (false≢true (sym (clash 48 36 (120 ∷ []) [] s refl g) ∙ e))
+      go true e false g = rw (e, g, hex-str)
+      go false e true g = rw (e, g, hex-str)
+      go false e false g = rw (e, g)
+
+-- a number of ORG or DC, where it is read
+abbrev pub number32 : Text → Option ℕ
+number32 s = valueOf (reading32 s)
 
 pub number32-is : (s : Text)
     → cond (starts-with s (bytes "$")) (u-from-str-radix 32 (drop 1 s) 16) (cond (starts-with s (bytes "0x")) (u-from-str-radix 32 (drop 2 s) 16) (u-parse 32 s)) ≡ number32 s
-unfolding number32
+unfolding reading32
 number32-is s = rw (
   number-is 32 16 (drop 1 s) (omega arith),
   number-is 32 16 (drop 2 s) (omega arith),
   number-is 32 10 s (omega arith),
-) (prefix-is (λ r t. number r (2 ^ 32) t) s)
+  prefix-map valueOf (λ r t. unsignedReading r (2 ^ 32) t) s,
+) (prefix-is (λ r t. valueOf (unsignedReading r (2 ^ 32) t)) s)
 
 -- immediates
 module _ (s : Text) where
   pub imm16-is : parse-immediate-u16 s ≡ imm16 s
-  unfolding parse-immediate-u16 imm16 number16 bytes
+  unfolding parse-immediate-u16 imm16 immediate reading16 bind bytes
   imm16-is = go (starts-with s (bytes "#")) refl
     where
       go : (x : Bool) → starts-with s (bytes "#") ≡ x → parse-immediate-u16 s ≡ imm16 s
       go true e =
-          rw (e, imm16, after-is (bytes "#") s, e, number-is 16 16 (hex-str (drop 1 s)) (omega arith), number-is 16 10 (drop 1 s) (omega arith))
-          (hex-is (λ r t. number r (2 ^ 16) t) (drop 1 s))
-      go false e = rw (e, imm16, after-is (bytes "#") s, e)
+          rw (
+            e,
+            immediate,
+            after-is (bytes "#") s,
+            e,
+            number-is 16 16 (hex-str (drop 1 s)) (omega arith),
+            number-is 16 10 (drop 1 s) (omega arith),
+            prefix-map valueOf (λ r t. unsignedReading r (2 ^ 16) t) (drop 1 s),
+          )
+          (hex-is (λ r t. valueOf (unsignedReading r (2 ^ 16) t)) (drop 1 s))
+      go false e = rw (e, immediate, after-is (bytes "#") s, e)
 
   pub imm8-is : parse-immediate s ≡ imm8 s
-  unfolding parse-immediate imm8 bytes
+  unfolding parse-immediate imm8 immediate reading8 bind bytes signed
   imm8-is = go (starts-with s (bytes "#")) refl
     where
       go : (x : Bool) → starts-with s (bytes "#") ≡ x → parse-immediate s ≡ imm8 s
       go true e =
-          rw (e, imm8, after-is (bytes "#") s, e, signed-is 16 (hex-str (drop 1 s)) (omega arith), signed-is 10 (drop 1 s) (omega arith))
+          rw (
+            e,
+            immediate,
+            after-is (bytes "#") s,
+            e,
+            signed-is 16 (hex-str (drop 1 s)) (omega arith),
+            signed-is 10 (drop 1 s) (omega arith),
+            prefix-map valueOf (λ r t. signedReading r 128 t) (drop 1 s),
+          )
           (hex-is (λ r t. signed r 128 t) (drop 1 s))
-      go false e = rw (e, imm8, after-is (bytes "#") s, e)
+      go false e = rw (e, immediate, after-is (bytes "#") s, e)
 
   -- without `#` there is none
   pub imm16-none : starts-with s (bytes "#") ≡ false → imm16 s ≡ none
-  unfolding imm16
-  imm16-none e = rw (imm16, after-is (bytes "#") s, e)
+  unfolding imm16 immediate bind
+  imm16-none e = rw (immediate, after-is (bytes "#") s, e)
 
 -- the signed numbers read are small
 abbrev pub Small : ℤ → Type 0
 Small z = mag z < 128
 
 pub within-small : (z : ℤ) → All Small (within 128 z)
-unfolding within
-within-small (pos n) = go (ltb n 128) refl
-  where
-    go : (x : Bool) → ltb n 128 ≡ x → All Small (cond x (some (pos n)) none)
-    go true e = ltb-true n 128 e
-    go false e = tt
-within-small (negsuc n) = go (ltb n 128) refl
-  where
-    go : (x : Bool) → ltb n 128 ≡ x → All Small (cond x (some (negsuc n)) none)
-    go true e = ltb-true n 128 e
-    go false e = tt
-
-pub signed-small : (radix : ℕ) (s : Text) → All Small (signed radix 128 s)
-unfolding signed positive negative
-signed-small radix [] = tt
-signed-small radix (b ∷ s) = go (eqb b 45) refl
-  where
-    minus : (o : Option ℕ) → All Small (negative 128 o)
-    minus none = tt
-    minus (some v) = within-small (negℤ (pos v))
-
-    plus : (o : Option ℕ) → All Small (positive 128 o)
-    plus none = tt
-    plus (some v) = within-small (pos v)
-
-    go : (x : Bool) → eqb b 45 ≡ x → All Small (signed radix 128 (b ∷ s))
-    go true e = rw (e, signed) (minus (someDigits radix s))
-    go false e = rw (e, signed) (plus (someDigits radix (without 43 (b ∷ s))))
+within-small z = within-all 128 Small z (λ h. h)
 
 pub imm8-small : (s : Text) → All Small (imm8 s)
-unfolding imm8 byPrefix
-imm8-small s = go (after (bytes "#") s) refl
-  where
-    by : (t : Text) (o : Option Text) → hexTail t ≡ o → All Small (byPrefix (λ r u. signed r 128 u) t)
-    by t none e = rw (e, byPrefix) (signed-small 10 t)
-    by t (some u) e = rw (e, byPrefix) (signed-small 16 u)
-
-    go : (o : Option Text) → after (bytes "#") s ≡ o → All Small (imm8 s)
-    go none e = rw (e, imm8) tt
-    go (some t) e = rw (e, imm8) (by t (hexTail t) refl)
+imm8-small = imm8-all Small (λ z h. h)
 
 -- a signed number of n bits goes through n bits unchanged
 pub through : (n : ℕ) (z : ℤ) → suc (mag z) * 2 ≤ 2 ^ n → as-signed n (as-unsigned n z) ≡ z

@@ -11,13 +11,14 @@ use lib.Dec.{leb, ltb, eqb, leb·suc-suc}
 use lib.IntN.{ℤ, pos, negsuc, subℕ}
 use borrow.Author.Tests.{ltb-true, ltb-false, leb-true, lt-ltb, le-ltb, ne-eqb}
 use Rattle.rules.specs.Text.{Text, bytes, starts, after}
-use Rattle.rules.specs.Number.{digitValue, signed, within, hexTail, number, number16}
+use Rattle.rules.specs.Number.{digitValue, unsignedReading, within, hexTail, reading16, valueOf, number16}
 use Rattle.rules.specs.Label.{Table, find}
 use Rattle.rules.specs.Encode.{registerDigit, dataRegister, addressRegister, closed, indirect, reach, writtenSigned, displacement, allDigits, isSome, jumps}
+use Rattle.rules.proofs.Readings.{All, prefix-map, written-is, written-all}
 use Rattle.promises.specs.RustStr.{when, is-some, get, all, is-ascii-digit, to-digit, starts-with, ends-with, slice, range-contains, as-u8, as-u16, as-i8, as-signed, sub-i32, HashMap, look-up}
 use Rattle.promises.specs.RustAssembler.{parse-data-register, parse-address-register, parse-indirect-register, parse-immediate-address, parse-branch-displacement}
 use Rattle.promises.proofs.RustText.{eqb-comm, after-is, starts-is}
-use Rattle.promises.proofs.RustNumber.{All, digit-is, number-is, prefix-is, signed-is, Small, displaced-is, distance-is, signed-small, within-small}
+use Rattle.promises.proofs.RustNumber.{digit-is, number-is, prefix-is, signed-is, Small, displaced-is, distance-is, within-small}
 
 -- a decimal digit
 ten : (b : ℕ) → ltb (digitValue b) 10 ≡ is-ascii-digit b
@@ -198,9 +199,9 @@ pub record Agrees (m : HashMap) (t : Table) : Type 0 where
 
 module _ {m : HashMap} {t : Table} (g : Agrees m t) where
   pub displacement-is : (s : Text) (a : ℕ) → a < 2 ^ 30 → parse-branch-displacement m s a ≡ displacement t a s
-  unfolding parse-branch-displacement displacement reach writtenSigned bind orElse bytes
+  unfolding parse-branch-displacement displacement reach bind orElse bytes
   displacement-is s a h =
-      rw (g .finds s, starts-is (43 ∷ []) s, starts-is (45 ∷ []) s, signed-is 10 s (omega arith)) (go (find s t) (g .low s))
+      rw (g .finds s, starts-is (43 ∷ []) s, starts-is (45 ∷ []) s, signed-is 10 s (omega arith), ← written-is s) (go (find s t) (g .low s))
     where
       go : (o : Option ℕ) → All (λ x. x < 2 ^ 30) o
           → orElse
@@ -213,42 +214,41 @@ module _ {m : HashMap} {t : Table} (g : Agrees m t) where
       go (some x) k = rw (distance-is x a k h, displaced-is (subℕ x (a + 2)))
 
   pub jumps-is : (s : Text) → is-some (parse-immediate-address m s) ≡ jumps t s
-  unfolding jumps parse-immediate-address number16 isSome bind
+  unfolding jumps parse-immediate-address number16 reading16 isSome bind
   jumps-is s =
       rw (
         some-is (parse-immediate-address m s),
         hexTail-is s,
-        ← prefix-is (λ r u. number r (2 ^ 16) u) s,
+        prefix-map valueOf (λ r u. unsignedReading r (2 ^ 16) u) s,
+        ← prefix-is (λ r u. valueOf (unsignedReading r (2 ^ 16) u)) s,
         number-is 16 16 (drop 1 s) (omega arith),
         number-is 16 16 (drop 2 s) (omega arith),
         number-is 16 10 s (omega arith),
         digits-all s,
         g .finds s,
       )
-      (go (starts-with s (bytes "$")) (starts-with s (bytes "0x")) (allDigits s) (find s t))
+      (go _ _ _ (starts-with s (bytes "$")) (starts-with s (bytes "0x")) (allDigits s) (find s t))
     where
-      go : (x y z : Bool) (o : Option ℕ)
-          → isSome (cond x (number 16 (2 ^ 16) (drop 1 s)) (cond y (number 16 (2 ^ 16) (drop 2 s)) (cond z (number 10 (2 ^ 16) s) (bind o (λ a. some (as-u16 a))))))
-          ≡ cond (isSome (cond x (some (drop 1 s)) (cond y (some (drop 2 s)) none)) || z)
-          (isSome (cond x (number 16 (2 ^ 16) (drop 1 s)) (cond y (number 16 (2 ^ 16) (drop 2 s)) (number 10 (2 ^ 16) s)))) (isSome o)
-      go true y z o = refl
-      go false true z o = refl
-      go false false true o = refl
-      go false false false none = refl
-      go false false false (some a) = refl
+      go : (p q r : Option ℕ) (x y z : Bool) (o : Option ℕ)
+          → isSome (cond x p (cond y q (cond z r (bind o (λ a. some (as-u16 a))))))
+          ≡ cond (isSome (cond x (some (drop 1 s)) (cond y (some (drop 2 s)) none)) || z) (isSome (cond x p (cond y q r))) (isSome o)
+      go p q r true y z o = refl
+      go p q r false true z o = refl
+      go p q r false false true o = refl
+      go p q r false false false none = refl
+      go p q r false false false (some a) = refl
 
 pub displacement-small : (t : Table) (a : ℕ) (s : Text) → All Small (displacement t a s)
-unfolding displacement reach writtenSigned bind orElse
+unfolding displacement reach bind orElse
 displacement-small t a s = go (find s t)
   where
-    on : (x : Bool) → All Small (cond x (signed 10 128 s) none)
-    on true = signed-small 10 s
-    on false = tt
+    written : All Small (writtenSigned s)
+    written = written-all Small (λ z h. h) s
 
     or : (o p : Option ℤ) → All Small o → All Small p → All Small (orElse o p)
     or none p h k = k
     or (some z) p h k = h
 
     go : (o : Option ℕ) → All Small (orElse (bind o (λ x. within 128 (subℕ x (a + 2)))) (writtenSigned s))
-    go none = on (starts (bytes "+") s || starts (bytes "-") s)
-    go (some x) = or (within 128 (subℕ x (a + 2))) (writtenSigned s) (within-small (subℕ x (a + 2))) (on (starts (bytes "+") s || starts (bytes "-") s))
+    go none = written
+    go (some x) = or (within 128 (subℕ x (a + 2))) (writtenSigned s) (within-small (subℕ x (a + 2))) written

@@ -12,13 +12,13 @@ use Rattle.rules.specs.Line.{SourceLine, Name, Task, skipped, end, org, noOrg, 
 use Rattle.rules.specs.Label.{Label, Table, find, recorded, hasRoom, labelOf, recordAll}
 use Rattle.rules.specs.Answer.{Answer, accepted, refused, andThen}
 use Rattle.rules.specs.Assemble.{Put, Pass, addressAfter, putting, firstPass, firstPassBy}
+use Rattle.rules.proofs.Readings.{All}
 use Rattle.promises.specs.RustStr.{HashMap, add-u32, insert, look-up}
 use Rattle.promises.specs.RustAssembler.{AssemblyInstruction, State, continue, set-address, insert-label, push-value, handle-instruction, handle-org, first-pass}
 use Rattle.promises.specs.Demand2Rust.{instAt, performTask, insertAll, perform}
 use Rattle.promises.proofs.Tasks.{Worded, silent, codes, holds, worded, pass-line}
 use Rattle.promises.proofs.Shapes.{end-unlabelled}
 use Rattle.promises.proofs.RustText.{same-eq, equals-is}
-use Rattle.promises.proofs.RustNumber.{All}
 use Rattle.promises.proofs.RustOperand.{Agrees}
 use Rattle.promises.proofs.RustValue.{TaskLow, task-low, instruction-low}
 use Rattle.promises.proofs.RustLine.{body-is}

@@ -8,10 +8,10 @@ use native.Mathlib.Omega.{arith}
 use lib.Dec.{ltb}
 use borrow.Author.Tests.{ltb-true}
 use Rattle.rules.specs.Text.{Text, bytes, uppers, pieces, contains, nth, lastText}
-use Rattle.rules.specs.Number.{below, number, someDigits, without, hexTail, byPrefix, number32}
-use Rattle.rules.specs.Line.{Instruction, Task, skipped, end, org, noOrg, labelOnly, instruction, value, space, Line, numberIn, dataSize, dataValue, sized, dataTask, orgTask, lineOf, isLong, instructionSize, size}
+use Rattle.rules.specs.Number.{valueOf}
+use Rattle.rules.specs.Line.{Instruction, Task, skipped, end, org, noOrg, labelOnly, instruction, value, space, Line, readingIn, numberIn, dataSize, dataValue, sized, dataTask, orgTask, lineOf, isLong, instructionSize, size}
+use Rattle.rules.proofs.Readings.{All, reading32-all}
 use Rattle.promises.proofs.Shapes.{Shape, skips, ends, moves, names, codes, holds, shape}
-use Rattle.promises.proofs.RustNumber.{All}
 
 abbrev Value : ℕ → Type 0
 Value v = v < 2 ^ 32
@@ -27,23 +27,6 @@ TaskLow (instruction i) = Unit {0}
 TaskLow (value n v) = Value v × (n ≤ 4)
 TaskLow (space n) = n ≤ 4
 
-below-low : (o : Option ℕ) → All Value (below (2 ^ 32) o)
-unfolding below
-below-low none = tt
-below-low (some v) = go (ltb v (2 ^ 32)) refl
-  where
-    go : (x : Bool) → ltb v (2 ^ 32) ≡ x → All Value (cond x (some v) none)
-    go true e = ltb-true v (2 ^ 32) e
-    go false e = tt
-
-number-low : (s : Text) → All Value (number32 s)
-unfolding number32 byPrefix number
-number-low s = go (hexTail s) refl
-  where
-    go : (o : Option Text) → hexTail s ≡ o → All Value (byPrefix (λ r t. number r (2 ^ 32) t) s)
-    go none e = rw (byPrefix, e) (below-low (someDigits 10 (without 43 s)))
-    go (some t) e = rw (byPrefix, e) (below-low (someDigits 16 (without 43 t)))
-
 -- a size is 4 or less
 size-low : (x y z : Bool) → cond x 4 (cond y 2 (cond z 1 2)) ≤ 4
 size-low true y z = omega arith
@@ -58,12 +41,12 @@ data-size u =
     (contains (bytes "DC.B") u || contains (bytes "DS.B") u)
 
 data-value : (u d : Text) → All Value (dataValue u d)
-unfolding dataValue numberIn
+unfolding dataValue numberIn readingIn valueOf
 data-value u d = go (contains (bytes "DC.") u)
   where
     piece : (o : Option Text) → All Value (numberIn o)
     piece none = tt
-    piece (some p) = number-low p
+    piece (some p) = reading32-all p
 
     go : (x : Bool) → All Value (cond x (numberIn (nth 1 (pieces d))) none)
     go true = piece (nth 1 (pieces d))

@@ -2,3 +2,4 @@ pub mod Fields
 pub mod Lines
 pub mod Standing
 pub mod Names
+pub mod Readings

@@ -6,7 +6,7 @@ use mathlib.Core.List.{List, [], _∷_, _++_}
 use lib.Dec.{ltb, eqb}
 use lib.IntN.{ℤ, subℕ}
 use Rattle.rules.specs.Text.{Text, bytes, same, starts, after}
-use Rattle.rules.specs.Number.{digitValue, signed, within, modulo, hexTail, number16, imm8, imm16}
+use Rattle.rules.specs.Number.{digitValue, Reading, valueOf, signedReading, within, modulo, hexTail, number16, imm8, imm16}
 use Rattle.rules.specs.Line.{Instruction}
 use Rattle.rules.specs.Label.{Table, find}
 
@@ -108,9 +108,12 @@ oneOrMore f (s ∷ ps) = f s
 unfoldable pub reach : ℕ → ℕ → Option ℤ
 reach t a = within 128 (subℕ t (a + 2))
 
--- "an operand starting + or − is read as signed 8 bits, decimal, without a prefix"
+-- "an operand starting + or − is read as signed 8 bits, decimal, without a prefix", no other is
+unfoldable pub writtenReading : Text → Option (Reading ℤ)
+writtenReading s = cond (starts (bytes "+") s || starts (bytes "-") s) (some (signedReading 10 128 s)) none
+
 unfoldable pub writtenSigned : Text → Option ℤ
-writtenSigned s = cond (starts (bytes "+") s || starts (bytes "-") s) (signed 10 128 s) none
+writtenSigned s = writtenReading s >>= valueOf
 
 -- the displacement d of a branch at address a
 unfoldable pub displacement : Table → ℕ → Text → Option ℤ

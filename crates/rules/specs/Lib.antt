@@ -2,6 +2,7 @@ pub mod Limits
 pub mod Text
 pub mod Number
 pub mod Line
+pub mod Directive
 pub mod Label
 pub mod Encode
 pub mod Answer

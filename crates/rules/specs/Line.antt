@@ -6,7 +6,7 @@ use mathlib.Core.List.{List, [], _∷_, map, _++_}
 use lib.ListN.{length}
 use lib.Dec.{eqb}
 use Rattle.rules.specs.Text.{Text, bytes, uppers, leading, trim, cutAt, dropEmpty, pieces, joined, uncut, around, firstCut, same, starts, contains, nth, firstText, otherTexts, lastText}
-use Rattle.rules.specs.Number.{number32}
+use Rattle.rules.specs.Number.{Reading, failed, noDigits, valueOf, reading32}
 
 -- a line of the source: its number, from 1, where it starts in the source, and its text
 pub record SourceLine : Type 0 where
@@ -61,10 +61,14 @@ pub record Line : Type 0 where
 abbrev pub line : List Name → Task → Line
 line ns k = record { names = ns; task = k }
 
--- a text's number, where there is a text
+-- a piece's number as it reads; "no piece at all" has no digits
+unfoldable pub readingIn : Option Text → Reading ℕ
+readingIn none = failed noDigits
+readingIn (some p) = reading32 p
+
+-- a piece's number, where it is read
 unfoldable pub numberIn : Option Text → Option ℕ
-numberIn none = none
-numberIn (some p) = number32 p
+numberIn o = valueOf (readingIn o)
 
 -- step 6: "The other pieces, joined by one space, cut at commas, trimmed, empties removed, are the operands."
 unfoldable pub operandsOf : Text → List Text
