@@ -48,3 +48,5 @@ pub mod Sorted
 pub mod Symbols
 pub mod SymbolsFit
 pub mod SymbolsRows
+pub mod Readings
+pub mod Directives

@@ -1,15 +1,15 @@
 -- Registers as texts, immediates and displacements in their ranges, and signed bytes: what the manual's lines rest on. Assumes nothing.
-use Prim.Native.Nat.{ℕ, _%_, zero, suc, _+_, _-_, _^_, _≤_, _<_}
+use Prim.Native.Nat.{ℕ, _%_, zero, suc, _+_, _-_, _≤_, _<_}
 use mathlib.Core.Path.{_≡_, refl, ap}
-use mathlib.Core.Bool.{Bool, true, false, _||_, cond}
+use mathlib.Core.Bool.{Bool, true, false, cond}
 use mathlib.Core.Option.{Option, none, some, bind, orElse}
-use mathlib.Core.List.{[], _∷_}
+use mathlib.Core.List.{[]}
 use native.Mathlib.Omega.{arith}
 use lib.Dec.{ltb, eqb}
 use lib.IntN.{ℤ, pos, negsuc, subℕ, _+ℤ_}
 use lib.Signed.{mag}
 use borrow.Author.Tests.{lt-ltb, le-ltb, le-leb, ltb-true, ltb-false, eqb-true, eqb-false, ne-eqb}
-use Rattle.rules.specs.Text.{Text, bytes, after, starts}
+use Rattle.rules.specs.Text.{Text, bytes, after}
 use Rattle.rules.specs.Number.{digitValue, within, immediate, imm8, imm16, modulo}
 use Rattle.rules.specs.Label.{Table, find}
 use Rattle.rules.specs.Encode.{registerDigit, dataRegister, closed, indirect, reach, displacement, writtenSigned}

@@ -11,7 +11,7 @@ use lib.Dec.{leb, ltb, eqb, leb·suc-suc}
 use lib.IntN.{ℤ, pos, negsuc, negℤ, subℕ, _-ℤ_}
 use lib.Signed.{mag}
 use borrow.Author.Tests.{ltb-true, ltb-false, leb-true, leb-false, eqb-true, lt-ltb, le-ltb, lt-leb}
-use Rattle.rules.specs.Text.{Text, bytes, after}
+use Rattle.rules.specs.Text.{Text, bytes}
 use Rattle.rules.specs.Number.{digitValue, someDigits, below, within, without, unsignedReading, signedReading, hexTail, byPrefix, reading32, reading16, reading8, immediate, valueOf, signed, imm8, imm16}
 use Rattle.rules.specs.Number as Rules
 use Rattle.rules.proofs.Readings.{All, ranged-value, prefix-map, within-all, imm8-all}

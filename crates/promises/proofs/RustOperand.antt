@@ -10,7 +10,7 @@ use lib.ListN.{length, drop, take, length-drop, length-take}
 use lib.Dec.{leb, ltb, eqb, leb·suc-suc}
 use lib.IntN.{ℤ, pos, negsuc, subℕ}
 use borrow.Author.Tests.{ltb-true, ltb-false, leb-true, lt-ltb, le-ltb, ne-eqb}
-use Rattle.rules.specs.Text.{Text, bytes, starts, after}
+use Rattle.rules.specs.Text.{Text, bytes, after}
 use Rattle.rules.specs.Number.{digitValue, unsignedReading, within, hexTail, reading16, valueOf, number16}
 use Rattle.rules.specs.Label.{Table, find}
 use Rattle.rules.specs.Encode.{registerDigit, dataRegister, addressRegister, closed, indirect, reach, writtenSigned, displacement, allDigits, isSome, jumps}

@@ -1,12 +1,9 @@
 -- A value that a line of data has is below 2^32, and no line takes more than 4 bytes, by paper 01's reading of a line. Assumes nothing.
 use Prim.Native.Nat.{ℕ, _^_, _≤_, _<_}
-use mathlib.Core.Path.{_≡_, refl}
 use mathlib.Core.Bool.{Bool, true, false, _||_, cond}
 use mathlib.Core.Option.{Option, none, some}
 use mathlib.Core.List.{List, [], _∷_}
 use native.Mathlib.Omega.{arith}
-use lib.Dec.{ltb}
-use borrow.Author.Tests.{ltb-true}
 use Rattle.rules.specs.Text.{Text, bytes, uppers, pieces, contains, nth, lastText}
 use Rattle.rules.specs.Number.{valueOf}
 use Rattle.rules.specs.Line.{Instruction, Task, skipped, end, org, noOrg, labelOnly, instruction, value, space, Line, readingIn, numberIn, dataSize, dataValue, sized, dataTask, orgTask, lineOf, isLong, instructionSize, size}

@@ -10,3 +10,4 @@ pub mod Demand3
 pub mod Longest
 pub mod Nearest
 pub mod Symbols
+pub mod Readings

@@ -20,6 +20,16 @@ All P (some a) = P a
 pub all-some : {A : Type 0} (P : A → Type 0) {x : Option A} {a : A} → All P x → x ≡ some a → P a
 all-some P h e = rw e at h
 
+-- a value in the type, and one outside
+module _ {A : Type 0} (f : ℕ → Option A) (v : ℕ) where
+  pub in-range : {a : A} → f v ≡ some a → ranged f (read v) ≡ read a
+  unfolding ranged
+  in-range e = rw (e, ranged)
+
+  pub out-of-range : f v ≡ none → ranged f (read v) ≡ failed outOfRange
+  unfolding ranged
+  out-of-range e = rw (e, ranged)
+
 -- the value of a reading is that of its digits, if the type has it
 pub ranged-value : {A : Type 0} (f : ℕ → Option A) (r : Reading ℕ) → valueOf (ranged f r) ≡ bind (valueOf r) f
 unfolding valueOf ranged bind
