@@ -122,11 +122,11 @@ pub rest : (n : ℕ) (t : Text) → take (length t - n) (drop n t) ≡ drop n t
 rest n t = take-all (length t - n) (drop n t) (simp length-drop (omega arith))
 
 -- the reader by the prefix, where the code has its length n
-module _ {A : Type 0} (read : ℕ → Text → Option A) (t : Text) (n : ℕ) (e : n ≡ prefixLength t) where
-  pub decimal : n ≡ 0 → byPrefix read t ≡ read 10 t
+module _ {A : Type 0} (f : ℕ → Text → A) (t : Text) (n : ℕ) (e : n ≡ prefixLength t) where
+  pub decimal : n ≡ 0 → byPrefix f t ≡ f 10 t
   unfolding byPrefix
   decimal h = rw (unprefixed t (sym e ∙ h), byPrefix)
 
-  pub hexadecimal : (n ≡ 0 → ⊥) → byPrefix read t ≡ read 16 (take (length t - n) (drop n t))
+  pub hexadecimal : (n ≡ 0 → ⊥) → byPrefix f t ≡ f 16 (take (length t - n) (drop n t))
   unfolding byPrefix
   hexadecimal h = rw (rest n t, e, prefixed t (λ k. h (e ∙ k)), byPrefix)

@@ -4,12 +4,12 @@ use mathlib.Core.Path.{_≡_, refl, sym, ap, _∙_}
 use mathlib.Core.Bool.{Bool, true, false, false≢true, cond}
 use mathlib.Core.Option.{none, some}
 use native.Mathlib.Omega.{arith}
-use lib.Dec.{ltb, leb·suc-zero}
+use lib.Dec.{T, ltb}
 use lib.Bits.{bitAnd, and-mask}
 use lib.IntN.{ℤ, pos, negsuc, negℤ, subℕ, natAbs, _+ℤ_, _-ℤ_}
-use lib.Signed.{ltZ, mag}
-use mir.Syntax.{w32}
-use mir.Val.{SFits, toZ, ofZ}
+use lib.Signed.{ltZ, mag, nonNeg}
+use mir.Syntax.{w32, w64}
+use mir.Val.{SFits, Fits, toZ, ofZ}
 use mir.Facts.{toZ-ofZ, toZ-pos}
 use borrow.Author.Tests.{lt-ltb, le-ltb, ltb-true, ltb-false}
 use Rattle.rules.specs.Number.{within, modulo}
@@ -28,35 +28,22 @@ unfolding modulo
 low-three (pos n) = and-mask (n % 256) 3 ∙ omega arith
 low-three (negsuc n) = and-mask (256 - suc (n % 256)) 3 ∙ omega arith
 
-no-neg {ℓ} : {X : Type ℓ} (n : ℕ) → ltZ (pos n) (pos 0) ≡ true → X
-no-neg n e = absurd (false≢true (sym (leb·suc-zero n) ∙ e))
+-- a number lifted by 2^31 is not negative, and keeps its low byte
+pub lifted : (z : ℤ) → SFits w32 z → T (nonNeg (z +ℤ pos 2147483648)) × Fits w32 (natAbs (z +ℤ pos 2147483648))
+lifted (pos n) f = let k : n < 2 ^ 31 = f .sfits in (tt, record { fits = omega arith })
+lifted (negsuc n) f = let k : n < 2 ^ 31 = f .sfits in rw (le-ltb 2147483648 (suc n) (omega arith)) (tt, record { fits = omega arith })
 
--- the byte k of a number below 0, which is 256 less
-pub record Low (z : ℤ) : Type 0 where
-  pub k : ℕ
-  pub is : z +ℤ pos 256 ≡ pos k
-  pub small : k < 256
-  pub byte : k ≡ modulo 256 z
+pub lifted-fits : (z : ℤ) → SFits w32 z → SFits w64 (z +ℤ pos 2147483648)
+lifted-fits (pos n) f = let k : n < 2 ^ 31 = f .sfits in record { sfits = omega arith }
+lifted-fits (negsuc n) f = let k : n < 2 ^ 31 = f .sfits in rw (le-ltb 2147483648 (suc n) (omega arith)) (record { sfits = omega arith })
 
-pub low : (z : ℤ) → mag z < 128 → ltZ z (pos 0) ≡ true → Low z
+pub lifted-byte : (z : ℤ) → SFits w32 z → natAbs (z +ℤ pos 2147483648) % 256 ≡ modulo 256 z
 unfolding modulo
-low (pos n) h e = no-neg n e
-low (negsuc n) h e = record { k = 256 - suc n; is = rw (le-ltb 256 (suc n) (omega arith)); small = omega arith; byte = omega arith }
+lifted-byte (pos n) f = omega arith
+lifted-byte (negsuc n) f = let k : n < 2 ^ 31 = f .sfits in rw (le-ltb 2147483648 (suc n) (omega arith)) (omega arith)
 
--- the byte k of a number from 0 on
-pub record High (z : ℤ) : Type 0 where
-  pub k : ℕ
-  pub is : z ≡ pos k
-  pub small : k < 128
-  pub byte : natAbs z ≡ modulo 256 z
-
-pub high : (z : ℤ) → mag z < 128 → ltZ z (pos 0) ≡ false → High z
-unfolding modulo
-high (pos n) h e = record { k = n; is = refl; small = h; byte = omega arith }
-high (negsuc n) h e = absurd (false≢true (sym e))
-
--- the negative of a number up to 128 fits a byte
-pub negative-fits : (v : ℕ) → v ≤ 128 → mag (negℤ (pos v)) < 128
+-- the negative of a number up to 2^31 fits 32 bits
+pub negative-fits : (v : ℕ) → v ≤ 2 ^ 31 → mag (negℤ (pos v)) < 2 ^ 31
 negative-fits zero h = omega arith
 negative-fits (suc n) h = omega arith
 

@@ -112,6 +112,7 @@ reach t a = within 128 (subℕ t (a + 2))
 unfoldable pub writtenReading : Text → Option (Reading ℤ)
 writtenReading s = cond (starts (bytes "+") s || starts (bytes "-") s) (some (signedReading 10 128 s)) none
 
+-- its number, if it is read
 unfoldable pub writtenSigned : Text → Option ℤ
 writtenSigned s = writtenReading s >>= valueOf
 

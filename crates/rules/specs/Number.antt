@@ -91,17 +91,20 @@ unfoldable pub immediate : {A : Type 0} → (Text → Reading A) → Text → Op
 immediate f s = elim (after (bytes "#") s) [ none ↦ none | some t ↦ some (f t) ]
 
 -- ---- 01's numbers: what is read
+-- the value of a reading, if it has one
 unfoldable pub valueOf : {A : Type 0} → Reading A → Option A
 valueOf (read a) = some a
 valueOf (failed x) = none
 
+-- JMP's number
 unfoldable pub number16 : Text → Option ℕ
 number16 s = valueOf (reading16 s)
 
+-- a signed number
 unfoldable pub signed : ℕ → ℕ → Text → Option ℤ
 signed radix bound s = valueOf (signedReading radix bound s)
 
--- "8 bits signed or 16 unsigned"
+-- immediates, "8 bits signed or 16 unsigned"
 unfoldable pub imm8 : Text → Option ℤ
 imm8 s = bind (immediate reading8 s) valueOf
 

@@ -1,7 +1,7 @@
 -- `digit_in` meets its contract: the table has the digit value of each byte below 128. Assumes nothing.
 use mathlib.Core.Path.{sym}
 use borrow.Author.Needs.{needs}
-use Rattle.numeral.proofs.Bounds.{no-digit}
+use Rattle.numeral.proofs.Table.{no-digit}
 use Rattle.numeral.proofs.digit.digit_in.Statement.{statement}
 use Rattle.numeral.proofs.digit.digit_in.Tie as tie
 

@@ -6,7 +6,6 @@ use lib.IntN.{ℤ, subℕ, _-ℤ_}
 use lib.Signed.{mag}
 use mir.Syntax.{w32}
 use mir.Val.{toZ, ofZ}
-use mir.Facts.{toZ-ofZ}
 use borrow.Author.Needs.{needs}
 use Rattle.rules.specs.Encode.{reach}
 use Rattle.numeral.specs.Number.{reachOf}
@@ -49,13 +48,10 @@ returns-2 : tie.Need-returns-2
 unfolding reach
 returns-2 c = let s = c .before .before in sym (ap reachOf (too-high (gap s) (rw (read s) at (c .if2 .taken))))
 
-cast-t8 : tie.Need-cast-t8
-cast-t8 c = rw (read (c .before .before)) (record { sfits = inside c })
-
 returns-3 : tie.Need-returns-3
 unfolding reach
-returns-3 c = rw (read (c .before .before), toZ-ofZ (record { sfits = inside c })) (sym (ap reachOf (within-range (gap (c .before .before)) (inside c))))
+returns-3 c = rw (read (c .before .before)) (sym (ap reachOf (within-range (gap (c .before .before)) (inside c))))
 
 pub displacement-spec : {M : Type 1} → statement M
 displacement-spec =
-    tie.close (tie.spec cast-d add-d cast-d-2 sub-d returns returns-2 cast-t8 returns-3)
+    tie.close (tie.spec cast-d add-d cast-d-2 sub-d returns returns-2 returns-3)

@@ -2,7 +2,7 @@
 use mathlib.Core.Path.{sym, ap, _∙_}
 use native.Mathlib.Omega.{arith}
 use denote.Ref.{now}
-use Rattle.rules.specs.Number.{signed}
+use Rattle.rules.specs.Number.{signedReading}
 use Rattle.numeral.specs.Number.{signedOf}
 use Rattle.numeral.proofs.Prefix.{prefix-in, decimal, hexadecimal}
 use borrow.Author.Needs.{needs}
@@ -20,7 +20,7 @@ returns c =
     let a = c .before .before .before .before .args in
     let prefix = c .before .before .prefix-length in
     c .read-signed .ensures
-    ∙ sym (ap signedOf (decimal (λ x s. signed x 128 s) (now (a .t)) (prefix .result) (prefix .ensures) (c .before .if1 .taken)))
+    ∙ sym (ap signedOf (decimal (λ x s. signedReading x (a .bound) s) (now (a .t)) (prefix .result) (prefix .ensures) (c .before .if1 .taken)))
 
 sub-read-signed : tie.Need-sub-read-signed
 sub-read-signed c = omega (arith, prefix-in (now (c .before .before .before .args .t)))
@@ -39,7 +39,7 @@ returns-2 c =
     let a = c .before .before .before .before .before .args in
     let prefix = c .before .before .before .prefix-length in
     c .read-signed2 .ensures
-    ∙ sym (ap signedOf (hexadecimal (λ x s. signed x 128 s) (now (a .t)) (prefix .result) (prefix .ensures) (c .before .before .if1 .left)))
+    ∙ sym (ap signedOf (hexadecimal (λ x s. signedReading x (a .bound) s) (now (a .t)) (prefix .result) (prefix .ensures) (c .before .before .if1 .left)))
 
 pub read-signed-prefixed-spec : {M : Type 1} → statement M
 read-signed-prefixed-spec =

@@ -10,16 +10,13 @@ use Rattle.numeral.proofs.unsigned.all_digits.Statement.{statement}
 use Rattle.numeral.proofs.unsigned.all_digits.Tie as tie
 
 abbrev Inv-loop : tie.InvT-loop
-Inv-loop t digits i₀ i = Testing t i
+Inv-loop t radix digits i₀ i = Testing radix t i
 
 abbrev μ-loop : tie.MeasureT-loop
-μ-loop t digits i₀ i = length t - i
+μ-loop t radix digits i₀ i = length t - i
 
 loop-holds : tie.Need-loop-holds Inv-loop μ-loop
 loop-holds c = record { reached = search needs; same = refl }
-
-shared-slice-read-digit-in : tie.Need-shared-slice-read-digit-in Inv-loop μ-loop
-shared-slice-read-digit-in c = search needs
 
 digit-in-requires : tie.Need-digit-in-requires Inv-loop μ-loop
 unfolding digitValue
@@ -30,12 +27,6 @@ returns c =
     let call = c .before .digit-in in
     let test = c .before .before .before .before in
     other-byte (test .before .loop .inv) (call .result) (test .loop-test .taken) (call .ensures) (c .if1 .taken)
-
-add-i : tie.Need-add-i Inv-loop μ-loop
-add-i c = search needs
-
-loop-less : tie.Need-loop-less Inv-loop μ-loop
-loop-less c = search needs
 
 loop-again : tie.Need-loop-again Inv-loop μ-loop
 loop-again c =
@@ -53,10 +44,11 @@ all-digits-spec =
     Inv-loop
     μ-loop
     loop-holds
-    shared-slice-read-digit-in
+    (λ c. search needs)
     digit-in-requires
+    (λ c. search needs)
     returns
-    add-i
-    loop-less
+    (λ c. search needs)
+    (λ c. search needs)
     loop-again
     returns-2)

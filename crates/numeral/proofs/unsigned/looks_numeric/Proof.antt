@@ -3,6 +3,7 @@ use mathlib.Core.Path.{sym, _∙_}
 use denote.Ref.{now}
 use Rattle.rules.specs.Encode.{isSome}
 use Rattle.numeral.proofs.Prefix.{unprefixed, prefixed}
+use Rattle.numeral.proofs.Reading.{decimal-digits}
 use borrow.Author.Needs.{needs}
 use Rattle.numeral.proofs.unsigned.looks_numeric.Statement.{statement}
 use Rattle.numeral.proofs.unsigned.looks_numeric.Tie as tie
@@ -19,7 +20,7 @@ all-digits-requires c κs = search needs
 
 returns-2 : tie.Need-returns-2
 unfolding isSome
-returns-2 c = let p = c .before .before .prefix-length in rw (unprefixed (now (c .before .before .before .before .args .t)) (sym (p .ensures) ∙ c .before .if1 .left)) (c .all-digits .ensures)
+returns-2 c = let p = c .before .before .prefix-length in rw (unprefixed (now (c .before .before .before .before .args .t)) (sym (p .ensures) ∙ c .before .if1 .left)) (c .all-digits .ensures ∙ decimal-digits (now (c .before .before .before .before .args .t)))
 
 pub looks-numeric-spec : {M : Type 1} → statement M
 looks-numeric-spec =

@@ -1,5 +1,5 @@
 -- `parse_u16` meets its contract. Assumes nothing.
-use Rattle.rules.specs.Number.{number16}
+use Rattle.rules.specs.Number.{reading16}
 use borrow.Author.Needs.{needs}
 use Rattle.numeral.proofs.unsigned.parse_u16.Statement.{statement}
 use Rattle.numeral.proofs.unsigned.parse_u16.Tie as tie
@@ -8,7 +8,7 @@ read-prefixed-requires : tie.Need-read-prefixed-requires
 read-prefixed-requires c κs = search needs
 
 returns : tie.Need-returns
-unfolding number16
+unfolding reading16
 returns c = c .read-prefixed .ensures
 
 pub parse-u16-spec : {M : Type 1} → statement M

@@ -1,5 +1,5 @@
 -- `parse_u32` meets its contract. Assumes nothing.
-use Rattle.rules.specs.Number.{number32}
+use Rattle.rules.specs.Number.{reading32}
 use borrow.Author.Needs.{needs}
 use Rattle.numeral.proofs.unsigned.parse_u32.Statement.{statement}
 use Rattle.numeral.proofs.unsigned.parse_u32.Tie as tie
@@ -8,7 +8,7 @@ read-prefixed-requires : tie.Need-read-prefixed-requires
 read-prefixed-requires c κs = search needs
 
 returns : tie.Need-returns
-unfolding number32
+unfolding reading32
 returns c = c .read-prefixed .ensures
 
 pub parse-u32-spec : {M : Type 1} → statement M

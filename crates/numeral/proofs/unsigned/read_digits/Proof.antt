@@ -6,12 +6,12 @@ use lib.ListN.{length}
 use borrow.Author.Needs.{needs}
 use Rattle.rules.specs.Number.{digitValue}
 use Rattle.numeral.proofs.Table.{digit-table}
-use Rattle.numeral.proofs.Reading.{Reading, empty, begin, end, bad-digit, past, step}
+use Rattle.numeral.proofs.Reading.{Midway, empty, begin, end, bad-digit, past, step}
 use Rattle.numeral.proofs.unsigned.read_digits.Statement.{statement}
 use Rattle.numeral.proofs.unsigned.read_digits.Tie as tie
 
 abbrev Inv-loop : tie.InvT-loop
-Inv-loop t radix bound digits r v₀ i₀ v i = Reading radix bound t v i
+Inv-loop t radix bound digits r v₀ i₀ v i = Midway radix bound t v i
 
 abbrev μ-loop : tie.MeasureT-loop
 μ-loop t radix bound digits r v₀ i₀ v i = length t - i
@@ -22,15 +22,9 @@ returns c = let a = c .before .before .args in empty (a .radix) (a .bound) (a .t
 loop-holds : tie.Need-loop-holds Inv-loop μ-loop
 loop-holds c = let a = c .before .before .args in begin (a .radix) (a .bound) (a .t .now) (c .if1 .left)
 
-shared-slice-read-digit-in : tie.Need-shared-slice-read-digit-in Inv-loop μ-loop
-shared-slice-read-digit-in c = search needs
-
 digit-in-requires : tie.Need-digit-in-requires Inv-loop μ-loop
 unfolding digitValue
 digit-in-requires c κs = digit-table
-
-cast-d : tie.Need-cast-d Inv-loop μ-loop
-cast-d c = search needs
 
 returns-2 : tie.Need-returns-2 Inv-loop μ-loop
 returns-2 c =
@@ -50,24 +44,15 @@ add-v c = let p = product c in omega arith
 
 returns-3 : tie.Need-returns-3 Inv-loop μ-loop
 returns-3 c =
-    let call = c .before .before .digit-in in
-    let test = c .before .before .before .before .before in
-    past (test .before .loop .inv) (call .result) (test .loop-test .taken) (call .ensures) (c .before .if2 .left) (c .if3 .taken)
-
-add-i : tie.Need-add-i Inv-loop μ-loop
-add-i c = search needs
-
-loop-less : tie.Need-loop-less Inv-loop μ-loop
-loop-less c = search needs
+    let call = c .before .before .before .before .digit-in in
+    let test = c .before .before .before .before .before .before .before in
+    past (test .before .loop .inv) (call .result) (test .loop-test .taken) (call .ensures) (c .before .before .before .if2 .left) (c .before .before .if3 .taken) (c .past-bound .ensures)
 
 loop-again : tie.Need-loop-again Inv-loop μ-loop
 loop-again c =
     let call = c .before .before .digit-in in
     let test = c .before .before .before .before .before in
     step (test .before .loop .inv) (call .result) (test .loop-test .taken) (call .ensures) (omega arith) (c .before .if2 .left) (c .if3 .left)
-
-cast-t19 : tie.Need-cast-t19 Inv-loop μ-loop
-cast-t19 c = search needs
 
 returns-4 : tie.Need-returns-4 Inv-loop μ-loop
 returns-4 c = end (c .before .loop .inv) (c .before .before .if1 .left) (c .loop-test .left)
@@ -80,15 +65,19 @@ read-digits-spec =
     μ-loop
     returns
     loop-holds
-    shared-slice-read-digit-in
+    (λ c. search needs)
     digit-in-requires
-    cast-d
+    (λ c. search needs)
     returns-2
     mul-v
     add-v
+    (λ c. search needs)
+    (λ c. search needs)
+    (λ c. search needs)
+    (λ c. search needs)
+    (λ c κs. search needs)
     returns-3
-    add-i
-    loop-less
+    (λ c. search needs)
     loop-again
-    cast-t19
+    (λ c. search needs)
     returns-4)

@@ -2,7 +2,7 @@
 use mathlib.Core.Path.{sym, ap, _∙_}
 use native.Mathlib.Omega.{arith}
 use denote.Ref.{now}
-use Rattle.rules.specs.Number.{number}
+use Rattle.rules.specs.Number.{unsignedReading}
 use Rattle.numeral.specs.Number.{numberOf}
 use Rattle.numeral.proofs.Prefix.{prefix-in, decimal, hexadecimal}
 use borrow.Author.Needs.{needs}
@@ -20,7 +20,7 @@ returns c =
     let a = c .before .before .before .before .args in
     let prefix = c .before .before .prefix-length in
     c .read-number .ensures
-    ∙ sym (ap numberOf (decimal (λ x s. number x (a .bound) s) (now (a .t)) (prefix .result) (prefix .ensures) (c .before .if1 .taken)))
+    ∙ sym (ap numberOf (decimal (λ x s. unsignedReading x (a .bound) s) (now (a .t)) (prefix .result) (prefix .ensures) (c .before .if1 .taken)))
 
 sub-read-number : tie.Need-sub-read-number
 sub-read-number c = omega (arith, prefix-in (now (c .before .before .before .args .t)))
@@ -39,7 +39,7 @@ returns-2 c =
     let a = c .before .before .before .before .before .args in
     let prefix = c .before .before .before .prefix-length in
     c .read-number2 .ensures
-    ∙ sym (ap numberOf (hexadecimal (λ x s. number x (a .bound) s) (now (a .t)) (prefix .result) (prefix .ensures) (c .before .before .if1 .left)))
+    ∙ sym (ap numberOf (hexadecimal (λ x s. unsignedReading x (a .bound) s) (now (a .t)) (prefix .result) (prefix .ensures) (c .before .before .if1 .left)))
 
 pub read-prefixed-spec : {M : Type 1} → statement M
 read-prefixed-spec =
