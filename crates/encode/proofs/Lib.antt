@@ -1,4 +1,5 @@
 mod Readings
+mod Displaced
 mod Shaped
 mod Operations
 mod Instructions

@@ -1,15 +1,14 @@
--- Operands read one by one: what fails answers no word, what is read goes on; signs, low bits and JMP's operand. Assumes nothing.
+-- Operands read one by one: what fails answers no word, what is read goes on; low bits and JMP's operand. Assumes nothing.
 use mathlib.Core.Path.{_≡_, sym, _∙_}
-use mathlib.Core.Bool.{true, false, _||_, or-true}
+use mathlib.Core.Bool.{true, false, _||_}
 use mathlib.Core.Option.{Option, none, some, bind, orElse}
-use mathlib.Core.List.{[], _∷_}
 use Prim.Native.Nat.{_%_}
 use lib.Bits.{and-mask}
 use lib.IntN.{ℤ}
-use Rattle.rules.specs.Text.{Text, bytes, starts}
-use Rattle.rules.specs.Number.{modulo, signed, hexTail, number16}
+use Rattle.rules.specs.Text.{Text}
+use Rattle.rules.specs.Number.{modulo, hexTail, number16}
 use Rattle.rules.specs.Label.{Table, find}
-use Rattle.rules.specs.Encode.{writtenSigned, isSome, allDigits, jumps, jumpRow}
+use Rattle.rules.specs.Encode.{isSome, allDigits, jumps, jumpRow}
 use Rattle.numeral.proofs.Sign.{low-three}
 use Rattle.encode.specs.Code.{codeOf}
 use Rattle.encode.specs.declared.Code.the-variants.{Nothing, Word}
@@ -25,32 +24,13 @@ module _ {A B C : Type 0} (g : Option B → C) (o : Option A) (f : A → Option 
   goes e h = rw e h
 
 -- o, else p
-module _ {A C : Type 0} (g : Option A → C) (o p : Option A) {c : C} where
-  pub takes : {v : A} → o ≡ some v → c ≡ g (some v) → c ≡ g (orElse o p)
-  unfolding orElse
-  takes e h = rw e h
-
-  pub skips : o ≡ none → c ≡ g p → c ≡ g (orElse o p)
-  unfolding orElse
-  skips e h = rw e h
+pub skips : {A C : Type 0} (g : Option A → C) (o p : Option A) {c : C} → o ≡ none → c ≡ g p → c ≡ g (orElse o p)
+unfolding orElse
+skips g o p e h = rw e h
 
 -- the low three bits of a number are those of its low byte
 pub low-three-of-byte : (z : ℤ) → modulo 256 z % 8 ≡ modulo 8 z
 low-three-of-byte z = sym (and-mask (modulo 256 z) 3) ∙ low-three z
-
--- an operand that starts with a sign, and one that starts with none
-module _ (t : Text) where
-  pub signed-plus : starts (43 ∷ []) t ≡ true → writtenSigned t ≡ signed 10 128 t
-  unfolding writtenSigned bytes
-  signed-plus e = rw e
-
-  pub signed-minus : starts (45 ∷ []) t ≡ true → writtenSigned t ≡ signed 10 128 t
-  unfolding writtenSigned bytes
-  signed-minus e = simp (e, or-true)
-
-  pub not-signed : starts (43 ∷ []) t ≡ false → starts (45 ∷ []) t ≡ false → writtenSigned t ≡ none
-  unfolding writtenSigned bytes
-  not-signed p e = rw (p, e)
 
 -- ---- JMP: a number where the operand looks like one, else a label
 module _ (ls : Table) (t : Text) where

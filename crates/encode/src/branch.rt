@@ -1,30 +1,53 @@
 // Branches and DBRA: the displacement, of a label in reach or as written.
 ghost use mathlib.Core.Path.{_≡_};
+ghost use mathlib.Core.Bool.{_||_};
 ghost use mathlib.Core.Option.{bind};
 ghost use Prim.Native.Nat.{_<_};
+ghost use Rattle.rules.specs.Text.{bytes, starts};
 ghost use Rattle.rules.specs.Label.{find};
-ghost use Rattle.rules.specs.Encode.{reach, writtenSigned, displacement, dbraRow, branchRow};
-ghost use Rattle.numeral.specs.Number.{signedOf, reachOf};
+ghost use Rattle.rules.specs.Encode.{reach, writtenReading, dbraRow, branchRow};
+ghost use Rattle.numeral.specs.Number.{reachOf};
 ghost use Rattle.label.specs.Table.{tableOf};
 ghost use Rattle.encode.specs.Code.{codeOf};
 ghost use Rattle.encode.specs.Near.{Near};
+ghost use Rattle.encode.specs.Displacement.{displacementOf, displacementReading};
 use crate::Code;
 use label::Address;
+use numeral::Failure;
 use numeral::signed::Reach;
 use numeral::signed::Signed;
 use opcode::register::Register;
 
-// An operand starting with a sign, read as a signed number.
-pub fn written_signed(t: &[u8]) -> Signed
-    ensures { λ r. ⌜ r ≡ signedOf (writtenSigned (now (t .entry))) ⌝ }
+// A branch's displacement.
+pub enum Displacement {
+    Value(i32),
+    // The operand starts with a sign, and this failed in its number.
+    Failed(Failure),
+    // Neither a label in reach nor an operand that starts with a sign.
+    Nothing,
+}
+
+// Whether an operand starts with a sign.
+fn is_signed(t: &[u8]) -> bool
+    ensures { λ r. ⌜ r ≡ (starts (bytes "+") (now (t .entry)) || starts (bytes "-") (now (t .entry))) ⌝ }
 {
     if text::starts_with(t, b"+") {
-        return numeral::signed::read_signed(t, 10);
+        return true;
     }
-    if text::starts_with(t, b"-") {
-        return numeral::signed::read_signed(t, 10);
+    text::starts_with(t, b"-")
+}
+
+// An operand starting with a sign, read as a signed number.
+pub fn written_signed(t: &[u8]) -> Displacement
+    ensures { λ r. ⌜ r ≡ displacementOf (writtenReading (now (t .entry))) ⌝ }
+{
+    if !is_signed(t) {
+        return Displacement::Nothing;
     }
-    Signed::Unreadable
+    match numeral::signed::read_signed(t, 10, 128) {
+        Signed::Value(d) => Displacement::Value(d),
+        Signed::Failed(f) => Displacement::Failed(f),
+    }
 }
 
 // From an instruction to the label that its operand names.
@@ -45,13 +68,13 @@ pub fn parse_branch_displacement(
     labels: usize,
     address: u32,
     t: &[u8],
-) -> Signed
+) -> Displacement
     requires { ⌜ Near (now source) (now table) labels address ⌝ }
-    ensures { λ r. ⌜ r ≡ signedOf (displacement (tableOf (now (source .entry)) (now (table .entry)) labels) address (now (t .entry))) ⌝ }
+    ensures { λ r. ⌜ r ≡ displacementOf (displacementReading (tableOf (now (source .entry)) (now (table .entry)) labels) address (now (t .entry))) ⌝ }
 {
     let reached = label_reach(source, table, labels, address, t);
     if let Reach::Value(d) = reached {
-        return Signed::Value(d);
+        return Displacement::Value(d);
     }
     written_signed(t)
 }
@@ -68,7 +91,7 @@ pub fn encode_branch(
     requires { ⌜ Near (now source) (now table) labels address × (condition < 16) ⌝ }
     ensures { λ r. ⌜ r ≡ codeOf (branchRow (tableOf (now (source .entry)) (now (table .entry)) labels) address condition (now (t .entry))) ⌝ }
 {
-    let Signed::Value(d) = parse_branch_displacement(source, table, labels, address, t) else {
+    let Displacement::Value(d) = parse_branch_displacement(source, table, labels, address, t) else {
         return Code::Nothing;
     };
     Code::Word(opcode::word::branch_word(condition, numeral::signed::low_byte(d)))
@@ -89,7 +112,7 @@ pub fn encode_dbra(
     let Register::At(n) = opcode::register::parse_data_register(s) else {
         return Code::Nothing;
     };
-    let Signed::Value(_) = parse_branch_displacement(source, table, labels, address, t) else {
+    let Displacement::Value(_) = parse_branch_displacement(source, table, labels, address, t) else {
         return Code::Nothing;
     };
     Code::Word(opcode::word::with_low(0x51C8, n))

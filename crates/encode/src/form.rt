@@ -4,8 +4,8 @@ ghost use Prim.Native.Nat.{_/_, _%_};
 ghost use Rattle.rules.specs.Encode.{registersRow, highRow, lowRow, fromIndirect, toIndirect, mulsRows, cmpRows, moveqRow, quickRow, tstRow};
 ghost use Rattle.encode.specs.Code.{codeOf};
 use crate::Code;
-use numeral::signed::Signed;
-use numeral::unsigned::Number;
+use numeral::signed::SignedImmediate;
+use numeral::unsigned::Immediate;
 use opcode::register::Register;
 
 // Dn,Dm.
@@ -26,7 +26,7 @@ pub fn encode_registers(opcode: u16, s: &[u8], t: &[u8]) -> Code
 pub fn encode_moveq(s: &[u8], t: &[u8]) -> Code
     ensures { λ r. ⌜ r ≡ codeOf (moveqRow (now (s .entry)) (now (t .entry))) ⌝ }
 {
-    let Signed::Value(v) = numeral::signed::parse_immediate(s) else {
+    let SignedImmediate::Value(v) = numeral::signed::parse_immediate(s) else {
         return Code::Nothing;
     };
     let Register::At(n) = opcode::register::parse_data_register(t) else {
@@ -40,7 +40,7 @@ pub fn encode_quick(opcode: u16, s: &[u8], t: &[u8]) -> Code
     requires { ⌜ (opcode / 512 % 8 ≡ 0) × (opcode % 8 ≡ 0) ⌝ }
     ensures { λ r. ⌜ r ≡ codeOf (quickRow opcode (now (s .entry)) (now (t .entry))) ⌝ }
 {
-    let Signed::Value(v) = numeral::signed::parse_immediate(s) else {
+    let SignedImmediate::Value(v) = numeral::signed::parse_immediate(s) else {
         return Code::Nothing;
     };
     let Register::At(n) = opcode::register::parse_data_register(t) else {
@@ -54,7 +54,7 @@ pub fn encode_immediate_high(opcode: u16, s: &[u8], t: &[u8]) -> Code
     requires { ⌜ opcode / 512 % 8 ≡ 0 ⌝ }
     ensures { λ r. ⌜ r ≡ codeOf (highRow opcode (now (s .entry)) (now (t .entry))) ⌝ }
 {
-    let Number::Value(v) = numeral::unsigned::parse_immediate_u16(s) else {
+    let Immediate::Value(v) = numeral::unsigned::parse_immediate_u16(s) else {
         return Code::Nothing;
     };
     let Register::At(n) = opcode::register::parse_data_register(t) else {
@@ -68,7 +68,7 @@ pub fn encode_immediate_low(opcode: u16, s: &[u8], t: &[u8]) -> Code
     requires { ⌜ opcode % 8 ≡ 0 ⌝ }
     ensures { λ r. ⌜ r ≡ codeOf (lowRow opcode (now (s .entry)) (now (t .entry))) ⌝ }
 {
-    let Number::Value(v) = numeral::unsigned::parse_immediate_u16(s) else {
+    let Immediate::Value(v) = numeral::unsigned::parse_immediate_u16(s) else {
         return Code::Nothing;
     };
     let Register::At(n) = opcode::register::parse_data_register(t) else {

@@ -1,6 +1,6 @@
 -- Signed numbers as the code computes with them: in reach of a byte, their low bits, and the byte's sign reading. Assumes nothing.
 use Prim.Native.Nat.{ℕ, zero, suc, _-_, _%_, _^_, _<_, _≤_}
-use mathlib.Core.Path.{_≡_, refl, sym, ap, _∙_}
+use mathlib.Core.Path.{_≡_, refl, ap, _∙_}
 use mathlib.Core.Bool.{Bool, true, false, false≢true, cond}
 use mathlib.Core.Option.{none, some}
 use native.Mathlib.Omega.{arith}

@@ -1,27 +1,27 @@
 -- `branch::encode_branch` meets its contract: the displacement is read. Assumes nothing.
 use native.Mathlib.Omega.{arith}
 use borrow.Author.Needs.{needs}
-use mathlib.Core.Path.{_≡_, sym, ap, _∙_}
+use mathlib.Core.Path.{_≡_, ap}
 use mathlib.Core.Option.{some}
 use denote.Ref.{now}
-use mir.Syntax.{w8}
+use mir.Syntax.{w32}
 use mir.Val.{SFits}
 use mir.Facts.{toZ-ofZ}
 use Rattle.rules.specs.Number.{modulo}
 use Rattle.rules.specs.Encode.{displacement, branchRow}
 use Rattle.label.specs.Table.{tableOf}
-use Rattle.numeral.proofs.Answers.{signed-some, signed-none}
 use Rattle.encode.specs.Code.{codeOf}
 use Rattle.encode.specs.declared.Code.the-variants.{Word}
 use Rattle.encode.proofs.Readings.{stops, goes}
+use Rattle.encode.proofs.Displaced.{displaced, not-displaced}
 use Rattle.encode.proofs.branch.encode_branch.Statement.{statement}
 use Rattle.encode.proofs.branch.encode_branch.Tie as tie
 
 -- the displacement that is read, and its byte
 read : (c : tie.After-known-told) → displacement (tableOf (now (c .before .before .before .before .before .before .before .args .source)) (now (c .before .before .before .before .before .before .before .args .table)) (c .before .before .before .before .before .before .before .args .labels)) (c .before .before .before .before .before .before .before .args .address) (now (c .before .before .before .before .before .before .before .args .t)) ≡ some (c .before .d .given .0 .0)
-read c = signed-some _ _ (sym (c .before .before .before .parse-branch-displacement .ensures) ∙ c .before .d .given .1)
+read c = displaced _ _ _ (c .before .before .before .parse-branch-displacement .ensures) (c .before .d .given .1)
 
-fits : (c : tie.After-known-told) → SFits w8 (c .before .d .given .0 .0)
+fits : (c : tie.After-known-told) → SFits w32 (c .before .d .given .0 .0)
 fits c = record { sfits = omega arith }
 
 low : (c : tie.After-low-byte) → c .low-byte .result ≡ modulo 256 (c .before .before .d .given .0 .0)
@@ -32,7 +32,7 @@ parse-branch-displacement-requires c κs = c .before .before .before .pre .0
 
 returns : tie.Need-returns
 unfolding branchRow
-returns c = stops codeOf _ _ (signed-none _ (sym (c .before .before .parse-branch-displacement .ensures) ∙ c .enum-told .given .1))
+returns c = stops codeOf _ _ (not-displaced _ _ _ (c .before .parse-branch-displacement .ensures) (c .match .keys2))
 
 branch-word-requires : tie.Need-branch-word-requires
 branch-word-requires c κs = c .before .before .before .before .before .before .before .before .pre .1
@@ -46,7 +46,6 @@ encode-branch-spec =
     tie.close
     (tie.spec
     parse-branch-displacement-requires
-    (λ c. search needs)
     (λ c. search needs)
     returns
     (λ c κs. search needs)

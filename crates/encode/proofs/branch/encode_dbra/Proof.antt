@@ -4,11 +4,11 @@ use mathlib.Core.Path.{_≡_, refl, sym, ap, _∙_}
 use mathlib.Core.Option.{some}
 use denote.Ref.{now}
 use Rattle.rules.specs.Encode.{dataRegister, dbraRow}
-use Rattle.numeral.proofs.Answers.{signed-some, signed-none}
 use Rattle.opcode.proofs.Callers.{registered, unregistered, data-small}
 use Rattle.encode.specs.Code.{codeOf}
 use Rattle.encode.specs.declared.Code.the-variants.{Word}
 use Rattle.encode.proofs.Readings.{stops, goes}
+use Rattle.encode.proofs.Displaced.{displaced, not-displaced}
 use Rattle.encode.proofs.branch.encode_dbra.Statement.{statement}
 use Rattle.encode.proofs.branch.encode_dbra.Tie as tie
 
@@ -22,14 +22,14 @@ returns c = stops codeOf _ _ (unregistered _ (sym (c .before .before .parse-data
 
 returns-2 : tie.Need-returns-2
 unfolding dbraRow
-returns-2 c = goes codeOf _ _ (register (c .before .before .before)) (stops codeOf _ _ (signed-none _ (sym (c .before .before .parse-branch-displacement .ensures) ∙ c .enum-told3 .given .1)))
+returns-2 c = goes codeOf _ _ (register (c .before .before)) (stops codeOf _ _ (not-displaced _ _ _ (c .before .parse-branch-displacement .ensures) (c .match2 .keys2)))
 
 with-low-requires : tie.Need-with-low-requires
 with-low-requires c κs = (data-small _ _ (register (c .before .before .before)), refl)
 
 returns-3 : tie.Need-returns-3
 unfolding dbraRow
-returns-3 c = goes codeOf _ _ (register (c .before .before .before .before)) (goes codeOf _ _ (signed-some _ _ (sym (c .before .before .before .parse-branch-displacement .ensures) ∙ c .before .enum-told2 .given .1)) (ap Word (c .with-low .ensures)))
+returns-3 c = goes codeOf _ _ (register (c .before .before .before .before)) (goes codeOf _ _ (displaced _ _ _ (c .before .before .before .parse-branch-displacement .ensures) (c .before .enum-told2 .given .1)) (ap Word (c .with-low .ensures)))
 
 pub encode-dbra-spec : {M : Type 1} → statement M
 encode-dbra-spec =
@@ -40,7 +40,6 @@ encode-dbra-spec =
     (λ c. search needs)
     returns
     (λ c κs. search needs)
-    (λ c. search needs)
     (λ c. search needs)
     returns-2
     with-low-requires
