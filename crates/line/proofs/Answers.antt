@@ -9,7 +9,7 @@ use lib.Dec.{eqb}
 use lib.ListN.{length, take, drop, getD}
 use lib.Seq.{length-take-le}
 use Rattle.rules.specs.Text.{Text, bytes, uppers, leading, trimEnd, trim, pieces, starts, nth}
-use Rattle.rules.specs.Line.{name, Line as Said, line as lineWith, numberIn, isData, dataLine, restLine, afterLabel, labelLine, trimmedLine, lineOf}
+use Rattle.rules.specs.Line.{name, Line as Said, line as lineWith, readingIn, numberIn, isData, dataLine, restLine, afterLabel, labelLine, trimmedLine, lineOf}
 use Rattle.text.specs.declared.Span.{Span}
 use Rattle.text.specs.Pieces.{until}
 use Rattle.text.specs.Spans.{part, PartIn}
@@ -228,9 +228,10 @@ module _ {source : Text} {at : ℕ} {o : Outline} {n : ℕ} (x : Outlined source
       says-end e q = plain End q (first-end (leading line) inner inner-some d (sym p ∙ e)) Prim.tt
 
       module _ (e : u ≡ false) {v : Bool} (g : v ≡ starts (bytes "ORG") (uppers inner)) where
-        pub says-org : {m : Number} {k : Task} {r : Line} → v ≡ true → m ≡ numberOf (numberIn (nth 1 (pieces inner))) → k ≡ orgOf m → r ≡ plainLine k → ReadLineGives source at r
+        pub says-org : {m : Number} {k : Task} {r : Line} → v ≡ true → m ≡ numberOf (readingIn (nth 1 (pieces inner))) → k ≡ orgOf m → r ≡ plainLine k → ReadLineGives source at r
+        unfolding numberIn
         says-org c w y q =
-            plain _ q (first-org (leading line) inner inner-some d (sym p ∙ e) (sym g ∙ c) ∙ rw (y, w) (ap (lineWith []) (sym (org-is source (numberIn (nth 1 (pieces inner))))))) (rw (y, w) (org-in source (numberIn (nth 1 (pieces inner)))))
+            plain _ q (first-org (leading line) inner inner-some d (sym p ∙ e) (sym g ∙ c) ∙ rw (y, w) (ap (lineWith []) (sym (org-is source (readingIn (nth 1 (pieces inner))))))) (rw (y, w) (org-in source (readingIn (nth 1 (pieces inner)))))
 
         pub says-rest : {r : Line} → v ≡ false → Says source (labelLine (o .start) inner) r → ReadLineGives source at r
         says-rest c s =

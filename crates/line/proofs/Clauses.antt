@@ -7,9 +7,19 @@ use native.Mathlib.Omega.{arith}
 use borrow.Author.Tests.{eq-eqb, ne-eqb}
 use lib.ListN.{length, getD}
 use Rattle.rules.specs.Text.{Text, bytes, uppers, leading, trim, pieces, uncut, around, firstCut, starts, nth}
+use Rattle.rules.specs.Directive.{pieceDirective, directiveOf}
 use Rattle.rules.specs.Line.{Name, name, skipped, end, labelOnly, instruction, line, numberIn, instructionOf, dataTask, dataPieces, nonempty, isData, dataLine, restLine, afterLabel, labelLine, orgTask, trimmedLine}
 
 -- ---- step 5
+module _ (t : Text) where
+  pub directive-pieces : firstCut 58 t ≡ uncut → directiveOf t ≡ pieceDirective t (pieces t)
+  unfolding directiveOf
+  directive-pieces e = rw (e, directiveOf)
+
+  pub directive-colon : {l d : Text} → firstCut 58 t ≡ around l d → directiveOf t ≡ trim d
+  unfolding directiveOf
+  directive-colon e = rw (e, directiveOf)
+
 module _ (ns : List Name) (i : ℕ) (t : Text) where
   pub data-pieces : firstCut 58 t ≡ uncut → dataLine ns i t ≡ dataPieces ns i t (pieces t)
   unfolding dataLine

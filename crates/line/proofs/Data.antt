@@ -1,7 +1,7 @@
 -- Laws of steps 3 and 5: the tasks by their numbers, and the line of a label and a directive. Assumes nothing.
 use mathlib.Core.Path.{_≡_, refl, ap, _∙_}
 use mathlib.Core.Bool.{Bool, true, false, not, _||_, cond}
-use mathlib.Core.Option.{Option, none, some}
+use mathlib.Core.Option.{none}
 use mathlib.Core.List.{append-nil}
 use Prim.Native.Nat.{ℕ, _+_, _-_, _≤_, _<_}
 use native.Mathlib.Omega.{arith}
@@ -9,7 +9,8 @@ use borrow.Author.Tests.{not-true, not-false}
 use lib.ListN.{length, take, drop}
 use lib.Seq.{length-take-le}
 use Rattle.rules.specs.Text.{Text, bytes, uppers, pieces, contains, nth}
-use Rattle.rules.specs.Line.{numberIn, dataSize, dataValue, sized, dataTask, nonempty, dataLine, orgTask}
+use Rattle.rules.specs.Number.{Reading, read, failed, valueOf}
+use Rattle.rules.specs.Line.{readingIn, numberIn, dataSize, dataValue, sized, dataTask, nonempty, dataLine, orgTask}
 use Rattle.text.specs.Spans.{part, PartIn}
 use Rattle.text.proofs.Spans.{part-front, length-part}
 use Rattle.numeral.specs.Number.{numberOf}
@@ -24,14 +25,14 @@ use Rattle.line.proofs.Labels.{names-more, names-in, more-names}
 use Rattle.line.proofs.Directive.{nonempty-some}
 
 -- ---- step 3 by its number
-pub org-is : (source : Text) (x : Option ℕ) → taskAt source (orgOf (numberOf x)) ≡ orgTask x
-unfolding orgTask
-org-is source none = refl
-org-is source (some v) = refl
+pub org-is : (source : Text) (r : Reading ℕ) → taskAt source (orgOf (numberOf r)) ≡ orgTask (valueOf r)
+unfolding orgTask valueOf
+org-is source (read v) = refl
+org-is source (failed x) = refl
 
-pub org-in : (source : Text) (x : Option ℕ) → TaskIn source (orgOf (numberOf x))
-org-in source none = Prim.tt
-org-in source (some v) = Prim.tt
+pub org-in : (source : Text) (r : Reading ℕ) → TaskIn source (orgOf (numberOf r))
+org-in source (read v) = Prim.tt
+org-in source (failed x) = Prim.tt
 
 -- ---- data by its number
 size-most : (u : Text) → dataSize u ≤ 4
@@ -44,31 +45,40 @@ size-most u = go (contains (bytes "DC.L") u || contains (bytes "DS.L") u) (conta
     go false false true = omega arith
     go false false false = omega arith
 
-by-is : (source : Text) (n : ℕ) (x : Option ℕ) → taskAt source (dataBy n (numberOf x)) ≡ sized n x
-unfolding sized
-by-is source n none = refl
-by-is source n (some v) = refl
+by-is : (source : Text) (n : ℕ) (r : Reading ℕ) → taskAt source (dataBy n (numberOf r)) ≡ sized n (valueOf r)
+unfolding sized valueOf
+by-is source n (read v) = refl
+by-is source n (failed x) = refl
 
-by-in : (source : Text) (n : ℕ) (x : Option ℕ) → n ≤ 4 → TaskIn source (dataBy n (numberOf x))
-by-in source n none h = h
-by-in source n (some v) h = h
+by-in : (source : Text) (n : ℕ) (r : Reading ℕ) → n ≤ 4 → TaskIn source (dataBy n (numberOf r))
+by-in source n (read v) h = h
+by-in source n (failed x) h = h
 
 module _ (source t d : Text) where
   data-is : taskAt source (dataOf t d) ≡ dataTask t d
-  unfolding dataTask
-  data-is = by-is source (dataSize (uppers t)) (dataValue (uppers t) d)
+  unfolding dataTask dataValue numberIn sized
+  data-is = go (contains (bytes "DC.") (uppers t))
+    where
+      r : Reading ℕ
+      r = readingIn (nth 1 (pieces d))
+
+      go : (x : Bool) → taskAt source (cond x (dataBy (dataSize (uppers t)) (numberOf r)) (Space (dataSize (uppers t)))) ≡ sized (dataSize (uppers t)) (cond x (valueOf r) none)
+      go true = by-is source (dataSize (uppers t)) r
+      go false = refl
 
   data-in : TaskIn source (dataOf t d)
-  data-in = by-in source (dataSize (uppers t)) (dataValue (uppers t) d) (size-most (uppers t))
+  data-in = go (contains (bytes "DC.") (uppers t))
+    where
+      go : (x : Bool) → TaskIn source (cond x (dataBy (dataSize (uppers t)) (numberOf (readingIn (nth 1 (pieces d))))) (Space (dataSize (uppers t))))
+      go true = by-in source (dataSize (uppers t)) (readingIn (nth 1 (pieces d))) (size-most (uppers t))
+      go false = size-most (uppers t)
 
 -- as the code makes it: of size s, with a value only where `DC.` stands
 module _ (t d : Text) {s : ℕ} (p : s ≡ dataSize (uppers t)) {y : Bool} (q : y ≡ contains (bytes "DC.") (uppers t)) where
   pub task-none : not y ≡ true → Space s ≡ dataOf t d
-  unfolding dataValue
   task-none e = rw (p, ← q, not-true y e)
 
-  pub task-some : {v : Number} → not y ≡ false → v ≡ numberOf (numberIn (nth 1 (pieces d))) → dataBy s v ≡ dataOf t d
-  unfolding dataValue
+  pub task-some : {v : Number} → not y ≡ false → v ≡ numberOf (readingIn (nth 1 (pieces d))) → dataBy s v ≡ dataOf t d
   task-some e w = rw (p, ← q, not-false y e, w)
 
 -- ---- the line

@@ -8,14 +8,15 @@ use borrow.Author.Tests.{ltb-true, ltb-false}
 use lib.Dec.{ltb}
 use lib.ListN.{length, drop, drop-of-length-le, length-drop}
 use Rattle.rules.specs.Text.{Text, blank, leading, cutWhere, dropEmpty, pieces, nth}
-use Rattle.rules.specs.Number.{number32}
-use Rattle.rules.specs.Line.{numberIn}
+use Rattle.rules.specs.Number.{reading32}
+use Rattle.rules.specs.Line.{readingIn}
 use Rattle.text.specs.declared.Span.{Span}
 use Rattle.text.specs.Pieces.{run, nextPiece}
 use Rattle.text.proofs.Until.{until-le}
 use Rattle.text.proofs.Pieces.{Next, next-start, next-none, next-some}
 use Rattle.numeral.specs.Number.{numberOf}
-use Rattle.numeral.specs.declared.unsigned.Number.the-variants.{Unreadable}
+use Rattle.numeral.specs.declared.Failure.the-variants.{NoDigits}
+use Rattle.numeral.specs.declared.unsigned.Number.the-variants.{Failed}
 use Rattle.text.specs.Spans.{part, PartIn}
 
 pub pieces-empty : pieces [] ≡ []
@@ -60,10 +61,10 @@ module _ (t : Text) (at : ℕ) (f s : Span) (p : f ≡ nextPiece t at) (q : s �
   pub second-part : PartIn t (s .start) (s .end)
   second-part = next-part t (f .end) s q end-in
 
-  pub second-none : s .start ≡ s .end → Unreadable ≡ numberOf (numberIn (nth 1 (pieces (drop at t))))
-  unfolding nth numberIn
+  pub second-none : s .start ≡ s .end → Failed NoDigits ≡ numberOf (readingIn (nth 1 (pieces (drop at t))))
+  unfolding nth readingIn
   second-none z = rw (nth-after t at f p h, next-none t (f .end) s q (piece-none t (f .end) s q end-in z))
 
-  pub second-some : (s .start ≡ s .end → ⊥) → numberOf (number32 (part t (s .start) (s .end))) ≡ numberOf (numberIn (nth 1 (pieces (drop at t))))
-  unfolding nth numberIn
+  pub second-some : (s .start ≡ s .end → ⊥) → numberOf (reading32 (part t (s .start) (s .end))) ≡ numberOf (readingIn (nth 1 (pieces (drop at t))))
+  unfolding nth readingIn
   second-some d = rw (nth-after t at f p h, piece-some t (f .end) s q end-in d .parts)

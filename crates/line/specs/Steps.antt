@@ -1,11 +1,13 @@
 -- What the steps hand to each other: a line's text and its colon, labels so far, the label and what is after it. Assumes nothing.
 use mathlib.Core.Path.{_≡_}
 use Prim.Native.Nat.{ℕ, zero, suc, _+_, _-_, _≤_, _<_}
+use mathlib.Core.Bool.{cond}
 use mathlib.Core.Option.{none, some}
 use mathlib.Core.List.{List, _++_}
 use lib.ListN.{length, take, drop}
-use Rattle.rules.specs.Text.{Text, uppers, leading, trim}
-use Rattle.rules.specs.Line.{Name, line as lineWith, labelOnly, dataSize, dataValue, dataTask, nonempty, dataLine, restLine, labelLine}
+use Rattle.rules.specs.Text.{Text, bytes, uppers, leading, trim, pieces, contains, nth}
+use Rattle.rules.specs.Line.{Name, line as lineWith, labelOnly, readingIn, dataSize, dataTask, nonempty, dataLine, restLine, labelLine}
+use Rattle.rules.specs.Directive.{directiveOf}
 use Rattle.text.specs.declared.Span.{Span}
 use Rattle.text.specs.Find.{indexOf}
 use Rattle.text.specs.Spans.{part, PartIn}
@@ -58,21 +60,22 @@ plainLine k = record { names = noNames; task = k }
 -- ORG by its number
 abbrev pub orgOf : Number → Task
 orgOf (N.Value v) = Org v
-orgOf N.Unreadable = NoOrg
+orgOf (N.Failed x) = NoOrg
 
 -- data of size n by its number
 abbrev pub dataBy : ℕ → Number → Task
 dataBy n (N.Value v) = Value n v
-dataBy n N.Unreadable = Space n
+dataBy n (N.Failed x) = Space n
 
 -- the data of a text t whose directive is d
 abbrev pub dataOf : Text → Text → Task
-dataOf t d = dataBy (dataSize (uppers t)) (numberOf (dataValue (uppers t) d))
+dataOf t d = cond (contains (bytes "DC.") (uppers t)) (dataBy (dataSize (uppers t)) (numberOf (readingIn (nth 1 (pieces d))))) (Space (dataSize (uppers t)))
 
--- step 5 on t: a label of so many bytes in front, and from where on the directive stands
+-- step 5 on t: a label of so many bytes in front, and from where on the directive stands, as far as its pieces count
 pub record PieceHeadGives (t : Text) (h : DataHead) : Type 0 where
   pub label-in : h .label ≤ length t
   pub directive-in : h .directive ≤ length t
+  pub directs : pieces (directiveOf t) ≡ pieces (drop (h .directive) t)
   pub says : (ns : List Name) (i : ℕ) → dataLine ns i t ≡ lineWith (ns ++ nonempty i (take (h .label) t)) (dataTask t (drop (h .directive) t))
 
 -- step 4 on the text from a to before e: the labels, and the rest that goes on

@@ -1,4 +1,5 @@
 // What a line says: paper 01's six steps, answered by value: the labels that it records and its task, with places in the source.
+use numeral::Failure;
 use numeral::unsigned::Number;
 use outline::Outline;
 use text::Span;
@@ -7,7 +8,7 @@ ghost use mathlib.Core.Bool.{true, _||_};
 ghost use Prim.Native.Nat.{_≤_};
 ghost use lib.ListN.{length, take, drop};
 ghost use Rattle.rules.specs.Text.{Text, uppers, leading, trim, pieces, uncut, firstCut, contains, nth};
-ghost use Rattle.rules.specs.Line.{numberIn, dataSize, isDirective, dataLine, isData, restLine, labelLine};
+ghost use Rattle.rules.specs.Line.{readingIn, dataSize, isDirective, dataLine, isData, restLine, labelLine};
 ghost use Rattle.rules.specs.Assemble.{isEnd};
 ghost use Rattle.text.specs.Spans.{part, PartIn};
 ghost use Rattle.numeral.specs.Number.{numberOf};
@@ -118,17 +119,17 @@ fn label_length(t: &[u8], colon: usize) -> usize
     text::trimmed(&t[..colon]).len()
 }
 
-// The number of the second piece from `at` on.
-fn second_number(t: &[u8], at: usize) -> Number
+// The number of the second piece from `at` on; without such a piece it has no digits.
+pub fn second_number(t: &[u8], at: usize) -> Number
     requires { ⌜ at ≤ length (now t) ⌝ }
-    ensures { λ r. ⌜ r ≡ numberOf (numberIn (nth 1 (pieces (drop at (now (t .entry)))))) ⌝ }
+    ensures { λ r. ⌜ r ≡ numberOf (readingIn (nth 1 (pieces (drop at (now (t .entry)))))) ⌝ }
 {
     let first = text::next_piece(t, at);
     let second = text::next_piece(t, first.end);
     let start = second.start;
     let end = second.end;
     if start == end {
-        return Number::Unreadable;
+        return Number::Failed(Failure::NoDigits);
     }
     numeral::unsigned::parse_u32(&t[start..end])
 }
@@ -182,14 +183,14 @@ fn data_task(t: &[u8], at: usize) -> Task
     }
     match second_number(t, at) {
         Number::Value(v) => Task::Value(size, v),
-        Number::Unreadable => Task::Space(size),
+        Number::Failed(_) => Task::Space(size),
     }
 }
 
 // Step 5 on a text: the length of the label in front, 0 without one, and where the directive starts.
-struct DataHead {
-    label: usize,
-    directive: usize,
+pub struct DataHead {
+    pub label: usize,
+    pub directive: usize,
 }
 
 // The label and the directive of a text without a colon.
@@ -217,7 +218,7 @@ fn piece_head(t: &[u8]) -> DataHead
 }
 
 // The label and the directive of any text.
-fn data_head(t: &[u8]) -> DataHead
+pub fn data_head(t: &[u8]) -> DataHead
     requires { ⌜ leading (now t) ≡ 0 ⌝ }
     ensures { λ r. ⌜ PieceHeadGives (now (t .entry)) r ⌝ }
 {
@@ -320,7 +321,7 @@ fn org_task(number: Number) -> Task
 {
     match number {
         Number::Value(v) => Task::Org(v),
-        Number::Unreadable => Task::NoOrg,
+        Number::Failed(_) => Task::NoOrg,
     }
 }
 
