@@ -7,18 +7,20 @@ use lib.IntN.{ℤ}
 use types.Run.{OneOf, miss}
 use denote.Enum.Declared.{tagOf}
 use Rattle.rules.specs.Text.{Text}
-use Rattle.rules.specs.Number.{Reading, read, failed, reading16, reading8, immediate, valueOf, number16, imm8, imm16}
-use Rattle.numeral.specs.Number.{numberOf, immediateOf, signedImmediateOf, reachOf}
+use Rattle.rules.specs.Number.{Reading, read, failed, signedReading, reading16, reading8, immediate, valueOf, number16, signed, imm8, imm16}
+use Rattle.numeral.specs.Number.{numberOf, signedOf, immediateOf, signedImmediateOf, reachOf}
 use Rattle.numeral.specs.declared.Failure.{Failure}
 use Rattle.numeral.specs.declared.unsigned.Number.{Number}
 use Rattle.numeral.specs.declared.unsigned.Number.the-variants as N
 use Rattle.numeral.specs.declared.unsigned.Immediate.{Immediate}
 use Rattle.numeral.specs.declared.unsigned.Immediate.the-variants as I
+use Rattle.numeral.specs.declared.signed.Signed.{Signed}
+use Rattle.numeral.specs.declared.signed.Signed.the-variants as S
 use Rattle.numeral.specs.declared.signed.SignedImmediate.{SignedImmediate}
 use Rattle.numeral.specs.declared.signed.SignedImmediate.the-variants as J
 use Rattle.numeral.specs.declared.signed.Reach.the-variants as R
-use Rattle.numeral.proofs.unsigned.Immediate as unsigned
-use Rattle.numeral.proofs.signed.SignedImmediate as signed
+use Rattle.numeral.proofs.unsigned.Immediate.{the-type as immediate-type}
+use Rattle.numeral.proofs.signed.SignedImmediate.{the-type as signed-immediate-type}
 
 -- ---- a number of 16 bits
 module _ (s : Text) {x : Number} (e : x ≡ numberOf (reading16 s)) where
@@ -38,6 +40,24 @@ module _ (s : Text) {x : Number} (e : x ≡ numberOf (reading16 s)) where
       go (read w) q = cc
       go (failed y) q = refl
 
+-- ---- a signed number
+module _ (radix bound : ℕ) (s : Text) {x : Signed} (e : x ≡ signedOf (signedReading radix bound s)) where
+  pub signed-some : {z : ℤ} → x ≡ S.Value z → signed radix bound s ≡ some z
+  unfolding signed valueOf
+  signed-some {z} h = go (signedReading radix bound s) (sym e ∙ h)
+    where
+      go : (r : Reading ℤ) → signedOf r ≡ S.Value z → valueOf r ≡ some z
+      go (read w) q = cc
+      go (failed y) q = cc
+
+  pub signed-none : {f : Failure} → x ≡ S.Failed f → signed radix bound s ≡ none
+  unfolding signed valueOf
+  signed-none {f} h = go (signedReading radix bound s) (sym e ∙ h)
+    where
+      go : (r : Reading ℤ) → signedOf r ≡ S.Failed f → valueOf r ≡ none
+      go (read w) q = cc
+      go (failed y) q = refl
+
 -- ---- immediates: any other answer than a value is no number
 module _ (s : Text) {x : Immediate} (e : x ≡ immediateOf (immediate reading16 s)) where
   pub imm16-some : {v : ℕ} → x ≡ I.Value v → imm16 s ≡ some v
@@ -49,11 +69,11 @@ module _ (s : Text) {x : Immediate} (e : x ≡ immediateOf (immediate reading16 
       go (some (read w)) q = cc
       go (some (failed y)) q = cc
 
-  pub imm16-none : OneOf (1 ∷ 2 ∷ []) (tagOf unsigned.the-type x) → imm16 s ≡ none
+  pub imm16-none : OneOf (1 ∷ 2 ∷ []) (tagOf immediate-type x) → imm16 s ≡ none
   unfolding imm16 bind valueOf
   imm16-none h = go (immediate reading16 s) (rw e at h)
     where
-      go : (o : Option (Reading ℕ)) → OneOf (1 ∷ 2 ∷ []) (tagOf unsigned.the-type (immediateOf o)) → bind o valueOf ≡ none
+      go : (o : Option (Reading ℕ)) → OneOf (1 ∷ 2 ∷ []) (tagOf immediate-type (immediateOf o)) → bind o valueOf ≡ none
       go none q = refl
       go (some (read w)) q = absurd (miss (1 ∷ 2 ∷ []) 0 tt q)
       go (some (failed y)) q = refl
@@ -68,11 +88,11 @@ module _ (s : Text) {x : SignedImmediate} (e : x ≡ signedImmediateOf (immediat
       go (some (read y)) q = cc
       go (some (failed y)) q = cc
 
-  pub imm8-none : OneOf (1 ∷ 2 ∷ []) (tagOf signed.the-type x) → imm8 s ≡ none
+  pub imm8-none : OneOf (1 ∷ 2 ∷ []) (tagOf signed-immediate-type x) → imm8 s ≡ none
   unfolding imm8 bind valueOf
   imm8-none h = go (immediate reading8 s) (rw e at h)
     where
-      go : (o : Option (Reading ℤ)) → OneOf (1 ∷ 2 ∷ []) (tagOf signed.the-type (signedImmediateOf o)) → bind o valueOf ≡ none
+      go : (o : Option (Reading ℤ)) → OneOf (1 ∷ 2 ∷ []) (tagOf signed-immediate-type (signedImmediateOf o)) → bind o valueOf ≡ none
       go none q = refl
       go (some (read y)) q = absurd (miss (1 ∷ 2 ∷ []) 0 tt q)
       go (some (failed y)) q = refl
