@@ -45,9 +45,26 @@ static void symbols(void)
     expect(number == LAGVETTU_ACCEPTED && count == 3 && memcmp(rows, wanted, sizeof rows) == 0, "lagvettu_symbols");
 }
 
+static void line_number(void)
+{
+    static const struct { const char *line; uint8_t reading; uint32_t value; } examples[] = {
+        {"X: DC.L $10", LAGVETTU_READ, 16},
+        {"ORG", LAGVETTU_NO_DIGITS, 0},
+        {"DC.W 3O0", LAGVETTU_BAD_DIGIT, 0},
+        {"DC.B 4294967296", LAGVETTU_OUT_OF_RANGE, 0},
+        {"MOVEQ #3O,D1", LAGVETTU_NO_NUMBER, 0},
+    };
+    for (size_t i = 0; i < sizeof examples / sizeof *examples; i++) {
+        uint32_t value = 1;
+        uint8_t reading = lagvettu_line_number(bytes(examples[i].line), strlen(examples[i].line), &value);
+        expect(reading == examples[i].reading && value == examples[i].value, examples[i].line);
+    }
+}
+
 int main(void)
 {
     nearest();
     symbols();
+    line_number();
     return wrong;
 }

@@ -45,6 +45,15 @@ enum lagvettu_refusal {
     LAGVETTU_NO_LABEL_NEAR = 12     /* no label at or below the address; place 0 */
 };
 
+/* What the number of a line said. */
+enum lagvettu_reading {
+    LAGVETTU_READ = 0,
+    LAGVETTU_NO_DIGITS = 1,     /* nothing after the prefix and an allowed sign, or no piece at all */
+    LAGVETTU_BAD_DIGIT = 2,     /* a byte, however late, that is no digit of the radix; a sign that is not allowed too */
+    LAGVETTU_OUT_OF_RANGE = 3,  /* the value does not fit into 32 bits */
+    LAGVETTU_NO_NUMBER = 4      /* the line reads no number: it is no ORG, and has no `DC.` */
+};
+
 /* The longest source that is not refused, in bytes. */
 #define LAGVETTU_MAX_SOURCE 32768
 
@@ -107,6 +116,16 @@ uint8_t lagvettu_symbols(const uint8_t *source, size_t source_length,
                          uint32_t *addresses, size_t addresses_length,
                          uint32_t *lines, size_t lines_length,
                          size_t *place);
+
+/*
+ * What did the number of a line say? For a line with ORG, and one of data with `DC.`: LAGVETTU_READ, with the value in *value, or
+ * what failed, no digits before a bad digit and that before a value out of range. Every other line reads no number. A line is given
+ * without its byte 10. Where nothing is read *value is 0. Nothing is refused.
+ *
+ *     "X: DC.L $10": LAGVETTU_READ, 16.   "ORG": LAGVETTU_NO_DIGITS.   "DC.W 3O0": LAGVETTU_BAD_DIGIT.
+ *     "DC.B 4294967296": LAGVETTU_OUT_OF_RANGE.   "MOVEQ #3O,D1": LAGVETTU_NO_NUMBER.
+ */
+uint8_t lagvettu_line_number(const uint8_t *line, size_t line_length, uint32_t *value);
 
 #ifdef __cplusplus
 }

@@ -21,6 +21,7 @@ pub fn calls() -> Vec<Call> {
     let mut out = Vec::new();
     nearest(&mut out);
     symbols(&mut out);
+    line_numbers(&mut out);
     out
 }
 
@@ -267,4 +268,88 @@ const SYMBOLS: [(&str, &[(&str, u32, u32)]); 16] = [
     ("A:\nEND\nB:", &[("A", 0, 1)]),
     ("ENDX: NOP\nB:", &[]),
     ("ORG: NOP\nX: ORG 8\nX: END\n\nY:", &[("X", 2, 3), ("Y", 4, 5)]),
+];
+
+// ---- W-204: call 4, the source is a line
+
+fn line_numbers(out: &mut Vec<Call>) {
+    for (line, said) in LINE_NUMBERS {
+        out.push(Call { number: 4, x: 0, y: 0, source: line.as_bytes().to_vec(), text: format!("{said}\n") });
+    }
+}
+
+/// 02's words and READINGS.md's examples: a line, and what its number says.
+const LINE_NUMBERS: [(&str, &str); 68] = [
+    ("DC.L 5", "read 5"),
+    ("  X: DC.W $10 ; a note", "read 16"),
+    ("DC.B 0xfF", "read 255"),
+    ("X DC.L +7", "read 7"),
+    ("ORG $+10", "read 16"),
+    ("org 00000000000000000000000000000000012", "read 12"),
+    ("ORGANIC 64", "read 64"),
+    ("ORG: 5", "read 5"),
+    ("ORG 8 9", "read 8"),
+    ("ORG 4294967295", "read 4294967295"),
+    ("DC.L $FFFFFFFF", "read 4294967295"),
+    ("A: B: DC.L 3", "read 3"),
+    ("NOP DC.W 9", "read 9"),
+    // No digits: nothing after the prefix and an allowed sign, or no piece at all.
+    ("ORG", "no digits"),
+    ("DC.L", "no digits"),
+    ("X DC.L", "no digits"),
+    ("X: DC.L", "no digits"),
+    ("FOODC.L 5", "no digits"),
+    ("X: DC.L: 5", "no digits"),
+    ("DC.L $", "no digits"),
+    ("DC.L 0x", "no digits"),
+    ("DC.L 0x+", "no digits"),
+    ("DC.L $+", "no digits"),
+    ("ORG +", "no digits"),
+    // A bad digit, however late; a sign that is not allowed, a second one, one before a prefix; no such prefix.
+    ("DC.L -", "bad digit"),
+    ("DC.L -1", "bad digit"),
+    ("DC.L $-1", "bad digit"),
+    ("DC.L ++1", "bad digit"),
+    ("DC.L +-1", "bad digit"),
+    ("DC.L +$10", "bad digit"),
+    ("DC.L +0x10", "bad digit"),
+    ("DC.L 0X10", "bad digit"),
+    ("DC.L 0X", "bad digit"),
+    ("DC.L $$1", "bad digit"),
+    ("DC.L $0x1", "bad digit"),
+    ("DC.L 3O", "bad digit"),
+    ("DC.L 1A", "bad digit"),
+    ("DC.L $1G", "bad digit"),
+    ("DC.L $g", "bad digit"),
+    ("DC.L 5,6", "bad digit"),
+    ("DC.L 99999999999999O", "bad digit"),
+    ("DC.L 4294967296-", "bad digit"),
+    ("ORG $100000000z", "bad digit"),
+    ("ORG x", "bad digit"),
+    ("DC.L #5", "bad digit"),
+    ("DC.L [5]", "bad digit"),
+    // Too large.
+    ("DC.L 4294967296", "out of range"),
+    ("DC.B 4294967296", "out of range"),
+    ("ORG $100000000", "out of range"),
+    ("ORG 99999999999999999999999999999999999999", "out of range"),
+    ("DC.W +18446744073709551616", "out of range"),
+    ("DC.L 0xFFFFFFFFF", "out of range"),
+    ("DC.L 18446744073709551621", "out of range"),
+    // A line that reads no number.
+    ("", "no number"),
+    (" \t", "no number"),
+    ("; DC.L 5", "no number"),
+    ("END", "no number"),
+    ("ENDX DC.L 5", "no number"),
+    ("NOP", "no number"),
+    ("X:", "no number"),
+    ("DC.L 5:", "no number"),
+    ("DS.L 5", "no number"),
+    ("X DS.B x", "no number"),
+    ("X: ORG 5", "no number"),
+    ("X: ; DS.L", "no number"),
+    ("MOVEQ #3O,D1", "no number"),
+    ("BRA +200", "no number"),
+    ("JMP 70000", "no number"),
 ];

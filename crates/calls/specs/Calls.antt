@@ -4,9 +4,15 @@ use mathlib.Core.Path.{_≡_}
 use mathlib.Core.Bool.{Bool, true, _&&_, cond}
 use mathlib.Core.List.{[], _∷_, _++_}
 use lib.Dec.{eqb, leb}
-use Rattle.rules.specs.Text.{Text}
+use Rattle.rules.specs.Text.{Text, bytes}
 use Rattle.rules.specs.Answer.{Answer, accepted, refused}
+use Rattle.rules.specs.Directive.{lineReading}
 use Rattle.requests.specs.Nearest.{Nearest, nearest}
+use Rattle.numeral.specs.declared.Failure.{Failure}
+use Rattle.numeral.specs.declared.Failure.the-variants.{NoDigits, BadDigit, OutOfRange}
+use Rattle.directive.specs.Directive.{lineNumberOf}
+use Rattle.directive.specs.declared.LineNumber.{LineNumber}
+use Rattle.directive.specs.declared.LineNumber.the-variants.{Value, Failed, Nothing}
 use Rattle.listing.specs.Listing.{decimal, refusedText}
 use Rattle.symtext.specs.Symlist.{symbolsText}
 
@@ -27,13 +33,28 @@ answeredText f (refused n p) = refusedText n p
 unfoldable pub nearestText : Nearest → Text
 nearestText n = (numberText (n .start) 32 ++ numberText (n .length) 32) ++ numberText (n .distance) 10
 
--- 2 is W-201, x its base and y its address; 3 is W-202, x its base, as `symlist` prints it; a call that is not known has no text
+-- W-204's four answers on a line's number, or that the line reads none
+unfoldable pub readText : ℕ → Text
+readText v = bytes "read " ++ numberText v 10
+
+abbrev pub failureText : Failure → Text
+failureText NoDigits = bytes "no digits\n"
+failureText BadDigit = bytes "bad digit\n"
+failureText OutOfRange = bytes "out of range\n"
+
+abbrev pub saidText : LineNumber → Text
+saidText (Value v) = readText v
+saidText (Failed x) = failureText x
+saidText Nothing = bytes "no number\n"
+
+-- 2 is W-201, x its base and y its address; 3 is W-202, x its base, as `symlist` prints it; 4 is W-204, s a line; a call that is not
+-- known has no text
 unfoldable pub callText : ℕ → ℕ → ℕ → Text → Text
-callText call x y s = cond (eqb call 2) (answeredText nearestText (nearest x s y)) (cond (eqb call 3) (symbolsText x s) [])
+callText call x y s = cond (eqb call 2) (answeredText nearestText (nearest x s y)) (cond (eqb call 3) (symbolsText x s) (cond (eqb call 4) (saidText (lineNumberOf (lineReading s))) []))
 
 -- the calls' numbers go on from the assembler's, which is 1, to the last one's
 abbrev lastCall : ℕ
-lastCall = 3
+lastCall = 4
 
 unfoldable pub isCall : ℕ → Bool
 isCall call = leb 2 call && leb call lastCall

@@ -1,8 +1,12 @@
 // Paper 02's calls by the numbers that they have in records, each answered as a text, and a recorded text compared with it.
+use directive::LineNumber;
+use directive::line_number;
+use listing::writing::write_bytes;
 use listing::writing::write_decimal;
 use listing::writing::write_refused;
 use nearest::Nearest;
 use nearest::nearest_label;
+use numeral::Failure;
 use symtext::write_symbols;
 use text::starts_with;
 ghost use mathlib.Core.Path.{_≡_};
@@ -13,8 +17,10 @@ ghost use lib.ListN.{length as len};
 ghost use Rattle.rules.specs.Text.{same};
 ghost use Rattle.text.specs.Spans.{overFrom};
 ghost use Rattle.station.specs.Printed.{Printed};
+ghost use Rattle.rules.specs.Directive.{lineReading};
+ghost use Rattle.directive.specs.Directive.{lineNumberOf};
 ghost use Rattle.requests.specs.Nearest.{nearest};
-ghost use Rattle.calls.specs.Calls.{numberText, answeredText, nearestText, callText, isCall, CallAgrees};
+ghost use Rattle.calls.specs.Calls.{numberText, answeredText, nearestText, readText, failureText, saidText, callText, isCall, CallAgrees};
 
 // The bytes of the longest text there is, a list's.
 pub const ROOM: usize = station::TEXT;
@@ -22,7 +28,7 @@ pub const ROOM: usize = station::TEXT;
 // The calls' numbers go on from the assembler's, which is 1.
 const FIRST: u8 = 2;
 
-const LAST: u8 = 3;
+const LAST: u8 = 4;
 
 // ---- Texts.
 
@@ -57,6 +63,45 @@ fn nearest_text(source: &[u8], base: u32, address: u32, out: &mut [u8; ROOM]) ->
     }
 }
 
+// Puts a number that was read at the front, and answers the text's length.
+fn write_value(v: u32, out: &mut [u8; ROOM]) -> usize
+    ensures { λ r. ⌜ Printed (readText v) r (now (out .entry)) (now (out .exit)) ⌝ }
+{
+    write_bytes(out, 0, b"read ");
+    write_number(out, 5, v as u64, b'\n')
+}
+
+// Puts a line's words at the front, and answers their length.
+fn write_words(words: &[u8], out: &mut [u8; ROOM]) -> usize
+    requires { ⌜ len (now words) ≤ 32 ⌝ }
+    ensures { λ r. ⌜ Printed (now (words .entry)) r (now (out .entry)) (now (out .exit)) ⌝ }
+{
+    write_bytes(out, 0, words);
+    words.len()
+}
+
+// Puts what failed in a number at the front, and answers the text's length.
+fn write_failure(failure: Failure, out: &mut [u8; ROOM]) -> usize
+    ensures { λ r. ⌜ Printed (failureText failure) r (now (out .entry)) (now (out .exit)) ⌝ }
+{
+    match failure {
+        Failure::NoDigits => write_words(b"no digits\n", out),
+        Failure::BadDigit => write_words(b"bad digit\n", out),
+        Failure::OutOfRange => write_words(b"out of range\n", out),
+    }
+}
+
+// Puts what the number of a line said at the front (W-204), and answers the text's length.
+fn line_number_text(line: &[u8], out: &mut [u8; ROOM]) -> usize
+    ensures { λ r. ⌜ Printed (saidText (lineNumberOf (lineReading (now (line .entry))))) r (now (out .entry)) (now (out .exit)) ⌝ }
+{
+    match line_number(line) {
+        LineNumber::Value(v) => write_value(v, out),
+        LineNumber::Failed(f) => write_failure(f, out),
+        LineNumber::Nothing => write_words(b"no number\n", out),
+    }
+}
+
 // Puts the text of a call at the front, and answers its length: none for a call that is not known.
 pub fn call_text(call: u8, x: u32, y: u32, source: &[u8], out: &mut [u8; ROOM]) -> usize
     ensures { λ r. ⌜ Printed (callText call x y (now (source .entry))) r (now (out .entry)) (now (out .exit)) ⌝ }
@@ -64,6 +109,7 @@ pub fn call_text(call: u8, x: u32, y: u32, source: &[u8], out: &mut [u8; ROOM]) 
     match call {
         2 => nearest_text(source, x, y, out),
         3 => write_symbols(source, x, out),
+        4 => line_number_text(source, out),
         _ => 0,
     }
 }

@@ -1,6 +1,7 @@
 -- A call from C passes on what the call below it answered, as numbers. Assumes nothing.
 use Prim.Native.Nat.{ℕ}
-use mathlib.Core.Path.{_≡_, ap, _∙_}
+use mathlib.Core.Path.{_≡_, sym, ap, _∙_}
+use mathlib.Core.Option.{Option}
 use mathlib.Core.List.{List}
 use lib.IntN.{ℤ}
 use Rattle.rules.specs.Text.{Text}
@@ -17,7 +18,12 @@ use Rattle.nearest.proofs.Answers.{named, not-named}
 use Rattle.nearest.specs.declared.Nearest.the-variants.{Label, Refused}
 use Rattle.requests.specs.Symbols.{Rows}
 use Rattle.symbols.specs.Symbols.{ListSymbolsGives}
-use Rattle.lagvettu.specs.Called.{Answers, Assembles, Moves, Lists, Nears, of-label, of-refusal}
+use Rattle.rules.specs.Number.{Reading}
+use Rattle.numeral.specs.declared.Failure.{Failure}
+use Rattle.directive.specs.declared.LineNumber.{LineNumber}
+use Rattle.directive.specs.declared.LineNumber.the-variants.{Failed}
+use Rattle.directive.specs.Directive.{lineNumberOf}
+use Rattle.lagvettu.specs.Called.{Answers, Assembles, Moves, Lists, Nears, of-label, of-refusal, failureNumber, saidNumber, saidValue, SaysNumber}
 
 module _ {r : Answer} {n p : ℕ} (hn : n ≡ answerNumber r) (hp : p ≡ answerPlace r) where
   passed-on : {a : Ruled ℕ} → r ≡ answerOf a → Answers a n p
@@ -37,3 +43,9 @@ nears-named a {s} {l} {d} e = rw (named a s l d e) (of-label (record { start = s
 
 pub nears-not : (a : Ruled Nearest) {n p : ℕ} → nearestOf a ≡ Refused n p → Nears a n 0 0 0 p
 nears-not a {n} {p} e = rw (not-named a n p e) (of-refusal n p)
+
+pub says : {o : Option (Reading ℕ)} {x y : LineNumber} → x ≡ lineNumberOf o → x ≡ y → SaysNumber o (saidNumber y) (saidValue y)
+says e f = record { number = ap saidNumber (sym f ∙ e); value = ap saidValue (sym f ∙ e) }
+
+pub says-failed : {o : Option (Reading ℕ)} {x : LineNumber} {f : Failure} {n : ℕ} → x ≡ lineNumberOf o → x ≡ Failed f → n ≡ failureNumber f → SaysNumber o n 0
+says-failed e f g = rw g (says e f)

@@ -1,11 +1,14 @@
 // The C interface: assembling at a base, moving, and paper 02's calls. An answer is the paper's number, 0 for accepted, and
 // its place or the count in a number that the caller lends. include/lagvettu.h declares the same functions.
+use directive::LineNumber;
 use nearest::Nearest;
+use numeral::Failure;
 ghost use mathlib.Core.Path.{_≡_};
 ghost use Rattle.rules.specs.Assemble.{slices};
+ghost use Rattle.rules.specs.Directive.{lineReading};
 ghost use Rattle.requests.specs.Nearest.{nearest};
 ghost use Rattle.requests.specs.Symbols.{rows};
-ghost use Rattle.lagvettu.specs.Called.{Assembles, Moves, Nears, Lists};
+ghost use Rattle.lagvettu.specs.Called.{Assembles, Moves, Nears, Lists, failureNumber, SaysNumber};
 
 // Assembles a source at a base: the list in the first places of the three slices, or a refusal and nothing written.
 #[no_mangle]
@@ -91,4 +94,37 @@ pub extern "C" fn lagvettu_symbols(
     let answer = symbols::list_symbols(source, base, starts, lengths, addresses, lines);
     *place = answer::place(answer);
     answer::number(answer)
+}
+
+// The number for what failed.
+fn failure_number(failure: Failure) -> u8
+    ensures { λ r. ⌜ r ≡ failureNumber failure ⌝ }
+{
+    match failure {
+        Failure::NoDigits => 1,
+        Failure::BadDigit => 2,
+        Failure::OutOfRange => 3,
+    }
+}
+
+// What the number of a line said: it was read, and its value; or what failed; or that the line reads none. Where it was not read,
+// the value is 0.
+#[no_mangle]
+pub extern "C" fn lagvettu_line_number(line: &[u8], value: &mut u32) -> u8
+    ensures { λ r. ⌜ SaysNumber (lineReading (now (line .entry))) r (now (value .exit)) ⌝ }
+{
+    match directive::line_number(line) {
+        LineNumber::Value(v) => {
+            *value = v;
+            0
+        }
+        LineNumber::Failed(f) => {
+            *value = 0;
+            failure_number(f)
+        }
+        LineNumber::Nothing => {
+            *value = 0;
+            4
+        }
+    }
 }

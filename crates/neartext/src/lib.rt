@@ -1,11 +1,9 @@
 // What `nearlabel` prints for a script that was read chunk by chunk: the label nearest to an address (W-201); and what its
 // arguments ask.
 ghost use mathlib.Core.Path.{_≡_};
-ghost use mathlib.Core.Option.{Option};
-ghost use Prim.Native.Nat.{ℕ, _≤_};
+ghost use Prim.Native.Nat.{_≤_};
 ghost use lib.ListN.{length as len, take};
 ghost use Rattle.rules.specs.Text.{Text};
-ghost use Rattle.numeral.specs.Number.{numberOf};
 ghost use Rattle.station.specs.Station.{unlessFailed, inputText};
 ghost use Rattle.station.specs.Printed.{Printed};
 ghost use Rattle.station.specs.Reads.{Reads};
@@ -32,7 +30,7 @@ pub enum Asked {
 
 // What an address and a base ask, as they are read.
 fn asked_at(address: Number, base: Number) -> Asked
-    ensures { λ r. ⌜ ((o p : Option ℕ) → address ≡ numberOf o → base ≡ numberOf p → r ≡ askedAt o p) ⌝ }
+    ensures { λ r. ⌜ r ≡ askedAt address base ⌝ }
 {
     let Number::Value(a) = address else {
         return Asked::Wrong;

@@ -1,14 +1,14 @@
 -- The texts that the programs at the station print: `asmlist` for a script, `movelist` for a text and a distance. Assumes nothing.
 use Prim.Native.Nat.{ℕ, _^_}
 use mathlib.Core.Bool.{Bool, cond}
-use mathlib.Core.Option.{Option, Option·getD}
+use mathlib.Core.Option.{Option·getD}
 use mathlib.Core.List.{List, [], _∷_, _++_, map}
 use lib.IntN.{ℤ}
 use lib.Dec.{eqb, ltb}
 use lib.ListN.{take}
 use Rattle.rules.specs.Limits.{maxSource}
 use Rattle.rules.specs.Text.{Text, bytes}
-use Rattle.rules.specs.Number.{number, signed, hexTail}
+use Rattle.rules.specs.Number.{Reading, unsignedReading, signed, hexTail}
 use Rattle.rules.specs.Answer.{Answer as Ruled, accepted, refused}
 use Rattle.rules.specs.Assemble.{Place, Slices, slices, assemble}
 use Rattle.rules.specs.Relocate.{moveAnswer, moveSlices}
@@ -87,5 +87,5 @@ unfoldable pub givenDistance : ℕ → Text → Distance
 givenDistance count t = cond (eqb count 2) (distanceOf (signed 10 (2 ^ 31) t)) NoDistance
 
 -- a number of 32 bits in hexadecimal, with or without a prefix
-unfoldable pub hexadecimalIn : Text → Option ℕ
-hexadecimalIn t = number 16 (2 ^ 32) (Option·getD (hexTail t) t)
+unfoldable pub hexadecimalIn : Text → Reading ℕ
+hexadecimalIn t = unsignedReading 16 (2 ^ 32) (Option·getD (hexTail t) t)

@@ -1,6 +1,4 @@
 -- `asked_by` meets its contract, by how many arguments there are. Assumes nothing.
-use mathlib.Core.Path.{refl}
-use mathlib.Core.Option.{some}
 use borrow.Author.Tests.{eq-eqb, ne-eqb}
 use Rattle.neartext.specs.NearLabel.{askedBy}
 use borrow.Author.Needs.{needs}
@@ -9,13 +7,14 @@ use Rattle.neartext.proofs.asked_by.Tie as tie
 
 returns : tie.Need-returns
 unfolding askedBy
-returns c = rw (eq-eqb _ _ (c .before .before .if1 .taken)) (c .asked-at .ensures _ (some 0) (c .before .hexadecimal .ensures) refl)
+returns c = rw (eq-eqb _ _ (c .before .before .if1 .taken), ← (c .before .hexadecimal .ensures)) (c .asked-at .ensures)
 
 returns-2 : tie.Need-returns-2
 unfolding askedBy
 returns-2 c =
-    rw (ne-eqb _ _ (c .before .before .before .before .if1 .left), eq-eqb _ _ (c .before .before .before .if2 .taken))
-    (c .asked-at2 .ensures _ _ (c .before .before .hexadecimal2 .ensures) (c .before .hexadecimal3 .ensures))
+    rw
+    (ne-eqb _ _ (c .before .before .before .before .if1 .left), eq-eqb _ _ (c .before .before .before .if2 .taken), ← (c .before .before .hexadecimal2 .ensures), ← (c .before .hexadecimal3 .ensures))
+    (c .asked-at2 .ensures)
 
 returns-3 : tie.Need-returns-3
 unfolding askedBy

@@ -9,7 +9,7 @@ use lib.Dec.{eqb}
 use lib.ListN.{length, take, drop}
 use borrow.Author.Tests.{eqb-true, eqb-false}
 use Rattle.rules.specs.Text.{Text}
-use Rattle.rules.specs.Number.{number, hexTail}
+use Rattle.rules.specs.Number.{unsignedReading, hexTail}
 use Rattle.numeral.specs.Number.{numberOf, prefixLength}
 use Rattle.numeral.proofs.Prefix.{prefix-in, rest, unprefixed, prefixed}
 use Rattle.station.specs.Station.{hexadecimalIn}
@@ -33,7 +33,7 @@ part-read-number-start c = omega (arith, prefix-in (now (c .before .before .args
 
 returns : tie.Need-returns
 unfolding hexadecimalIn
-returns c = c .read-number .ensures ∙ ap (λ t. numberOf (number 16 4294967296 t)) (bare _ _ (c .before .before .prefix-length .ensures))
+returns c = c .read-number .ensures ∙ ap (λ t. numberOf (unsignedReading 16 4294967296 t)) (bare _ _ (c .before .before .prefix-length .ensures))
 
 pub hexadecimal-spec : {M : Type 1} → statement M
 hexadecimal-spec =
