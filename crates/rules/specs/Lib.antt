@@ -5,6 +5,7 @@ pub mod Line
 pub mod Directive
 pub mod Label
 pub mod Encode
+pub mod Forms
 pub mod Answer
 pub mod Assemble
 pub mod Relocate
