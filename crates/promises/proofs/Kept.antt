@@ -18,12 +18,12 @@ use Rattle.promises.proofs.Compared.{clash}
 use Rattle.promises.proofs.RustText.{same-eq}
 
 -- names that do not compare the same are not equal
-same-self : (s : Text) → same s s ≡ true
+pub same-self : (s : Text) → same s s ≡ true
 unfolding same
 same-self [] = refl
 same-self (b ∷ s) = rw (eq-eqb b b refl, same) (same-self s)
 
-not-same : (s t : Text) → same s t ≡ false → s ≢ t
+pub not-same : (s t : Text) → same s t ≡ false → s ≢ t
 not-same s t e f = let u : true ≡ false = sym (same-self s) ∙ ap (same s) f ∙ e in clash cc
 
 -- no two labels of a table have one name

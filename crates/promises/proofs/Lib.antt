@@ -15,6 +15,7 @@ pub mod Demand1Written
 pub mod Demand1
 pub mod ManualLaws
 pub mod ManualLines
+pub mod Asked
 pub mod ManualLists
 pub mod ManualFields
 pub mod ManualForms
@@ -50,3 +51,14 @@ pub mod SymbolsFit
 pub mod SymbolsRows
 pub mod Readings
 pub mod Directives
+pub mod Decided
+pub mod OperandKinds
+pub mod Forms
+pub mod OperandTests
+pub mod Reasons
+pub mod Verdicts
+pub mod LineVerdicts
+pub mod LineWords
+pub mod Explain
+pub mod ExplainMoves
+pub mod ExplainCases

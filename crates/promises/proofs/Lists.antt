@@ -1,8 +1,8 @@
 -- Laws of lists that the library has not: a property of all elements, the element at an index, `flatMap` under a map. Assumes nothing.
 use Prim.Native.Nat.{ℕ, zero, suc}
-use mathlib.Core.Path.{_≡_, refl, subst}
+use mathlib.Core.Path.{_≡_, refl, sym, subst}
 use mathlib.Core.Option.{some, Option·map, Option·some-injective, Option·none-ne-some}
-use mathlib.Core.List.{List, [], _∷_, map, flatMap, _++_, map-append}
+use mathlib.Core.List.{List, [], _∷_, map, flatMap, _++_, append-assoc, map-append}
 use lib.ListN.{getElem?}
 
 -- each element has the property
@@ -25,6 +25,12 @@ module _ {B : Type 0} (Q : B → Type 0) where
   unfolding flatMap
   all-flatMap P f e [] h = tt
   all-flatMap P f e (x ∷ xs) h = all-append (f x) (flatMap f xs) (e x (h .0)) (all-flatMap P f e xs (h .1))
+
+-- `flatMap` of two lists, one after the other
+pub flatMap-append : {A B : Type 0} (f : A → List B) (xs ys : List A) → flatMap f (xs ++ ys) ≡ flatMap f xs ++ flatMap f ys
+unfolding flatMap
+flatMap-append f [] ys = refl
+flatMap-append f (x ∷ xs) ys = rw (flatMap-append f xs ys) (sym (append-assoc (f x) (flatMap f xs) (flatMap f ys)))
 
 -- `flatMap` after a map g, where f after g is a map h after f′
 pub flatMap-by : {A B : Type 0} (g : A → A) (h : B → B) (f f′ : A → List B) → ((x : A) → f (g x) ≡ map h (f′ x)) → (xs : List A) → flatMap f (map g xs) ≡ map h (flatMap f′ xs)

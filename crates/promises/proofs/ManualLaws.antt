@@ -18,7 +18,7 @@ use Rattle.manual.specs.Manual.{InByte, byte, signOf, quick, quickOf, displacem
 use Rattle.promises.specs.Demand2Manual.{D, atA, InReach, Displaced, label, signedNumber, BytesReadBack, QuickReadsBack}
 
 -- a digit byte reads as its digit
-digit : (n : ℕ) → n < 8 → digitValue (48 + n) ≡ n
+pub digit : (n : ℕ) → n < 8 → digitValue (48 + n) ≡ n
 unfolding digitValue
 digit n h = rw (le-leb 48 (48 + n) (omega arith), le-leb (48 + n) 57 (omega arith)) (omega arith)
 

@@ -286,7 +286,7 @@ told-shift b a none = refl
 told-shift b a (some l) = let e : b + a - (b + l .address) ≡ a - l .address = omega arith in rw e
 
 -- the pass at b is the pass at 0, shifted
-pass-at : (b : ℕ) (s : Text) (p : Pass) → passAt b s ≡ accepted p → (q : Pass) × (passAt 0 s ≡ accepted q) × (p ≡ shiftPass b q)
+pub pass-at : (b : ℕ) (s : Text) (p : Pass) → passAt b s ≡ accepted p → (q : Pass) × (passAt 0 s ≡ accepted q) × (p ≡ shiftPass b q)
 unfolding passAtBy andThen refuseIf
 pass-at b s p e = go (firstPassBy size 0 0 [] (linesOf s)) refl (pass-shift size b p 0 [] (linesOf s) accepted (rw (add-zero b, k .1)))
   where

@@ -47,7 +47,7 @@ or-right : (x y : Bool) → y ≡ true → (x || y) ≡ true
 or-right true y e = refl
 or-right false y e = e
 
-and-both : (x y : Bool) → (x && y) ≡ true → (x ≡ true) × (y ≡ true)
+pub and-both : (x y : Bool) → (x && y) ≡ true → (x ≡ true) × (y ≡ true)
 and-both true y e = (refl, e)
 and-both false y e = clash cc
 

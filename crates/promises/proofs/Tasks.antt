@@ -28,7 +28,7 @@ next-address z base a (value n v) = refl
 next-address z base a (space n) = refl
 
 -- END, by the rules' test
-is-end : (k : Task) → isEnd k ≡ true → k ≡ end
+pub is-end : (k : Task) → isEnd k ≡ true → k ≡ end
 unfolding isEnd
 is-end skipped e = clash cc
 is-end end e = refl
@@ -39,7 +39,7 @@ is-end (instruction i) e = clash cc
 is-end (value n v) e = clash cc
 is-end (space n) e = clash cc
 
-not-end : (k : Task) → isEnd k ≡ false → k ≢ end
+pub not-end : (k : Task) → isEnd k ≡ false → k ≢ end
 unfolding isEnd
 not-end k e f = let u : true ≡ false = rw f at e in clash cc
 

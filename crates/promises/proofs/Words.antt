@@ -1,6 +1,7 @@
 -- The words of an instruction: under a shift only label addresses change, and there are at most two words. Assumes nothing.
 use Prim.Native.Nat.{ℕ, zero, suc, _+_, _-_, _≤_}
 use mathlib.Core.Path.{_≡_, refl, sym, _∙_}
+use mathlib.Core.Logic.{_≢_}
 use mathlib.Core.Bool.{Bool, true, false, cond}
 use mathlib.Core.Option.{Option, none, some, Option·map, Option·getD, bind, orElse}
 use mathlib.Core.List.{List, [], _∷_}
@@ -15,6 +16,7 @@ use Rattle.rules.specs.Label.{Table}
 use Rattle.rules.specs.Encode.{Content, literal, Operation, moveq, move, movea, muls, tst, subq, asl, dbra, nop, simhalt, add, sub, cmp, jmp, branch, two, one, oneOrMore, reach, displacement, isSome, jumps, withLabel, registersRow, highRow, lowRow, fromIndirect, toIndirect, fromLabel, toLabel, moveRows, moveaRow, mulsRows, cmpRows, moveqRow, quickRow, tstRow, jumpRow, dbraRow, branchRow, encodeOperation, Mnemonic, encodeBy}
 use Rattle.rules.specs.Assemble.{wordsBy}
 use Rattle.promises.specs.Lawful.{shiftTable, shiftContent, shiftContents}
+use Rattle.promises.proofs.Compared.{clash}
 use Rattle.promises.proofs.Shift.{find-shift}
 
 -- a function of the value goes into each combinator that the encoders are made of
@@ -60,7 +62,7 @@ unfolding bind
 bind-mapped g none f = refl
 bind-mapped g (some x) f = refl
 
-isSome-mapped : {X Y : Type 0} (g : X → Y) (o : Option X) → isSome (Option·map g o) ≡ isSome o
+pub isSome-mapped : {X Y : Type 0} (g : X → Y) (o : Option X) → isSome (Option·map g o) ≡ isSome o
 unfolding isSome
 isSome-mapped g none = refl
 isSome-mapped g (some x) = refl
@@ -78,15 +80,15 @@ sub-shift b x y =
     rw (e, m, n)
 
 -- so a displacement and a jump do not change
-reach-shift : (b t a : ℕ) → reach (b + t) (b + a) ≡ reach t a
+pub reach-shift : (b t a : ℕ) → reach (b + t) (b + a) ≡ reach t a
 unfolding reach
 reach-shift b t a = rw (add-assoc b a 2, sub-shift b t (a + 2))
 
-displacement-shift : (b : ℕ) (ls : Table) (a : ℕ) (s : Text) → displacement (shiftTable b ls) (b + a) s ≡ displacement ls a s
+pub displacement-shift : (b : ℕ) (ls : Table) (a : ℕ) (s : Text) → displacement (shiftTable b ls) (b + a) s ≡ displacement ls a s
 unfolding displacement
 displacement-shift b ls a s = simp (find-shift, bind-mapped, reach-shift)
 
-jumps-shift : (b : ℕ) (ls : Table) (s : Text) → jumps (shiftTable b ls) s ≡ jumps ls s
+pub jumps-shift : (b : ℕ) (ls : Table) (s : Text) → jumps (shiftTable b ls) s ≡ jumps ls s
 unfolding jumps
 jumps-shift b ls s = simp (find-shift, isSome-mapped)
 
@@ -99,6 +101,15 @@ withLabel-shift b ls w l = simp (find-shift, bind-mapped, bind-map)
 withLabel-two : (ls : Table) (w : ℕ) (l : Text) → Option·map (take 2) (withLabel ls w l) ≡ withLabel ls w l
 unfolding withLabel
 withLabel-two ls w l = simp bind-map
+
+-- a word put where there is none
+filled : List Content → List Content
+filled [] = literal 0 ∷ []
+filled (c ∷ cs) = c ∷ cs
+
+withLabel-filled : (ls : Table) (w : ℕ) (l : Text) → Option·map filled (withLabel ls w l) ≡ withLabel ls w l
+unfolding withLabel filled
+withLabel-filled ls w l = simp bind-map
 
 length-two : (o : Option (List Content)) → length (Option·getD (Option·map (take 2) o) []) ≤ 2
 length-two none = omega arith
@@ -157,3 +168,8 @@ module _ (names : List Mnemonic) where
 
   pub at-most-two : (ls : Table) (a : ℕ) (i : Instruction) → length (wordsBy (encodeBy names) ls a i) ≤ 2
   at-most-two ls a i = rw (encode-two ls a i) at (length-two (encodeBy names ls a i))
+
+  -- an instruction that has words has one at least: an empty list of words, filled, is not the encoder's
+  pub some-words : (ls : Table) (a : ℕ) (i : Instruction) (cs : List Content) → encodeBy names ls a i ≡ some cs → cs ≢ []
+  unfolding filled
+  some-words ls a i cs e f = let u = rw (e, f) at (encode-by filled ls ls a a (λ w. refl) (λ w v. refl) (withLabel-filled ls) (λ s. refl) (λ s. refl) names i) in clash cc

@@ -11,3 +11,5 @@ pub mod Longest
 pub mod Nearest
 pub mod Symbols
 pub mod Readings
+pub mod Explain
+pub mod ExplainCases

@@ -3,3 +3,4 @@ pub mod Lines
 pub mod Standing
 pub mod Names
 pub mod Readings
+pub mod Operands
