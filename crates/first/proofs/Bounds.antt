@@ -34,6 +34,7 @@ refuse-at (some k) n a e = absurd (false≢true cc)
 
 pub record InLimits (base : ℕ) (s : Text) (p : Pass) : Type 0 where
   pub short : length s ≤ maxSource
+  pub few : length (cutAt 10 s) ≤ maxLines
   pub low : base < addressLimit
   pub passed : firstPass base base [] (linesOf s) ≡ accepted p
   pub stops : stoppedAt base s ≡ p
@@ -51,6 +52,7 @@ within base s p e =
     let e₄ = rw four at e₃ in
     record {
       short = ltb-false maxSource (length s) one;
+      few = ltb-false maxLines (length (cutAt 10 s)) three;
       low = leb-false addressLimit base four;
       passed = e₄;
       stops = rw (one, two, three, four) (stop-accepted base base [] (linesOf s) p e₄);

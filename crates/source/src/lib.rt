@@ -52,7 +52,7 @@ fn first_high(s: &[u8]) -> text::Found
 }
 
 // How many lines the source has. The count is small, so that many bytes are looked at at a time.
-fn count_lines(s: &[u8]) -> usize
+pub fn count_lines(s: &[u8]) -> usize
     requires { ⌜ length (now s) ≤ maxSource ⌝ }
     ensures { λ r. ⌜ r ≡ length (cutAt 10 (now (s .entry))) ⌝ }
 {
