@@ -1,0 +1,6 @@
+mod Fits
+mod OperandKinds
+mod Trying
+mod Operations
+mod Lines
+mod Writing

@@ -1,0 +1,5 @@
+pub mod Near
+pub mod Verdict
+pub mod Operand
+pub mod Form
+pub mod Lines
