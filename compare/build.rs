@@ -1,4 +1,4 @@
-// Finds the Rust original and the static library: ASSEMBLER_RS names the one, LAGVETTU_LIB the folder of the other.
+// Finds the Rust original and the two static libraries: ASSEMBLER_RS names the one, LAGVETTU_LIB the folder of the others.
 use std::{env, fs, path::PathBuf};
 
 fn main() {
@@ -20,11 +20,16 @@ fn main() {
     let library = env::var("LAGVETTU_LIB")
         .map(PathBuf::from)
         .unwrap_or_else(|_| here.join("../target/staticlib"));
-    if library.join("liblagvettu.a").exists() {
+    let archives = ["lagvettu", "lagvettu02"].map(|name| (name, library.join(format!("lib{name}.a"))));
+    if archives.iter().all(|(_, file)| file.exists()) {
         println!("cargo:rustc-link-search=native={}", library.display());
-        println!("cargo:rustc-link-lib=static=lagvettu");
         println!("cargo:rustc-cfg=linked");
     }
-    println!("cargo:rerun-if-changed={}", library.join("liblagvettu.a").display());
+    for (name, file) in archives {
+        if file.exists() {
+            println!("cargo:rustc-link-lib=static={name}");
+        }
+        println!("cargo:rerun-if-changed={}", file.display());
+    }
     println!("cargo:rustc-check-cfg=cfg(linked)");
 }

@@ -61,10 +61,29 @@ static void line_number(void)
     }
 }
 
+static void explain(void)
+{
+    static const struct { const char *script; size_t line; uint8_t number, verdict; size_t place; } examples[] = {
+        {"MOVE.L LIM,D2\nNOP", 1, LAGVETTU_ACCEPTED, LAGVETTU_LABEL_NOT_RECORDED, 0},
+        {"MOVE.L LIM,D2\nNOP", 2, LAGVETTU_ACCEPTED, LAGVETTU_WORD_EMITTED, 0},
+        {"MOVE.L LIM,D2\nNOP", 3, LAGVETTU_NO_SUCH_LINE, LAGVETTU_NO_VERDICT, 3},
+        {"MOVEQ #3O,D1", 1, LAGVETTU_ACCEPTED, LAGVETTU_NUMBER_BAD_DIGIT, 0},
+        {"BRA D0", 1, LAGVETTU_ACCEPTED, LAGVETTU_OPERAND_KINDS, 0},
+    };
+    for (size_t i = 0; i < sizeof examples / sizeof *examples; i++) {
+        uint8_t verdict;
+        size_t place;
+        const char *script = examples[i].script;
+        uint8_t number = lagvettu_explain(bytes(script), strlen(script), 0, examples[i].line, &verdict, &place);
+        expect(number == examples[i].number && verdict == examples[i].verdict && place == examples[i].place, script);
+    }
+}
+
 int main(void)
 {
     nearest();
     symbols();
     line_number();
+    explain();
     return wrong;
 }

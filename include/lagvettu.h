@@ -11,6 +11,8 @@
  *
  * An answer is a number: LAGVETTU_ACCEPTED, with the count in *place, or else a refusal of enum lagvettu_refusal, with its
  * place in *place. A refused call changes no slice. *place is written by each call.
+ *
+ * Paper 01's two calls are in liblagvettu.a, those of paper 02 in liblagvettu02.a: -llagvettu, -llagvettu02, or both.
  */
 #ifndef LAGVETTU_H
 #define LAGVETTU_H
@@ -42,7 +44,8 @@ enum lagvettu_refusal {
     LAGVETTU_MOVED_OUTSIDE = 11,    /* a moved address, in those places, below 0 or above 2^30 + 1; place its index */
 
     /* From what is asked. */
-    LAGVETTU_NO_LABEL_NEAR = 12     /* no label at or below the address; place 0 */
+    LAGVETTU_NO_LABEL_NEAR = 12,    /* no label at or below the address; place 0 */
+    LAGVETTU_NO_SUCH_LINE = 13      /* the line doesn't exist or is never read; place the line */
 };
 
 /* What the number of a line said. */
@@ -52,6 +55,21 @@ enum lagvettu_reading {
     LAGVETTU_BAD_DIGIT = 2,     /* a byte, however late, that is no digit of the radix; a sign that is not allowed too */
     LAGVETTU_OUT_OF_RANGE = 3,  /* the value does not fit into 32 bits */
     LAGVETTU_NO_NUMBER = 4      /* the line reads no number: it is no ORG, and has no `DC.` */
+};
+
+/* Why a line has no word: of the reasons, the first that holds. */
+enum lagvettu_verdict {
+    LAGVETTU_WORD_EMITTED = 0,           /* it has one; a DC line with a value too */
+    LAGVETTU_NOT_AN_INSTRUCTION = 1,     /* skipped, ORG, END, a label only, or data without a value */
+    LAGVETTU_UNKNOWN_MNEMONIC = 2,
+    LAGVETTU_WRONG_OPERAND_COUNT = 3,
+    LAGVETTU_OPERAND_KINDS = 4,          /* kinds that no form of the mnemonic has */
+    LAGVETTU_NUMBER_NO_DIGITS = 5,       /* a number, and what failed in it */
+    LAGVETTU_NUMBER_BAD_DIGIT = 6,
+    LAGVETTU_NUMBER_OUT_OF_RANGE = 7,
+    LAGVETTU_LABEL_NOT_RECORDED = 8,
+    LAGVETTU_DISPLACEMENT_OUT_OF_RANGE = 9,
+    LAGVETTU_NO_VERDICT = 255            /* the call was refused */
 };
 
 /* The longest source that is not refused, in bytes. */
@@ -126,6 +144,20 @@ uint8_t lagvettu_symbols(const uint8_t *source, size_t source_length,
  *     "DC.B 4294967296": LAGVETTU_OUT_OF_RANGE.   "MOVEQ #3O,D1": LAGVETTU_NO_NUMBER.
  */
 uint8_t lagvettu_line_number(const uint8_t *line, size_t line_length, uint32_t *value);
+
+/*
+ * Why has a line no word? *verdict is LAGVETTU_WORD_EMITTED, or the first of the reasons that holds of that line, counted from 1, in
+ * a source assembled at a base. Checks 1 to 6 as lagvettu_assemble, then 13: there is no such line, or it follows END. When it
+ * accepts, *place is 0; when it refuses, *verdict is LAGVETTU_NO_VERDICT.
+ *
+ *     "MOVE.L LIM,D2\nNOP" at base 0: line 1 LAGVETTU_LABEL_NOT_RECORDED, line 2 LAGVETTU_WORD_EMITTED, line 3 refused by 13.
+ *     "MOVEQ #3O,D1": line 1 LAGVETTU_NUMBER_BAD_DIGIT.   "BRA D0": line 1 LAGVETTU_OPERAND_KINDS.
+ */
+uint8_t lagvettu_explain(const uint8_t *source, size_t source_length,
+                         uint32_t base,
+                         size_t line,
+                         uint8_t *verdict,
+                         size_t *place);
 
 #ifdef __cplusplus
 }

@@ -1,51 +1,20 @@
 -- A call from C passes on what the call below it answered, as numbers. Assumes nothing.
 use Prim.Native.Nat.{ℕ}
-use mathlib.Core.Path.{_≡_, sym, ap, _∙_}
-use mathlib.Core.Option.{Option}
+use mathlib.Core.Path.{_≡_}
 use mathlib.Core.List.{List}
 use lib.IntN.{ℤ}
 use Rattle.rules.specs.Text.{Text}
-use Rattle.rules.specs.Answer.{Answer as Ruled}
 use Rattle.rules.specs.Assemble.{Slices}
 use Rattle.answer.specs.declared.Answer.{Answer}
-use Rattle.answer.specs.Answer.{answerOf}
+use Rattle.answer.specs.Answer.{answerNumber, answerPlace}
+use Rattle.answer.proofs.Called.{passed-on}
 use Rattle.assemble.specs.Assembled.{Assembled}
 use Rattle.relocate.specs.Moved.{Moved}
-use Rattle.answer.specs.Answer.{answerNumber, answerPlace}
-use Rattle.requests.specs.Nearest.{Nearest}
-use Rattle.nearest.specs.Nearest.{nearestOf}
-use Rattle.nearest.proofs.Answers.{named, not-named}
-use Rattle.nearest.specs.declared.Nearest.the-variants.{Label, Refused}
-use Rattle.requests.specs.Symbols.{Rows}
-use Rattle.symbols.specs.Symbols.{ListSymbolsGives}
-use Rattle.rules.specs.Number.{Reading}
-use Rattle.numeral.specs.declared.Failure.{Failure}
-use Rattle.directive.specs.declared.LineNumber.{LineNumber}
-use Rattle.directive.specs.declared.LineNumber.the-variants.{Failed}
-use Rattle.directive.specs.Directive.{lineNumberOf}
-use Rattle.lagvettu.specs.Called.{Answers, Assembles, Moves, Lists, Nears, of-label, of-refusal, failureNumber, saidNumber, saidValue, SaysNumber}
+use Rattle.lagvettu.specs.Called.{Assembles, Moves}
 
 module _ {r : Answer} {n p : ℕ} (hn : n ≡ answerNumber r) (hp : p ≡ answerPlace r) where
-  passed-on : {a : Ruled ℕ} → r ≡ answerOf a → Answers a n p
-  passed-on e = record { number = hn ∙ ap answerNumber e; place = hp ∙ ap answerPlace e }
-
   pub assembles : {base : ℕ} {source : Text} {x y : Slices} → Assembled base source x r y → Assembles base source x n p y
-  assembles h = record { answer = passed-on (h .answer); slices = h .slices }
+  assembles h = record { answer = passed-on hn hp (h .answer); slices = h .slices }
 
   pub moves : {x : Slices} {count : ℕ} {distance : ℤ} {xs ws : List ℕ} → Moved x count distance r xs ws → Moves x count distance n p xs ws
-  moves h = record { answer = passed-on (h .answer); addresses = h .addresses; words = h .words }
-
-  pub lists : {base : ℕ} {source : Text} {x y : Rows} → ListSymbolsGives base source x r y → Lists base source x n p y
-  lists h = record { answer = passed-on (h .answered); rows = h .written }
-
-pub nears-named : (a : Ruled Nearest) {s l d : ℕ} → nearestOf a ≡ Label s l d → Nears a 0 s l d 0
-nears-named a {s} {l} {d} e = rw (named a s l d e) (of-label (record { start = s; length = l; distance = d }))
-
-pub nears-not : (a : Ruled Nearest) {n p : ℕ} → nearestOf a ≡ Refused n p → Nears a n 0 0 0 p
-nears-not a {n} {p} e = rw (not-named a n p e) (of-refusal n p)
-
-pub says : {o : Option (Reading ℕ)} {x y : LineNumber} → x ≡ lineNumberOf o → x ≡ y → SaysNumber o (saidNumber y) (saidValue y)
-says e f = record { number = ap saidNumber (sym f ∙ e); value = ap saidValue (sym f ∙ e) }
-
-pub says-failed : {o : Option (Reading ℕ)} {x : LineNumber} {f : Failure} {n : ℕ} → x ≡ lineNumberOf o → x ≡ Failed f → n ≡ failureNumber f → SaysNumber o n 0
-says-failed e f g = rw g (says e f)
+  moves h = record { answer = passed-on hn hp (h .answer); addresses = h .addresses; words = h .words }

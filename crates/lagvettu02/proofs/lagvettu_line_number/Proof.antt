@@ -1,8 +1,8 @@
 -- `lagvettu_line_number` meets its contract: it passes on what the line's number said. Assumes nothing.
 use borrow.Author.Needs.{needs}
-use Rattle.lagvettu.proofs.Called.{says, says-failed}
-use Rattle.lagvettu.proofs.lagvettu_line_number.Statement.{statement}
-use Rattle.lagvettu.proofs.lagvettu_line_number.Tie as tie
+use Rattle.lagvettu02.proofs.Called.{says, says-failed}
+use Rattle.lagvettu02.proofs.lagvettu_line_number.Statement.{statement}
+use Rattle.lagvettu02.proofs.lagvettu_line_number.Tie as tie
 
 returns : tie.Need-returns
 returns c = says (c .before .before .before .line-number .ensures) (c .before .v .given .1)

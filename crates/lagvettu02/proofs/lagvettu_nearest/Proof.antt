@@ -1,9 +1,9 @@
 -- `lagvettu_nearest` meets its contract: it passes on the numbers of the label, or the refusal's. Assumes nothing.
 use mathlib.Core.Path.{sym, _∙_}
 use borrow.Author.Needs.{needs}
-use Rattle.lagvettu.proofs.Called.{nears-named, nears-not}
-use Rattle.lagvettu.proofs.lagvettu_nearest.Statement.{statement}
-use Rattle.lagvettu.proofs.lagvettu_nearest.Tie as tie
+use Rattle.lagvettu02.proofs.Called.{nears-named, nears-not}
+use Rattle.lagvettu02.proofs.lagvettu_nearest.Statement.{statement}
+use Rattle.lagvettu02.proofs.lagvettu_nearest.Tie as tie
 
 returns : tie.Need-returns
 returns c = nears-named _ (sym (c .before .before .before .nearest-label .ensures) ∙ c .before .s .given .1)
