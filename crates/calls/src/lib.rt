@@ -9,6 +9,7 @@ use nearest::nearest_label;
 use numeral::Failure;
 use symtext::write_symbols;
 use text::starts_with;
+use whytext::write_line_verdict;
 ghost use mathlib.Core.Path.{_≡_};
 ghost use mathlib.Core.Bool.{true};
 ghost use mathlib.Core.Logic.{_↔_};
@@ -28,7 +29,7 @@ pub const ROOM: usize = station::TEXT;
 // The calls' numbers go on from the assembler's, which is 1.
 const FIRST: u8 = 2;
 
-const LAST: u8 = 4;
+const LAST: u8 = 5;
 
 // ---- Texts.
 
@@ -110,6 +111,7 @@ pub fn call_text(call: u8, x: u32, y: u32, source: &[u8], out: &mut [u8; ROOM]) 
         2 => nearest_text(source, x, y, out),
         3 => write_symbols(source, x, out),
         4 => line_number_text(source, out),
+        5 => write_line_verdict(source, x, y as usize, out),
         _ => 0,
     }
 }

@@ -20,7 +20,25 @@ returns-3 c = rw (c .before .before .match .keys3) (c .line-number-text .ensures
 
 returns-4 : tie.Need-returns-4
 unfolding callText
-returns-4 c = rw (ne-eqb _ 2 (c .match .rest .0 .0 .1), ne-eqb _ 3 (c .match .rest .0 .1), ne-eqb _ 4 (c .match .rest .1)) (printed-none _)
+returns-4 c = rw (c .before .before .match .keys4) (c .write-line-verdict .ensures)
+
+returns-5 : tie.Need-returns-5
+unfolding callText
+returns-5 c =
+    rw
+    (ne-eqb _ 2 (c .match .rest .0 .0 .0 .1), ne-eqb _ 3 (c .match .rest .0 .0 .1), ne-eqb _ 4 (c .match .rest .0 .1), ne-eqb _ 5 (c .match .rest .1))
+    (printed-none _)
 
 pub call-text-spec : {M : Type 1} → statement M
-call-text-spec = tie.close (tie.spec (λ c κs. search needs) (λ c κs. search needs) (λ c κs. search needs) returns returns-2 returns-3 returns-4)
+call-text-spec =
+    tie.close
+    (tie.spec
+    (λ c κs. search needs)
+    (λ c κs. search needs)
+    (λ c κs. search needs)
+    (λ c κs. search needs)
+    returns
+    returns-2
+    returns-3
+    returns-4
+    returns-5)
