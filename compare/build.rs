@@ -11,7 +11,7 @@ fn main() {
     let out = PathBuf::from(env::var("OUT_DIR").unwrap());
     fs::write(
         out.join("original.rs"),
-        format!("#[path = {:?}]\n#[allow(dead_code)]\npub mod original;\n", original),
+        format!("#[path = {:?}]\n#[allow(dead_code, unused_variables)]\npub mod original;\n", original),
     )
     .unwrap();
     println!("cargo:rerun-if-env-changed=ASSEMBLER_RS");

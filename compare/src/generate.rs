@@ -57,6 +57,18 @@ pub fn script(r: &mut Random, lines: usize) -> String {
     out
 }
 
+/// A script with instructions put in that have a form's kinds, and often no word.
+pub fn script_with_faults(r: &mut Random, lines: usize) -> String {
+    let mut out = Vec::new();
+    for line in script(r, lines).split('\n') {
+        out.push(line.to_string());
+        if r.one_in(3) {
+            out.push(almost(r));
+        }
+    }
+    out.join("\n")
+}
+
 fn line(r: &mut Random, out: &mut String) {
     if r.one_in(4) {
         out.push_str(r.pick(&BLANKS));
@@ -228,6 +240,39 @@ fn instruction(r: &mut Random, out: &mut String) {
         if r.one_in(30) {
             out.push(',');
         }
+    }
+}
+
+/// Numbers that are not whole: nothing behind a prefix and a sign, a bad digit late, and far too large.
+const BROKEN: [&str; 16] = [
+    "", "+", "-", "$", "0x", "$+", "0x-", "$-", "3O", "99999999999999O", "$1G", "--5", "0x+-1", "99999999999999", "$12345678", "-200",
+];
+
+/// An instruction that has the kinds of a form, and a number, a label or a displacement that may fail. Before some, and behind some,
+/// its operand is a label, about as far away as a branch reaches.
+fn almost(r: &mut Random) -> String {
+    let number = if r.one_in(2) { r.pick(&BROKEN) } else { r.pick(&NUMBERS) };
+    let target = match r.below(4) {
+        0 => number.to_string(),
+        1 => r.pick(&["+", "-"]).to_string() + number,
+        _ => r.pick(&NAMES[..7]).to_string(),
+    };
+    let n = r.below(8);
+    let (label, line) = match r.below(6) {
+        0 => (format!("#{number}"), format!("{} #{number},D{n}", r.pick(&["MOVE.L", "MULS", "CMP.L"]))),
+        1 => (number.to_string(), format!("{} #{number},D{n}", r.pick(&["MOVEQ", "SUBQ.L", "ASL.L"]))),
+        2 => (target.clone(), format!("MOVEA.L #{target},A{n}")),
+        3 => (target.clone(), format!("{} {target}", r.pick(&["JMP", "JUMP"]))),
+        4 => (target.clone(), format!("DBRA D{n},{target}")),
+        _ => (target.clone(), format!("{} {target}", MNEMONICS[15 + r.below(11)])),
+    };
+    let (here, there) = (r.below(400), 400 + r.below(300));
+    let far = here + 122 + r.below(10);
+    match r.below(8) {
+        0 => format!("ORG {here}\n{label}:\nORG {far}\n{line}"),
+        1 => format!("ORG {here}\n{line}\nORG {far}\n{label}:"),
+        2 => format!("ORG {there}\n{line}"),
+        _ => line,
     }
 }
 

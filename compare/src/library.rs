@@ -48,6 +48,7 @@ extern "C" {
         distance: *mut u32,
         place: *mut usize,
     ) -> u8;
+    fn lagvettu_explain(source: *const u8, source_len: usize, base: u32, line: usize, verdict: *mut u8, place: *mut usize) -> u8;
 }
 
 /// Three slices, as a caller lends them.
@@ -178,4 +179,18 @@ pub fn symbols(source: &[u8], base: u32, x: &mut Rows) -> Answer {
         )
     };
     (number, place)
+}
+
+/// The answer to W-205, all that a call writes: 0 and a verdict, the place 0; or a refusal and its place, the verdict 255.
+#[derive(PartialEq, Debug)]
+pub struct Explained {
+    pub number: u8,
+    pub verdict: u8,
+    pub place: usize,
+}
+
+pub fn explain(source: &[u8], base: u32, line: usize) -> Explained {
+    let mut e = Explained { number: u8::MAX, verdict: 0xAA, place: usize::MAX };
+    e.number = unsafe { lagvettu_explain(source.as_ptr(), source.len(), base, line, &mut e.verdict, &mut e.place) };
+    e
 }

@@ -7,7 +7,11 @@
 //!   compare moves N [SEED]          N random sources moved between bases, and chains of moves against the tally
 //!   compare nearest N [SEED]        N random sources: the label nearest to an address against the original's label map
 //!   compare symbols N [SEED]        N random sources: the symbols with their lines against the original's label map
+//!   compare explain N [SEED]        N random sources: why each line has no word, against the original's list without that line
+#[cfg(linked)]
+mod explain;
 mod generate;
+mod heard;
 #[cfg(linked)]
 mod library;
 #[cfg(linked)]
@@ -17,10 +21,12 @@ mod moves;
 #[cfg(linked)]
 mod nearest;
 mod oracle;
+mod reasons;
 mod record;
 #[cfg(linked)]
 mod records;
 mod requests;
+mod silence;
 #[cfg(linked)]
 mod speed;
 #[cfg(linked)]
@@ -43,6 +49,8 @@ fn main() {
         Some("nearest") => nearest::compare(number(2, 100_000) as usize, number(3, 20261117)),
         #[cfg(linked)]
         Some("symbols") => symbols::compare(number(2, 100_000) as usize, number(3, 20261118)),
-        _ => eprintln!("usage: compare record FILE [COUNT] | lists N [SEED] | moves N [SEED] | nearest N [SEED] | symbols N [SEED] | speed; all but record want the static library: see ./run"),
+        #[cfg(linked)]
+        Some("explain") => explain::compare(number(2, 100_000) as usize, number(3, 20261119)),
+        _ => eprintln!("usage: compare record FILE [COUNT] | lists N [SEED] | moves N [SEED] | nearest N [SEED] | symbols N [SEED] | explain N [SEED] | speed; all but record want the static library: see ./run"),
     }
 }

@@ -16,14 +16,24 @@ pub fn rust(source: &str) -> Vec<(u32, u16)> {
     original::Assembler::new().assemble(&lines)
 }
 
-/// The label map that the original has made of a source, as it prints it itself: a line for each label, the address in
-/// hexadecimal behind a colon. No name has a colon or a line's end in it.
-pub fn labels(source: &str) -> HashMap<String, u32> {
+/// What the original makes of a source: its list, and its label map.
+pub fn listed_with_labels(source: &str) -> (Vec<(u32, u16)>, HashMap<String, u32>) {
     let lines: Vec<&str> = source.split('\n').collect();
     let mut assembler = original::Assembler::new();
-    assembler.assemble(&lines);
+    let list = assembler.assemble(&lines);
     let mut printed = String::new();
     assembler.print_assembly_to_string(&mut printed);
+    (list, printed_labels(&printed))
+}
+
+/// The label map that the original has made of a source.
+pub fn labels(source: &str) -> HashMap<String, u32> {
+    listed_with_labels(source).1
+}
+
+/// A label map as the original prints it itself: a line for each label, the address in hexadecimal behind a colon. No name has a
+/// colon or a line's end in it.
+pub fn printed_labels(printed: &str) -> HashMap<String, u32> {
     let listed = printed.split_once("\n=== Labels ===\n").map_or("", |parts| parts.1);
     let label = |line: &str| {
         let (name, address) = line.rsplit_once(": ")?;
