@@ -31,6 +31,7 @@ mod silence;
 mod speed;
 #[cfg(linked)]
 mod symbols;
+mod verdicts;
 
 fn main() {
     let args: Vec<String> = std::env::args().collect();

@@ -1,11 +1,13 @@
-//! Recorded calls of paper 02, a function a request. Each answer is written out here from 02's words and READINGS.md's examples
-//! of them, or comes from the Rust original's own label map where that leaves no choice; none is made by the Rattle code.
+//! Recorded calls of paper 02, a function a request; W-205's are in verdicts.rs. Each answer is written out here from 02's words and
+//! READINGS.md's examples of them, or comes from the Rust original's own label map or list where that leaves no choice; none is made
+//! by the Rattle code.
 
 use crate::generate::{script, Random};
+use crate::verdicts::verdicts;
 use crate::{oracle, record};
 use std::collections::HashMap;
 
-const LIMIT: u32 = 1 << 30;
+pub const LIMIT: u32 = 1 << 30;
 
 /// One recorded call: its number, the two numbers that it takes, its source, and the text that it must answer.
 pub struct Call {
@@ -22,10 +24,11 @@ pub fn calls() -> Vec<Call> {
     nearest(&mut out);
     symbols(&mut out);
     line_numbers(&mut out);
+    verdicts(&mut out);
     out
 }
 
-fn refused(number: u8, place: usize) -> String {
+pub fn refused(number: u8, place: usize) -> String {
     format!("refused {number} {place}\n")
 }
 
