@@ -50,6 +50,7 @@ pub mod Symbols
 pub mod SymbolsFit
 pub mod SymbolsRows
 pub mod Readings
+pub mod Digits
 pub mod Directives
 pub mod Decided
 pub mod OperandKinds

@@ -11,5 +11,6 @@ pub mod Longest
 pub mod Nearest
 pub mod Symbols
 pub mod Readings
+pub mod Digits
 pub mod Explain
 pub mod ExplainCases

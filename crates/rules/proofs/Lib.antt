@@ -4,3 +4,4 @@ pub mod Standing
 pub mod Names
 pub mod Readings
 pub mod Operands
+pub mod Tables
