@@ -1,4 +1,4 @@
-pub mod Table
+pub mod Formula
 pub mod Answers
 pub mod Prefix
 pub mod Reading

@@ -1,151 +1,20 @@
-// The digit that a byte stands for.
+// The digit that a byte stands for, worked out from the byte (W-206).
 ghost use mathlib.Core.Path.{_≡_};
 ghost use Rattle.rules.specs.Number.{digitValue};
-ghost use Rattle.numeral.specs.Digits.{DigitTable};
+use std::num::wrapping_sub_u8;
 
-// The digit value of each byte below 128, 255 for none.
-pub const DIGITS: [u8; 128] = [
-    // 0 to 47: none
-    255,
-    255,
-    255,
-    255,
-    255,
-    255,
-    255,
-    255,
-    255,
-    255,
-    255,
-    255,
-    255,
-    255,
-    255,
-    255,
-    255,
-    255,
-    255,
-    255,
-    255,
-    255,
-    255,
-    255,
-    255,
-    255,
-    255,
-    255,
-    255,
-    255,
-    255,
-    255,
-    255,
-    255,
-    255,
-    255,
-    255,
-    255,
-    255,
-    255,
-    255,
-    255,
-    255,
-    255, // `+`
-    255,
-    255, // `-`
-    255,
-    255,
-    // 48 to 57: `0` to `9`
-    0,
-    1,
-    2,
-    3,
-    4,
-    5,
-    6,
-    7,
-    8,
-    9,
-    // 58 to 64: none
-    255,
-    255,
-    255,
-    255,
-    255,
-    255,
-    255,
-    // 65 to 70: `A` to `F`
-    10,
-    11,
-    12,
-    13,
-    14,
-    15,
-    // 71 to 96: none
-    255,
-    255,
-    255,
-    255,
-    255,
-    255,
-    255,
-    255,
-    255,
-    255,
-    255,
-    255,
-    255,
-    255,
-    255,
-    255,
-    255,
-    255,
-    255,
-    255,
-    255,
-    255,
-    255,
-    255,
-    255,
-    255,
-    // 97 to 102: `a` to `f`
-    10,
-    11,
-    12,
-    13,
-    14,
-    15,
-    // 103 to 127: none
-    255,
-    255,
-    255,
-    255,
-    255,
-    255,
-    255,
-    255,
-    255,
-    255,
-    255,
-    255,
-    255,
-    255,
-    255,
-    255,
-    255,
-    255,
-    255,
-    255,
-    255,
-    255,
-    255,
-    255,
-    255,
-];
-
-// The digit value of a byte, 255 for none. The table is lent: a constant is built anew wherever it is used.
-pub fn digit_in(digits: &[u8; 128], b: u8) -> u8
-    requires { ⌜ DigitTable (now digits) ⌝ }
+// The digit value of a byte, 255 for none. How far the byte is past the first of a run, modulo 256, says by one comparison whether it
+// is in the run; `| 32` makes a capital letter small, and no other byte a letter.
+pub fn digit_value(b: u8) -> u8
     ensures { λ r. ⌜ r ≡ digitValue b ⌝ }
 {
-    if b < 128 { digits[b as usize] } else { 255 }
+    let decimal = wrapping_sub_u8(b, b'0');
+    if decimal < 10 {
+        return decimal;
+    }
+    let letter = wrapping_sub_u8(b | 32, b'a');
+    if letter < 6 {
+        return 10 + letter;
+    }
+    255
 }

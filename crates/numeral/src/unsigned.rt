@@ -6,8 +6,7 @@ ghost use Rattle.rules.specs.Number.{someDigits, ranged, below, unsignedReading
 ghost use Rattle.rules.specs.Encode.{allDigits, isSome};
 ghost use Rattle.numeral.specs.Number.{failureOf, numberOf, immediateOf, digitsOnly, pastBound, plusLength, prefixLength};
 use crate::Failure;
-use crate::digit::DIGITS;
-use crate::digit::digit_in;
+use crate::digit::digit_value;
 
 // A number, which its reader's bound bounds, or what failed.
 pub enum Number {
@@ -31,12 +30,11 @@ pub fn read_digits(t: &[u8], radix: u32, bound: u64) -> Number
     if t.len() == 0 {
         return Number::Failed(Failure::NoDigits);
     }
-    let digits = DIGITS;
     let r = radix as u64;
     let mut v: u64 = 0;
     let mut i = 0;
     while i < t.len() {
-        let d = digit_in(&digits, t[i]) as u64;
+        let d = digit_value(t[i]) as u64;
         if d >= r {
             return Number::Failed(Failure::BadDigit);
         }
@@ -63,10 +61,9 @@ fn past_bound(rest: &[u8], radix: u32) -> Failure
 fn all_digits(t: &[u8], radix: u32) -> bool
     ensures { λ r. ⌜ r ≡ digitsOnly radix (now (t .entry)) ⌝ }
 {
-    let digits = DIGITS;
     let mut i = 0;
     while i < t.len() {
-        if digit_in(&digits, t[i]) as u32 >= radix {
+        if digit_value(t[i]) as u32 >= radix {
             return false;
         }
         i += 1;

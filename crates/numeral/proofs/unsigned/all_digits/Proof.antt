@@ -3,35 +3,29 @@ use Prim.Native.Nat.{_-_}
 use mathlib.Core.Path.{refl}
 use lib.ListN.{length}
 use borrow.Author.Needs.{needs}
-use Rattle.rules.specs.Number.{digitValue}
-use Rattle.numeral.proofs.Table.{digit-table}
 use Rattle.numeral.proofs.Reading.{Testing, all-digits, other-byte, one-more}
 use Rattle.numeral.proofs.unsigned.all_digits.Statement.{statement}
 use Rattle.numeral.proofs.unsigned.all_digits.Tie as tie
 
 abbrev Inv-loop : tie.InvT-loop
-Inv-loop t radix digits i₀ i = Testing radix t i
+Inv-loop t radix i₀ i = Testing radix t i
 
 abbrev μ-loop : tie.MeasureT-loop
-μ-loop t radix digits i₀ i = length t - i
+μ-loop t radix i₀ i = length t - i
 
 loop-holds : tie.Need-loop-holds Inv-loop μ-loop
 loop-holds c = record { reached = search needs; same = refl }
 
-digit-in-requires : tie.Need-digit-in-requires Inv-loop μ-loop
-unfolding digitValue
-digit-in-requires c κs = digit-table
-
 returns : tie.Need-returns Inv-loop μ-loop
 returns c =
-    let call = c .before .digit-in in
-    let test = c .before .before .before .before in
+    let call = c .before .digit-value in
+    let test = c .before .before .before in
     other-byte (test .before .loop .inv) (call .result) (test .loop-test .taken) (call .ensures) (c .if1 .taken)
 
 loop-again : tie.Need-loop-again Inv-loop μ-loop
 loop-again c =
-    let call = c .before .digit-in in
-    let test = c .before .before .before .before in
+    let call = c .before .digit-value in
+    let test = c .before .before .before in
     one-more (test .before .loop .inv) (call .result) (test .loop-test .taken) (call .ensures) (c .if1 .left)
 
 returns-2 : tie.Need-returns-2 Inv-loop μ-loop
@@ -45,7 +39,7 @@ all-digits-spec =
     μ-loop
     loop-holds
     (λ c. search needs)
-    digit-in-requires
+    (λ c κs. search needs)
     (λ c. search needs)
     returns
     (λ c. search needs)
