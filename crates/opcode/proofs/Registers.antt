@@ -1,49 +1,27 @@
 -- Registers as operands: a digit, a letter before it, brackets around both; each text by its length and its bytes. Assumes nothing.
 use mathlib.Core.Path.{_≡_, refl, sym, ap, _∙_}
-use mathlib.Core.Bool.{Bool, true, false, _&&_, cond}
+use mathlib.Core.Bool.{Bool, true, false, cond}
 use mathlib.Core.Option.{Option, none, some}
 use mathlib.Core.List.{[], _∷_}
-use Prim.Native.Nat.{ℕ, zero, suc, _+_, _-_, _≤_, _<_}
+use Prim.Native.Nat.{ℕ, zero, suc, _+_, _≤_, _<_}
 use native.Mathlib.Omega.{arith}
-use borrow.Author.Tests.{eq-eqb, ne-eqb, le-leb, lt-leb, lt-ltb, le-ltb, leb-true}
+use borrow.Author.Tests.{eq-eqb, ne-eqb, lt-ltb, le-ltb}
 use lib.ListN.{length, drop, getD, drop-of-length-le}
-use lib.Dec.{leb, eqb}
+use lib.Dec.{eqb}
 use lib.Seq.{drop-cons}
 use Rattle.rules.specs.Text.{Text, bytes, after}
 use Rattle.rules.specs.Number.{digitValue}
 use Rattle.rules.specs.Encode.{registerDigit, closed, indirect}
 
--- ---- digits
-module _ (b : ℕ) where
-  pub digit : 48 ≤ b → b ≤ 55 → registerDigit (some (b ∷ [])) ≡ some (b - 48)
-  unfolding registerDigit digitValue
-  digit l h =
-      let m : b ≤ 57 = omega arith in
-      let s : b - 48 < 8 = omega arith in
-      simp (le-leb 48 b l, le-leb b 57 m, lt-ltb (b - 48) 8 s)
-
-  pub below-digits : b < 48 → registerDigit (some (b ∷ [])) ≡ none
-  unfolding registerDigit digitValue
-  below-digits h =
-      let m : b < 65 = omega arith in
-      let n : b < 97 = omega arith in
-      simp (lt-leb 48 b h, lt-leb 65 b m, lt-leb 97 b n)
-
-  -- a byte past 7 has a digit's value of 8 or more
-  past-digits : 55 < b → 8 ≤ digitValue b
-  unfolding digitValue
-  past-digits h =
-      go (leb 48 b) _ (λ t. omega arith)
-      (go (leb 65 b) _ (λ t. omega (arith, leb-true 65 b t)) (go (leb 97 b) _ (λ t. omega (arith, leb-true 97 b t)) (omega arith)))
-    where
-      go : {x y : ℕ} (t u : Bool) → (t ≡ true → 8 ≤ x) → 8 ≤ y → 8 ≤ cond (t && u) x y
-      go true true m n = m refl
-      go true false m n = n
-      go false u m n = n
-
-  pub above-digits : 55 < b → registerDigit (some (b ∷ [])) ≡ none
+-- ---- digits: a byte whose digit value is d
+module _ (b d : ℕ) (e : d ≡ digitValue b) where
+  pub digit : d ≤ 7 → registerDigit (some (b ∷ [])) ≡ some d
   unfolding registerDigit
-  above-digits h = simp (le-ltb (digitValue b) 8 (past-digits h))
+  digit h = rw (← e, lt-ltb d 8 (omega arith))
+
+  pub no-digit : 7 < d → registerDigit (some (b ∷ [])) ≡ none
+  unfolding registerDigit
+  no-digit h = rw (← e, le-ltb d 8 h)
 
 -- ---- texts by their bytes
 -- the k bytes from the i-th on

@@ -5,6 +5,7 @@ ghost use mathlib.Core.List.{[], _∷_};
 ghost use Rattle.rules.specs.Text.{after};
 ghost use Rattle.rules.specs.Encode.{registerDigit, dataRegister, addressRegister, indirect};
 ghost use Rattle.opcode.specs.Register.{registerOf};
+use numeral::digit::digit_value;
 
 // A register by its number, or something else.
 pub enum Register {
@@ -16,13 +17,11 @@ pub enum Register {
 fn from_digit(b: u8) -> Register
     ensures { λ r. ⌜ r ≡ registerOf (registerDigit (some (b ∷ []))) ⌝ }
 {
-    if b < 48 {
+    let d = digit_value(b);
+    if 7 < d {
         return Register::Other;
     }
-    if 55 < b {
-        return Register::Other;
-    }
-    Register::At((b - 48) as u16)
+    Register::At(d as u16)
 }
 
 // The letter, then a digit.
