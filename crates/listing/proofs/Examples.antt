@@ -2,12 +2,13 @@
 use mathlib.Core.Path.{refl}
 use mathlib.Core.List.{flatMap}
 use Rattle.rules.specs.Text.{bytes, starts}
+use Rattle.rules.specs.Number.{digitValue}
 use Rattle.listing.specs.Listing.{digitByte, digitsOf, decimalPlacesBy, decimal, markByte, placeText, listText, refusedText}
-use Rattle.listing.specs.Reading.{digitIn, hexIn, markIn, placeIn, isLine, readLines}
+use Rattle.listing.specs.Reading.{digitIn, hexIn, placeIn, isLine, readLines}
 use Rattle.listing.specs.Examples.{Examples}
 
 pub examples : Examples
-unfolding bytes starts flatMap digitByte digitsOf decimalPlacesBy decimal markByte placeText listText refusedText digitIn hexIn markIn placeIn isLine readLines
+unfolding bytes starts flatMap digitByte digitsOf decimalPlacesBy decimal markByte placeText listText refusedText digitValue digitIn hexIn placeIn isLine readLines
 examples =
     record {
       station = refl;

@@ -15,7 +15,7 @@ use Rattle.rules.specs.Assemble.{Place, over}
 use Rattle.text.proofs.Compare.{starts-equal, starts-unequal, starts-short}
 use Rattle.listing.specs.Listing.{place, digitsOf, markByte, placeText}
 use Rattle.text.specs.Spans.{overFrom}
-use Rattle.listing.specs.Reading.{hexIn, markIn, placeIn, isLine, readLines, readList}
+use Rattle.listing.specs.Reading.{digitIn, hexIn, placeIn, isLine, readLines, readList}
 use Rattle.listing.specs.declared.reading.Parsed.the-variants.{Count, Bad}
 use Rattle.text.proofs.Over.{put-both, put-one, put-nil, put-over, length-put}
 use Rattle.listing.proofs.Digits.{length-digits}
@@ -75,7 +75,7 @@ starts-split (a ∷ p) (b ∷ t) e = go (eqb a b) refl (λ u. starts-split p t u
     go false q ih = absurd (false≢true (sym (starts-unequal a p b t q) ∙ e))
 
 -- ---- the line of the place that a text shows at an index
-pub placed : (t : Text) (start : ℕ) → placeIn (drop start t) ≡ place (hexIn 0 (take 8 (drop start t))) (hexIn 0 (take 4 (drop (start + 9) t))) (markIn (getD t (start + 14) 0))
+pub placed : (t : Text) (start : ℕ) → placeIn (drop start t) ≡ place (hexIn 0 (take 8 (drop start t))) (hexIn 0 (take 4 (drop (start + 9) t))) (digitIn 10 (getD t (start + 14) 0))
 unfolding placeIn
 placed t start = rw (drop-drop 9 start t, getD-drop start t 14 0)
 
@@ -86,7 +86,7 @@ put-whole s l e = put-over s l ∙ rw (drop-of-length-le l {i = length s} (omega
 
 -- the line that is compared is that of the place shown
 pub line-shown : (t : Text) (start : ℕ) (l line : Text) (a w m : ℕ) → length l ≡ 16 → line ≡ overFrom 0 (placeText (place a w m)) l
-    → a ≡ hexIn 0 (take 8 (drop start t)) → w ≡ hexIn 0 (take 4 (drop (start + 9) t)) → m ≡ markIn (getD t (start + 14) 0)
+    → a ≡ hexIn 0 (take 8 (drop start t)) → w ≡ hexIn 0 (take 4 (drop (start + 9) t)) → m ≡ digitIn 10 (getD t (start + 14) 0)
     → starts line (take (length t - start) (drop start t)) ≡ isLine (drop start t)
 unfolding isLine
 line-shown t start l line a w m h e ea ew em =

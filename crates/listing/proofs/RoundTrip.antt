@@ -13,7 +13,7 @@ use Rattle.listing.specs.Reading.{placeIn, isLine, readLines, readList, 
 use Rattle.listing.specs.RoundTrip.{Printable, AllPrintable, WrittenIsRead, ReadIsWritten}
 use Rattle.listing.specs.declared.reading.Parsed.the-variants.{Count}
 use Rattle.listing.proofs.Digits.{length-digits}
-use Rattle.listing.proofs.Values.{number-read, number-small, mark-read, mark-small}
+use Rattle.listing.proofs.Values.{number-read, number-small, mark-read, digit-small}
 use Rattle.listing.proofs.Lines.{length-place, starts-whole, starts-split, read-end, read-line}
 
 -- ---- what is written is read
@@ -79,7 +79,7 @@ written-is-read l room a h = let e : 0 + length l ≡ length l = omega arith in 
 -- ---- what is read was written
 pub printable : (t : Text) → Printable (placeIn t)
 unfolding placeIn
-printable t = record { address = number-small 8 t; word = number-small 4 (drop 9 t); mark = mark-small (getD t 14 0) }
+printable t = record { address = number-small 8 t; word = number-small 4 (drop 9 t); mark = digit-small 10 (getD t 14 0) (omega arith) }
 
 -- a text that begins with a line is that line and what stands after it
 pub line-split : (t : Text) → isLine t ≡ true → placeText (placeIn t) ++ drop 16 t ≡ t

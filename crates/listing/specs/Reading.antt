@@ -1,32 +1,29 @@
 -- A list read back from its text. A line is read where the place that it shows is written as that line. Assumes nothing.
-use Prim.Native.Nat.{ℕ, zero, suc, _+_, _-_, _*_, min}
+use Prim.Native.Nat.{ℕ, zero, suc, _+_, _*_, min}
 use mathlib.Core.Path.{_≡_}
-use mathlib.Core.Bool.{Bool, true, false, _&&_, cond}
+use mathlib.Core.Bool.{Bool, true, false, cond}
 use mathlib.Core.List.{List, [], _∷_}
 use lib.ListN.{length, take, drop, getD}
-use lib.Dec.{leb}
+use lib.Dec.{ltb}
 use Rattle.rules.specs.Text.{Text, starts}
+use Rattle.rules.specs.Number.{digitValue}
 use Rattle.rules.specs.Assemble.{Place, Slices, holding}
 use Rattle.listing.specs.Listing.{placeText}
 use Rattle.listing.specs.declared.reading.Parsed.{Parsed}
 use Rattle.listing.specs.declared.reading.Parsed.the-variants.{Count, Bad}
 
--- the value of a digit, `0` to `9` and `A` to `F`, and 0 for any other byte
-unfoldable pub digitIn : ℕ → ℕ
-digitIn b = cond (leb 48 b && leb b 57) (b - 48) (cond (leb 65 b && leb b 70) (b - 55) 0)
+-- the digit value of a byte, and 0 for one that is no digit of the radix
+unfoldable pub digitIn : ℕ → ℕ → ℕ
+digitIn radix b = cond (ltb (digitValue b) radix) (digitValue b) 0
 
 -- the value of hexadecimal digits after the value so far
 unfoldable pub hexIn : ℕ → Text → ℕ
 hexIn v [] = v
-hexIn v (b ∷ s) = hexIn (v * 16 + digitIn b) s
-
--- the value of a decimal digit, and 0 for any other byte
-unfoldable pub markIn : ℕ → ℕ
-markIn b = cond (leb 48 b && leb b 57) (b - 48) 0
+hexIn v (b ∷ s) = hexIn (v * 16 + digitIn 16 b) s
 
 -- the place that the front of a text shows, whatever stands there
 unfoldable pub placeIn : Text → Place
-placeIn t = record { address = hexIn 0 (take 8 t); word = hexIn 0 (take 4 (drop 9 t)); mark = markIn (getD t 14 0) }
+placeIn t = record { address = hexIn 0 (take 8 t); word = hexIn 0 (take 4 (drop 9 t)); mark = digitIn 10 (getD t 14 0) }
 
 -- the text begins with a line: the one that the place it shows is written as
 unfoldable pub isLine : Text → Bool

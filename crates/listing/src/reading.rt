@@ -3,10 +3,11 @@ ghost use mathlib.Core.Path.{_≡_};
 ghost use Prim.Native.Nat.{_+_, _*_, _<_, _≤_, _^_, min};
 ghost use lib.ListN.{length, take, drop};
 ghost use Rattle.rules.specs.Assemble.{holding};
-ghost use Rattle.listing.specs.Reading.{digitIn, hexIn, markIn, isLine, readList, placesIn, Read};
+ghost use Rattle.listing.specs.Reading.{digitIn, hexIn, isLine, readList, placesIn, Read};
 ghost use Rattle.rules.specs.Assemble.{slices};
 use crate::writing::LINE;
 use crate::writing::write_place;
+use numeral::digit::digit_value;
 use text::starts_with;
 
 // What a text comes to.
@@ -17,21 +18,13 @@ pub enum Parsed {
     Bad(usize),
 }
 
-// An upper-case digit's value, 0 for any other byte.
-fn digit_in(b: u8) -> u32
-    ensures { λ r. ⌜ (r ≡ digitIn b) × (r < 16) ⌝ }
+// The digit value of a byte, 0 for one that is no digit of the radix; a small letter is told apart where the line is written back.
+fn digit_in(b: u8, radix: u8) -> u8
+    ensures { λ r. ⌜ r ≡ digitIn radix b ⌝ }
 {
-    if b < 48 {
-        return 0;
-    }
-    if b <= 57 {
-        return (b - 48) as u32;
-    }
-    if b < 65 {
-        return 0;
-    }
-    if b <= 70 {
-        return (b - 55) as u32;
+    let d = digit_value(b);
+    if d < radix {
+        return d;
     }
     0
 }
@@ -44,23 +37,10 @@ fn number_at(t: &[u8], at: usize, count: usize) -> u32
     let mut v: u32 = 0;
     let mut i = 0;
     while i < count {
-        v = v * 16 + digit_in(t[at + i]);
+        v = v * 16 + digit_in(t[at + i], 16) as u32;
         i += 1;
     }
     v
-}
-
-// A mark's value, 0 for any byte that is no decimal digit.
-fn mark_in(b: u8) -> u8
-    ensures { λ r. ⌜ r ≡ markIn b ⌝ }
-{
-    if b < 48 {
-        return 0;
-    }
-    if b <= 57 {
-        return b - 48;
-    }
-    0
 }
 
 // Whether a line stands at an index: the one that the word it shows is written as.
@@ -71,7 +51,7 @@ fn is_line(t: &[u8], at: usize) -> bool
     let mut line = [0u8; 16];
     let address = number_at(t, at, 8);
     let word = number_at(t, at + 9, 4) as u16;
-    let mark = mark_in(t[at + 14]);
+    let mark = digit_in(t[at + 14], 10);
     write_place(&mut line, 0, address, word, mark);
     starts_with(&t[at..], &line)
 }
@@ -109,7 +89,7 @@ fn fill(t: &[u8], count: usize, addresses: &mut [u32], words: &mut [u16], marks:
         let at = LINE * i;
         addresses[i] = number_at(t, at, 8);
         words[i] = number_at(t, at + 9, 4) as u16;
-        marks[i] = mark_in(t[at + 14]);
+        marks[i] = digit_in(t[at + 14], 10);
         i += 1;
     }
 }

@@ -42,7 +42,7 @@ loop-again c =
     let shown = placed t (16 * l .i) in
     let address = shown-more (λ p. p .address) t (a .count) (l .i) _ (omega arith) (c .before .before .before .number-at .ensures .0 ∙ sym (ap (λ (p : Place). p .address) shown)) in
     let word = shown-more (λ p. p .word) t (a .count) (l .i) _ (omega arith) (c .before .before .number-at2 .ensures .0 ∙ sym (ap (λ (p : Place). p .word) shown)) in
-    let mark = shown-more (λ p. p .mark) t (a .count) (l .i) _ (omega arith) (c .mark-in .ensures ∙ sym (ap (λ (p : Place). p .mark) shown)) in (
+    let mark = shown-more (λ p. p .mark) t (a .count) (l .i) _ (omega arith) (c .digit-in .ensures ∙ sym (ap (λ (p : Place). p .mark) shown)) in (
       omega arith,
       putting-one (l .inv .1) _ _ _ address refl (omega arith),
       putting-one (l .inv .2) _ _ _ word refl (omega arith),

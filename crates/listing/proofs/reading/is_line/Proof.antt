@@ -9,7 +9,7 @@ use Rattle.listing.proofs.reading.is_line.Tie as tie
 returns : tie.Need-returns
 returns c =
     let written = c .before .before .before .before .write-place in
-    let mark = c .before .before .before .before .before .before .mark-in in
+    let mark = c .before .before .before .before .before .before .digit-in in
     let word = c .before .before .before .before .before .before .before .before .number-at2 in
     let address = c .before .before .before .before .before .before .before .before .before .number-at in
     let a = c .before .before .before .before .before .before .before .before .before .before .before .args in

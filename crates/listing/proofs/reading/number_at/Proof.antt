@@ -2,7 +2,7 @@
 use Prim.Native.Nat.{_-_}
 use native.Mathlib.Omega.{arith}
 use borrow.Author.Needs.{needs}
-use Rattle.listing.proofs.Values.{Reading, reading-start, reading-more, reading-end, room-left}
+use Rattle.listing.proofs.Values.{Reading, digit-below, reading-start, reading-more, reading-end, room-left}
 use Rattle.listing.proofs.reading.number_at.Statement.{statement}
 use Rattle.listing.proofs.reading.number_at.Tie as tie
 
@@ -19,12 +19,14 @@ mul-v : tie.Need-mul-v Inv-loop μ-loop
 mul-v c = omega (arith, room-left _ _ (c .before .loop .inv .small) (omega arith))
 
 add-v : tie.Need-add-v Inv-loop μ-loop
-add-v c = omega (arith, room-left _ _ (c .before .before .before .loop .inv .small) (omega arith))
+add-v c =
+    let d = digit-below 16 _ (c .digit-in .ensures) (omega arith) in
+    omega (arith, room-left _ _ (c .before .before .before .loop .inv .small) (omega arith))
 
 loop-again : tie.Need-loop-again Inv-loop μ-loop
 loop-again c =
     let call = c .digit-in in
-    reading-more (c .before .before .before .loop .inv) (call .result) (omega arith) (omega arith) (call .ensures .0) (call .ensures .1)
+    reading-more (c .before .before .before .loop .inv) (call .result) (omega arith) (omega arith) (call .ensures)
 
 returns : tie.Need-returns Inv-loop μ-loop
 returns c = reading-end (c .before .loop .inv) (c .loop-test .left)
@@ -40,6 +42,7 @@ number-at-spec =
     (λ c. search needs)
     (λ c. search needs)
     (λ c κs. search needs)
+    (λ c. search needs)
     add-v
     (λ c. search needs)
     (λ c. search needs)
