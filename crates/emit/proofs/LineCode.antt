@@ -24,9 +24,9 @@ use Rattle.cells.specs.Cells.{dataWords}
 use Rattle.encode.specs.Code.{codeOf, placesOf, codeLength}
 use Rattle.encode.specs.Near.{Near}
 use Rattle.encode.specs.declared.Code.{Code}
-use Rattle.encode.specs.declared.Code.the-variants.{Value as WithValue}
+use Rattle.encode.specs.declared.Code.the-variants.{Nothing, Word, Value as WithValue, Label}
 use Rattle.encode.proofs.Callers.{encode-places, code-words}
-use Rattle.emit.specs.Emit.{Room, RoomIf, putOf, Taken, EncodeTaskNeeds}
+use Rattle.emit.specs.Emit.{Room, RoomIf, Taken, firstWords, secondWords, putOf, EncodeTaskNeeds}
 use Rattle.emit.specs.declared.Turn.{Turn}
 use Rattle.emit.proofs.Slices.{put-none}
 
@@ -110,5 +110,11 @@ pub taken-none : (write : Bool) (n : ℕ) (l : List Place) (x : Slices) → l �
 taken-none write n l x e = rw e (wanted-none write n x)
 
 -- only counted
+pub both-words : (c : Code) {m n : ℕ} → m ≡ firstWords c → n ≡ secondWords c → (m + n ≡ codeLength c) × (m + n ≤ 2)
+both-words Nothing e f = (omega arith, omega arith)
+both-words (Word w) e f = (omega arith, omega arith)
+both-words (WithValue w v) e f = (omega arith, omega arith)
+both-words (Label w x) e f = (omega arith, omega arith)
+
 pub taken-counted : (write : Bool) (n a : ℕ) (c : Code) (x : Slices) (m : ℕ) → write ≡ false → m ≡ codeLength c → Taken write n (placesOf a c) x (n + m) x
 taken-counted write n a c x m e f = rw (e, f) (record { count = rw (code-words a c); put = sym (put-none n x) })

@@ -15,6 +15,8 @@ use Rattle.cells.specs.Cells.{dataWords}
 use Rattle.first.specs.Pass.{passIn, Holds}
 use Rattle.first.specs.declared.Pass.{Pass}
 use Rattle.encode.specs.Near.{Near}
+use Rattle.encode.specs.declared.Code.{Code}
+use Rattle.encode.specs.declared.Code.the-variants.{Nothing, Word, Value, Label}
 use Rattle.emit.specs.declared.Turn.{Turn}
 
 -- ---- words in the slices
@@ -47,6 +49,19 @@ pub record RoomIf (write : Bool) (n : ℕ) (x : Slices) : Type 0 where
 pub record Taken (write : Bool) (n : ℕ) (l : List Place) (x : Slices) (r : ℕ) (x′ : Slices) : Type 0 where
   pub count : r ≡ n + length l
   pub put : x′ ≡ putFrom n (wanted write l) x
+
+-- how many first words a code has, and how many second ones
+abbrev pub firstWords : Code → ℕ
+firstWords Nothing = 0
+firstWords (Word w) = 1
+firstWords (Value w v) = 1
+firstWords (Label w x) = 1
+
+abbrev pub secondWords : Code → ℕ
+secondWords Nothing = 0
+secondWords (Word w) = 0
+secondWords (Value w v) = 1
+secondWords (Label w x) = 1
 
 -- ---- one line
 -- what a task asks at an address

@@ -14,7 +14,7 @@ ghost use Rattle.rules.specs.Assemble.{slices, holding, dataPlaces, codePlaces,
 ghost use Rattle.label.specs.Table.{tableOf};
 ghost use Rattle.first.specs.Pass.{passIn};
 ghost use Rattle.encode.specs.Code.{place, placesOf, codeLength};
-ghost use Rattle.emit.specs.Emit.{wanted, putFrom, Room, RoomIf, Taken, putOf, TakeValueNeeds, EncodeTaskNeeds, EmitWordsNeeds};
+ghost use Rattle.emit.specs.Emit.{wanted, putFrom, Room, RoomIf, Taken, firstWords, secondWords, putOf, TakeValueNeeds, EncodeTaskNeeds, EmitWordsNeeds};
 
 // ---- Words put into the slices.
 
@@ -83,16 +83,35 @@ fn put_code(
     }
 }
 
-// How many words a code has.
-fn code_words(code: Code) -> usize
-    ensures { λ r. ⌜ r ≡ codeLength code ⌝ }
+// How many first words a code has.
+fn first_words(code: Code) -> usize
+    ensures { λ r. ⌜ r ≡ firstWords code ⌝ }
 {
     match code {
         Code::Nothing => 0,
         Code::Word(_) => 1,
-        Code::Value(_, _) => 2,
-        Code::Label(_, _) => 2,
+        Code::Value(_, _) => 1,
+        Code::Label(_, _) => 1,
     }
+}
+
+// How many second words a code has.
+fn second_words(code: Code) -> usize
+    ensures { λ r. ⌜ r ≡ secondWords code ⌝ }
+{
+    match code {
+        Code::Nothing => 0,
+        Code::Word(_) => 0,
+        Code::Value(_, _) => 1,
+        Code::Label(_, _) => 1,
+    }
+}
+
+// How many words a code has. Of one `match` with 0, 1 and 2 the compiler makes a table of them.
+fn code_words(code: Code) -> usize
+    ensures { λ r. ⌜ r ≡ codeLength code ⌝ }
+{
+    first_words(code) + second_words(code)
 }
 
 // Where the second pass stands: whether it writes or only counts, the address of the line, how many data words and how many
