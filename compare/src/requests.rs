@@ -25,6 +25,7 @@ pub fn calls() -> Vec<Call> {
     symbols(&mut out);
     line_numbers(&mut out);
     verdicts(&mut out);
+    digit_values(&mut out);
     out
 }
 
@@ -356,3 +357,22 @@ const LINE_NUMBERS: [(&str, &str); 68] = [
     ("BRA +200", "no number"),
     ("JMP 70000", "no number"),
 ];
+
+// ---- W-206: call 4 too, for every byte behind a digit
+
+/// The byte's digit value is the Rust's own `to_digit`, and none for a byte over 127; a blank ends the number, and with a colon the
+/// line is another.
+fn digit_values(out: &mut Vec<Call>) {
+    for (prefix, radix) in [("$", 16), ("", 10)] {
+        for b in (0..=255u8).filter(|&b| b != b':') {
+            let digit = if b < 128 { char::from(b).to_digit(radix) } else { None };
+            let text = match digit {
+                Some(d) => format!("read {}\n", radix + d),
+                None if matches!(b, 9..=13 | 32) => "read 1\n".to_string(),
+                None => "bad digit\n".to_string(),
+            };
+            let source = [b"DC.L ", prefix.as_bytes(), &[b'1', b]].concat();
+            out.push(Call { number: 4, x: 0, y: 0, source, text });
+        }
+    }
+}
