@@ -9,7 +9,7 @@ use lib.IntN.{ℤ, pos, _+ℤ_}
 use Rattle.rules.specs.Text.{Text}
 use Rattle.rules.specs.Answer.{Answer, accepted, refused, refuseIf, andThen}
 use Rattle.rules.specs.Assemble.{checks, passAtBy, assemble, Place, Slices, short, room, assembleAnswer, over, holding, writeList, assembleSlices}
-use Rattle.rules.specs.Relocate.{far, outside, firstIndex, moveAddresses, moveWords, moveAnswer, moveBy, moveSlices}
+use Rattle.rules.specs.Relocate.{far, outside, firstIndex, firstBadMark, moveAddresses, moveWords, moveAnswer, moveBy, moveSlices}
 use Rattle.rules.specs.Tally.{listIn, held}
 use Rattle.promises.specs.Demand1.{SourceCondition, PassCondition, AssembleCondition, MoveCondition, checking, passing, assembling, moving, ChecksRefuseExactly, PassRefusesExactly, AssembleRefusesExactly, MoveRefusesExactly, RefusalChangesNothing, SamePast, AssembleWrites, MoveWrites, AcceptedWrites}
 use Rattle.promises.proofs.Compared.{clash}
@@ -123,7 +123,7 @@ unfolding moveAnswer moveSlices moveBy apart
 accepted-move x count d n e =
     let k8 = not-refused (far d) 8 0 _ n e in
     let k9 = not-refused (short x count) 9 count _ n (k8 .1) in
-    let k10 = not-refused-at _ 10 _ n (k9 .1) in
+    let k10 = not-refused-at (firstBadMark 0 0 count (x .marks)) 10 _ n (k9 .1) in
     let k11 = not-refused-at (firstIndex (λ a. outside (pos a +ℤ d)) 0 count (x .addresses)) 11 (accepted count) n (k10 .1) in
     let same : count ≡ n = let f = k11 .1 in cc in
     let long = long-enough x count (k9 .0) in
@@ -131,7 +131,7 @@ accepted-move x count d n e =
     (record {
       clear = none-holds (MoveCondition x count d) moving (are-apart moving refl) (M.known x count d) n (moveAnswer x count d) e (M.answered x count d);
       counted = refl;
-      moved = moved-at d count x (long .0) (long .1) (long .2) (k11 .0);
+      moved = moved-at d count x (long .0) (long .1) (long .2) (k10 .0) (k11 .0);
       past = record { addresses = past-addresses d count (x .addresses); words = past-words d count (x .marks) (x .words); marks = refl };
       kept = refl;
       addresses = addresses-long d count (x .addresses);

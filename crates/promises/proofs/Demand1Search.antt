@@ -15,6 +15,10 @@ pub data Found (P : ℕ → Type 0) (n : ℕ) : Option ℕ → Type 0 where
   found : {p : ℕ} → Lowest P n p → Found P n (some p)
   nowhere : ((i : ℕ) → i < n → ¬ P i) → Found P n none
 
+-- none found, none there
+pub none-found : (P : ℕ → Type 0) (n : ℕ) → Found P n none → (i : ℕ) → i < n → ¬ P i
+none-found P n (nowhere h) = h
+
 -- there is one lowest index
 pub lowest-once : (P : ℕ → Type 0) (n p q : ℕ) → Lowest P n p → Lowest P n q → p ≡ q
 lowest-once P n p q h k = go (compared p q)
@@ -24,13 +28,27 @@ lowest-once P n p q h k = go (compared p q)
     go (more l) = absurd (h .lowest q l (k .holds))
     go (equal e) = e
 
+-- an index counted from one more
+unfoldable pub later : Option ℕ → Option ℕ
+later none = none
+later (some p) = some (suc p)
+
+-- a search that goes on after index 0, where P does not hold
+pub goes-on : (P : ℕ → Type 0) (n : ℕ) (o : Option ℕ) → ¬ P 0 → Found (λ i. P (suc i)) n o → Found P (suc n) (later o)
+unfolding later
+goes-on P n (some p) d (found h) = found {p = suc p} (record { inside = omega (arith, h .inside); holds = h .holds; lowest = go })
+  where
+    go : (i : ℕ) → i < suc p → ¬ P i
+    go zero l = d
+    go (suc i) l = h .lowest i (omega arith)
+goes-on P n none d (nowhere h) = nowhere go
+  where
+    go : (i : ℕ) → i < suc n → ¬ P i
+    go zero l = d
+    go (suc i) l = h i (omega arith)
+
 -- the search of the definitions, by a test f that decides Q
 module _ (f : ℕ → Bool) (Q : ℕ → Type 0) (yes : (x : ℕ) → f x ≡ true → Q x) (no : (x : ℕ) → f x ≡ false → ¬ Q x) where
-  -- an index counted from one more
-  later : Option ℕ → Option ℕ
-  later none = none
-  later (some p) = some (suc p)
-
   shift : (i n : ℕ) (xs : List ℕ) → firstIndex f (suc i) n xs ≡ later (firstIndex f i n xs)
   unfolding firstIndex later
   shift i zero xs = refl
@@ -41,20 +59,6 @@ module _ (f : ℕ → Bool) (Q : ℕ → Type 0) (yes : (x : ℕ) → f x ≡ tr
       go true e h = rw (e, firstIndex)
       go false e h = rw (e, firstIndex) h
 
-  -- a search that goes on after a number that does not pass
-  behind : (x : ℕ) (xs : List ℕ) (n : ℕ) (o : Option ℕ) → ¬ Q x → Found (λ i. Q (getD xs i 0)) n o → Found (λ i. Q (getD (x ∷ xs) i 0)) (suc n) (later o)
-  unfolding later
-  behind x xs n (some p) d (found h) = found {p = suc p} (record { inside = omega (arith, h .inside); holds = h .holds; lowest = go })
-    where
-      go : (i : ℕ) → i < suc p → ¬ Q (getD (x ∷ xs) i 0)
-      go zero l = d
-      go (suc i) l = h .lowest i (omega arith)
-  behind x xs n none d (nowhere h) = nowhere go
-    where
-      go : (i : ℕ) → i < suc n → ¬ Q (getD (x ∷ xs) i 0)
-      go zero l = d
-      go (suc i) l = h i (omega arith)
-
   -- the search finds the lowest index below n
   pub search-finds : (n : ℕ) (xs : List ℕ) → n ≤ length xs → Found (λ i. Q (getD xs i 0)) n (firstIndex f 0 n xs)
   unfolding firstIndex
@@ -64,4 +68,4 @@ module _ (f : ℕ → Bool) (Q : ℕ → Type 0) (yes : (x : ℕ) → f x ≡ tr
     where
       go : (y : Bool) → f x ≡ y → Found (λ i. Q (getD xs i 0)) n (firstIndex f 0 n xs) → Found (λ i. Q (getD (x ∷ xs) i 0)) (suc n) (firstIndex f 0 (suc n) (x ∷ xs))
       go true e r = rw (e, firstIndex) (found {p = 0} (record { inside = omega arith; holds = yes x e; lowest = λ i l. absurd (omega arith) }))
-      go false e r = rw (e, firstIndex, shift 0 n xs) (behind x xs n (firstIndex f 0 n xs) (no x e) r)
+      go false e r = rw (e, firstIndex, shift 0 n xs) (goes-on (λ i. Q (getD (x ∷ xs) i 0)) n (firstIndex f 0 n xs) (no x e) r)

@@ -1,13 +1,13 @@
 -- Demand 3 for every lawful pair: the four statements, from the shift of the base and the mover's tally; and so for 01's. Assumes nothing.
-use Prim.Native.Nat.{ℕ, zero, suc, _+_, _-_, _%_, _<_}
+use Prim.Native.Nat.{ℕ, zero, suc, _+_, _-_, _≤_, _<_}
 use mathlib.Core.Path.{_≡_, refl, sym, _∙_, ap}
 use mathlib.Core.Logic.{_≢_, _↔_}
 use mathlib.Core.Bool.{Bool, true, false, cond}
-use mathlib.Core.Option.{none, some}
-use mathlib.Core.List.{List}
+use mathlib.Core.Option.{none, some, Option·some-injective, Option·none-ne-some}
+use mathlib.Core.List.{List, [], _∷_}
 use native.Mathlib.Omega.{arith}
-use borrow.Author.Tests.{ltb-true, ltb-false, lt-leb, leb-false, eqb-true, eqb-false}
-use lib.Dec.{ltb, eqb}
+use borrow.Author.Tests.{ltb-true, ltb-false, lt-leb, leb-false}
+use lib.Dec.{ltb}
 use lib.ListN.{length, getElem?}
 use lib.IntN.{ℤ, pos, negsuc, _+ℤ_, _-ℤ_, natAbs, subℕ, +ℤ-comm, -ℤ-+ℤ-cancel}
 use Rattle.rules.specs.Limits.{addressLimit, distanceLimit}
@@ -17,15 +17,18 @@ use Rattle.rules.specs.Answer.{accepted, andThen}
 use Rattle.rules.specs.Line.{size}
 use Rattle.rules.specs.Encode.{encode, mnemonics}
 use Rattle.rules.specs.Assemble.{Sizes, Encoder, Place, secondPassBy, assembleBy}
-use Rattle.rules.specs.Relocate.{far, movedWord}
-use Rattle.rules.specs.Tally.{firstOutside, movedPlace, tallyList, tallied, tally}
+use Rattle.rules.specs.Relocate.{far, addedWord, movedWord}
+use Rattle.rules.specs.Tally.{firstOutside, firstWord, movedPlace, tallyList, tallied, tally}
 use Rattle.promises.specs.Lawful.{Lawful, RulesAreLawful}
+use Rattle.promises.specs.Pairs.{Sixteen, Low}
 use Rattle.promises.specs.Demand3.{lastTotal, MovedIsAssembledBy, WordsDifferBy, MarksSayWhatMovesBy, MovesFollowTallyBy, OneMoveForAllBy, Demand3By, LawfulMoves, MovedIsAssembled, WordsDiffer, MarksSayWhatMoves, MovesFollowTally, OneMoveForAll}
-use Rattle.promises.proofs.Lists.{all-at, getElem?-map}
+use Rattle.promises.proofs.Lists.{All, all-at, all-by}
 use Rattle.promises.proofs.Accepted.{accepts}
 use Rattle.promises.proofs.Places.{second-shift, list-at}
 use Rattle.promises.proofs.Fit.{Fit, listed}
-use Rattle.promises.proofs.Twice.{residue-lt, list-twice, outside-twice, inside-none, fit-inside, length-moved}
+use Rattle.promises.proofs.Residues.{residue-lt}
+use Rattle.promises.proofs.Twice.{inside-reached, list-twice, outside-twice, inside-none, low-inside, length-moved}
+use Rattle.promises.proofs.Paired.{grouped-good, grouped-paired}
 use Rattle.promises.proofs.Lawful.{rules-are-lawful}
 use Rattle.promises.proofs.Moves.{follow-from-zero, last-total-inside, last-list-is, move-accepted, move-gives}
 
@@ -42,13 +45,25 @@ apart zero c hb hc = omega arith
 apart (suc b) c hb hc = apart-sub b c hb hc
 
 -- a marked word, which has 16 bits, is another word when moved by no multiple of 65,536; other words stand
-word-differs : (d : ℤ) (p : Place) → Fit p → modulo 65536 d ≢ 0 → (p .word ≢ movedWord d (p .mark) (p .word)) ↔ (p .mark ≡ 1)
-unfolding movedWord
-word-differs d p h k = go (eqb (p .mark) 1) refl
-  where
-    go : (x : Bool) → eqb (p .mark) 1 ≡ x → (p .word ≢ cond x ((p .word + modulo 65536 d) % 65536) (p .word)) ↔ (p .mark ≡ 1)
-    go true e = (λ u. eqb-true (p .mark) 1 e, λ v w. let r = residue-lt d in let z = h .reduced v in k (omega arith))
-    go false e = (λ u. absurd (u refl), λ v. absurd (eqb-false (p .mark) 1 e v))
+word-differs : (d : ℤ) (m w v : ℕ) → m ≤ 1 → (m ≢ 0 → w < 65536) → modulo 65536 d ≢ 0 → (w ≢ movedWord d m w v) ↔ (m ≡ 1)
+unfolding movedWord addedWord
+word-differs d zero w v h f k = (λ u. absurd (u refl), λ e. absurd (omega arith))
+word-differs d (suc zero) w v h f k = (λ u. refl, λ e u. let r = residue-lt d in let z = f (λ e. omega arith) in k (omega arith))
+word-differs d (suc (suc m)) w v h f k = absurd (omega arith)
+
+-- the place at an index of a moved list
+moved-at : (d : ℤ) (l : List Place) (i : ℕ) (p q : Place) → getElem? l i ≡ some p → getElem? (tallyList d l) i ≡ some q → (v : ℕ) × (q ≡ movedPlace d p v)
+unfolding tallyList
+moved-at d [] i p q hp hq = absurd (Option·none-ne-some p hp)
+moved-at d (r ∷ rs) zero p q hp hq = (firstWord rs, rw (← Option·some-injective r p hp) (sym (Option·some-injective (movedPlace d r (firstWord rs)) q hq)))
+moved-at d (r ∷ rs) (suc i) p q hp hq = moved-at d rs i p q hp hq
+
+-- what the moves ask of a list that fits
+sixteen : (l : List Place) → All Fit l → All Sixteen l
+sixteen l h = all-by Fit Sixteen (λ p f. f .reduced) l h
+
+low : (l : List Place) → All Fit l → All Low l
+low l h = all-by Fit Low (λ p f. f .bound) l h
 
 module _ {z : Sizes} {e : Encoder} {most : ℕ} (law : Lawful z e most) where
   -- one source accepted at two bases
@@ -67,30 +82,31 @@ module _ {z : Sizes} {e : Encoder} {most : ℕ} (law : Lawful z e most) where
         let qc = list-at law c s lc ec in
         let same : qb .0 ≡ qc .0 = cc in
         let to-c : pos b +ℤ (pos c -ℤ pos b) ≡ pos c = +ℤ-comm (pos b) (pos c -ℤ pos b) ∙ -ℤ-+ℤ-cancel (pos c) (pos b) in
-        let at-b = fit-inside b (qb .0) (rw (qb .2) at (listed law b s lb eb .fit)) in
-        let at-c = fit-inside c (qc .0) (rw (qc .2) at (listed law c s lc ec .fit)) in (
-          rw (qb .2, list-twice (pos b) (pos c -ℤ pos b) (qb .0) at-b, to-c, same) (sym (qc .2)),
+        let at-b = inside-reached (pos b) (qb .0) (low-inside b (qb .0) (rw (qb .2) at (low lb (listed law b s lb eb .fit)))) in
+        let at-c = low-inside c (qc .0) (rw (qc .2) at (low lc (listed law c s lc ec .fit))) in (
+          rw (qb .2, list-twice (pos b) (pos c -ℤ pos b) (qb .0) at-b (grouped-paired (listed law 0 s (qb .0) (qb .1) .grouped)), to-c, same) (sym (qc .2)),
           rw (qb .2, outside-twice (pos b) (pos c -ℤ pos b) 0 (qb .0) at-b, to-c, same) (inside-none (pos c) 0 (qc .0) at-c),
         )
 
   moved-is-assembled-by : MovedIsAssembledBy z e
   moved-is-assembled-by s b c lb lc eb ec x h =
-      let fit = listed law b s lb eb .fit in
+      let k = listed law b s lb eb in
+      let good = grouped-good (k .grouped) in
+      let six = sixteen lb (k .fit) in
       let ok = near s b c lb lc eb ec in
       let m = moved s b c lb lc eb ec in
       let n : length lb ≡ length lc = sym (length-moved (pos c -ℤ pos b) lb) ∙ ap length (m .0) in (
         n,
-        move-accepted lb fit x h (pos c -ℤ pos b) ok (m .1) ∙ ap accepted n,
-        rw (← n) (move-gives lb fit x h (pos c -ℤ pos b) ok (m .1) ∙ m .0),
+        move-accepted lb good six x h (pos c -ℤ pos b) ok (m .1) ∙ ap accepted n,
+        rw (← n) (move-gives lb good six x h (pos c -ℤ pos b) ok (m .1) ∙ m .0),
       )
 
   words-differ-by : WordsDifferBy z e
-  unfolding tallyList movedPlace
+  unfolding movedPlace
   words-differ-by s b c lb lc eb ec k i p q hp hq =
-      let d : ℤ = pos c -ℤ pos b in
-      let f : getElem? lc i ≡ some (movedPlace d p) = rw (← moved s b c lb lc eb ec .0, getElem?-map (movedPlace d) lb i, hp) refl in
-      let m : movedPlace d p ≡ q = cc in
-      rw (← m) (refl, word-differs d p (all-at Fit lb i p (listed law b s lb eb .fit) hp) k)
+      let fit = all-at Fit lb i p (listed law b s lb eb .fit) hp in
+      let m = moved-at (pos c -ℤ pos b) lb i p q hp (rw (moved s b c lb lc eb ec .0) hq) in
+      rw (m .1) (refl, word-differs (pos c -ℤ pos b) (p .mark) (p .word) (m .0) (fit .marked) (fit .reduced) k)
 
   marks-say-what-moves-by : MarksSayWhatMovesBy z e
   unfolding assembleBy andThen
@@ -101,16 +117,18 @@ module _ {z : Sizes} {e : Encoder} {most : ℕ} (law : Lawful z e most) where
 
   moves-follow-tally-by : MovesFollowTallyBy z e
   unfolding tally
-  moves-follow-tally-by s b l f x h ds = follow-from-zero l (listed law b s l f .fit) x h ds
+  moves-follow-tally-by s b l f x h ds = let k = listed law b s l f in follow-from-zero l (grouped-good (k .grouped)) (sixteen l (k .fit)) x h ds
 
   one-move-for-all-by : OneMoveForAllBy z e
   unfolding far
   one-move-for-all-by s b l f x h ds ok =
-      let fit = listed law b s l f .fit in
+      let k = listed law b s l f in
+      let good = grouped-good (k .grouped) in
+      let six = sixteen l (k .fit) in
       let total : ℤ = lastTotal (pos 0) (tallied l (pos 0) ds) in
       let near : far total ≡ false = lt-leb distanceLimit (natAbs total) ok in
-      let ins = inside-none total 0 l (last-total-inside l fit ds) in
-      (move-accepted l fit x h total near ins, move-gives l fit x h total near ins ∙ sym (last-list-is l fit ds))
+      let ins = inside-none total 0 l (last-total-inside l good six (low l (k .fit)) ds) in
+      (move-accepted l good six x h total near ins, move-gives l good six x h total near ins ∙ sym (last-list-is l good six ds))
 
   demand-3-by : Demand3By z e
   demand-3-by = record { moved = moved-is-assembled-by; differ = words-differ-by; marks = marks-say-what-moves-by; follow = moves-follow-tally-by; one = one-move-for-all-by }

@@ -1,6 +1,7 @@
 -- By a lawful pair a list fits the mover, and has at most the pair's places for each line. Assumes nothing.
 use Prim.Native.Nat.{ℕ, suc, _+_, _*_, _≤_, _<_}
 use mathlib.Core.Path.{_≡_, refl, ap}
+use mathlib.Core.Logic.{_≢_}
 use mathlib.Core.List.{List, [], _∷_, flatMap}
 use native.Mathlib.Nat.{mod-lt, mul-suc, le-trans, mul-le-mul-left}
 use native.Mathlib.Omega.{arith}
@@ -17,18 +18,20 @@ use Rattle.rules.proofs.Lines.{length-lines}
 use Rattle.promises.specs.Lawful.{Lawful}
 use Rattle.promises.proofs.Lists.{All, all-append, all-flatMap}
 use Rattle.promises.proofs.Accepted.{accepts}
+use Rattle.promises.proofs.Paired.{Grouped}
+use Rattle.promises.proofs.Places.{second-grouped}
 use Rattle.promises.proofs.Tasks.{Worded, silent, codes, holds, worded, pass-line}
 
 -- a place that the mover takes: an address up to 2^30 + 1, a mark 0 or 1, and a marked word of 16 bits
 pub record Fit (p : Place) : Type 0 where
   pub bound : p .address ≤ lastAddress
   pub marked : p .mark ≤ 1
-  pub reduced : p .mark ≡ 1 → p .word < 65536
+  pub reduced : p .mark ≢ 0 → p .word < 65536
 
 -- a cell's place fits
 placeOf-fit : (a : ℕ) (c : Content) → a ≤ lastAddress → Fit (placeOf a c)
 unfolding placeOf
-placeOf-fit a (literal w) h = record { bound = h; marked = omega arith; reduced = λ e. omega arith }
+placeOf-fit a (literal w) h = record { bound = h; marked = omega arith; reduced = λ e. absurd (e refl) }
 placeOf-fit a (address x) h = record { bound = h; marked = omega arith; reduced = λ e. mod-lt x (omega arith) }
 
 -- a place for each cell
@@ -61,9 +64,10 @@ unfolding andThen
 holds-then P Q (accepted a) f h k = k a h
 holds-then P Q (refused n i) f h k = tt
 
--- a list fits, and has at most so many places for each line
+-- a list fits, its marks are well paired, and it has at most so many places for each line
 pub record Listed (most : ℕ) (s : Text) (l : List Place) : Type 0 where
   pub fit : All Fit l
+  pub grouped : Grouped l
   pub count : length l ≤ most * length (cutAt 10 s)
 
 module _ {z : Sizes} {e : Encoder} {most : ℕ} (law : Lawful z e most) where
@@ -125,6 +129,7 @@ module _ {z : Sizes} {e : Encoder} {most : ℕ} (law : Lawful z e most) where
         fit = all-append Fit (flatMap dataPlaces (p .puts)) (flatMap (codePlacesBy e (p .labels)) (p .puts))
             (all-flatMap Fit Low dataPlaces data-fit (p .puts) (h .low))
             (all-flatMap Fit Low (codePlacesBy e (p .labels)) (code-fit (p .labels)) (p .puts) (h .low));
+        grouped = second-grouped e p;
         count = rw length-append (le-trans (few-a-put (p .labels) (p .puts)) (mul-le-mul-left most (omega (arith, length-lines s))));
       }
 

@@ -9,8 +9,10 @@ pub mod Demand1Lines
 pub mod Demand1Passes
 pub mod Demand1Short
 pub mod Demand1Assemble
+pub mod Demand1Marks
 pub mod Demand1Move
 pub mod Accepted
+pub mod Residues
 pub mod Demand1Written
 pub mod Demand1
 pub mod ManualLaws
@@ -33,13 +35,15 @@ pub mod RustRefused
 pub mod Lists
 pub mod Shift
 pub mod Words
+pub mod Twice
+pub mod Paired
 pub mod Places
 pub mod Fit
 pub mod Lawful
-pub mod Twice
 pub mod Call
 pub mod Moves
 pub mod Demand3
+pub mod Pairs
 pub mod Longest
 pub mod Standing
 pub mod Kept

@@ -1,4 +1,4 @@
--- Laws of lists that the library has not: a property of all elements, the element at an index, `flatMap` under a map. Assumes nothing.
+-- Laws of lists that the library has not, of a property of all elements. Assumes nothing.
 use Prim.Native.Nat.{ℕ, zero, suc}
 use mathlib.Core.Path.{_≡_, refl, sym, subst}
 use mathlib.Core.Option.{some, Option·map, Option·some-injective, Option·none-ne-some}
@@ -43,3 +43,8 @@ pub getElem?-map : {A B : Type 0} (f : A → B) (xs : List A) (i : ℕ) → getE
 getElem?-map f [] i = refl
 getElem?-map f (x ∷ xs) zero = refl
 getElem?-map f (x ∷ xs) (suc i) = getElem?-map f xs i
+
+-- by another property
+pub all-by : {A : Type 0} (P Q : A → Type 0) → ((x : A) → P x → Q x) → (xs : List A) → All P xs → All Q xs
+all-by P Q f [] h = tt
+all-by P Q f (x ∷ xs) h = (f x (h .0), all-by P Q f xs (h .1))

@@ -1,4 +1,4 @@
--- The moves follow the tally, from slices that hold a list that fits. Assumes nothing.
+-- The moves follow the tally, from slices that hold a list of well paired marks. Assumes nothing.
 use Prim.Native.Nat.{ℕ}
 use mathlib.Core.Path.{_≡_, refl, sym, _∙_}
 use mathlib.Core.Bool.{false}
@@ -10,11 +10,12 @@ use Rattle.rules.specs.Answer.{Answer, accepted, refused, refuseIf, refuseAt}
 use Rattle.rules.specs.Assemble.{Place, Slices}
 use Rattle.rules.specs.Relocate.{far, moveAnswer, moveBy, moveSlices}
 use Rattle.rules.specs.Tally.{held, moves, firstOutside, tallyAnswer, addIf, newTotal, tallyList, tallied, seen, tally}
+use Rattle.promises.specs.Pairs.{Sixteen, Low}
 use Rattle.promises.specs.Demand3.{no-move, one-move, MovesAreMade, lastTotal, lastList, Totalled, no-more, left-alone, added, TotalsAddUp}
 use Rattle.promises.proofs.Lists.{All}
 use Rattle.promises.proofs.Accepted.{not-refused, not-refused-at}
-use Rattle.promises.proofs.Fit.{Fit}
-use Rattle.promises.proofs.Twice.{Inside, list-twice, outside-twice, none-inside, fit-inside, list-zero, length-moved, marks-moved}
+use Rattle.promises.proofs.Twice.{Inside, Reached, inside-reached, reached-zero, list-twice, outside-twice, none-inside, low-inside, list-zero, length-moved, marks-moved}
+use Rattle.promises.proofs.Paired.{NoBadMark, all-paired}
 use Rattle.promises.proofs.Call.{call-answers, call-writes}
 
 -- moves are made one after another
@@ -66,13 +67,22 @@ pub totals-add-up : TotalsAddUp
 unfolding TotalsAddUp
 totals-add-up l ds = totalled l (pos 0) ds
 
+-- nor does a total that was reached go below 0
+total-reached : (l : List Place) (t d : ℤ) → All (Reached t) l → All (Reached (newTotal l t d)) l
+unfolding newTotal addIf
+total-reached l t d h = go (tallyAnswer l t d) refl
+  where
+    go : (r : Answer ℕ) → tallyAnswer l t d ≡ r → All (Reached (addIf r t d)) l
+    go (refused n i) e = h
+    go (accepted n) e = inside-reached (t +ℤ d) l (tally-accepts l t d n e .1)
+
 -- one call on slices that hold the tally's list at t: the tally's answer, and its next list
-module _ (l : List Place) (fit : All Fit l) (x : Slices) (t d : ℤ) (h : held (length l) x ≡ tallyList t l) (ins : Inside t l) where
+module _ (l : List Place) (good : NoBadMark l) (x : Slices) (t d : ℤ) (h : held (length l) x ≡ tallyList t l) (up : All (Reached t) l) where
   same-answer : moveAnswer x (length l) d ≡ tallyAnswer l t d
   unfolding tallyAnswer
   same-answer =
-      call-answers x (length l) d (rw h (length-moved t l)) (rw h (marks-moved t l fit))
-      ∙ rw (h, outside-twice t d 0 l ins)
+      call-answers x (length l) d (rw h (length-moved t l)) (rw (h, marks-moved t l) good)
+      ∙ rw (h, outside-twice t d 0 l up)
 
   same-list : held (length l) (moveSlices x (length l) d) ≡ tallyList (newTotal l t d) l
   unfolding moveSlices moveBy newTotal addIf
@@ -80,33 +90,33 @@ module _ (l : List Place) (fit : All Fit l) (x : Slices) (t d : ℤ) (h : held (
     where
       go : (r : Answer ℕ) → tallyAnswer l t d ≡ r → held (length l) (moveBy r d x) ≡ tallyList (addIf r t d) l
       go (refused n i) e = h
-      go (accepted n) e = rw (tally-accepts l t d n e .0) (call-writes x (length l) d ∙ rw h (list-twice t d l ins))
+      go (accepted n) e = rw (tally-accepts l t d n e .0) (call-writes x (length l) d (rw h (length-moved t l)) ∙ rw h (list-twice t d l up (all-paired l good)))
 
--- the moves follow the tally from any total that is inside
-follow : (l : List Place) → All Fit l → (x : Slices) (t : ℤ) (ds : List ℤ) → held (length l) x ≡ tallyList t l → Inside t l → moves (length l) x ds ≡ tally l t ds
+-- the moves follow the tally from any total that is reached
+follow : (l : List Place) → NoBadMark l → (x : Slices) (t : ℤ) (ds : List ℤ) → held (length l) x ≡ tallyList t l → All (Reached t) l → moves (length l) x ds ≡ tally l t ds
 unfolding moves tally tallied seen
-follow l fit x t [] h ins = refl
-follow l fit x t (d ∷ ds) h ins =
-    let k = same-list l fit x t d h ins in
-    rw (same-answer l fit x t d h ins, k, follow l fit (moveSlices x (length l) d) (newTotal l t d) ds k (total-inside l t d ins))
+follow l good x t [] h up = refl
+follow l good x t (d ∷ ds) h up =
+    let k = same-list l good x t d h up in
+    rw (same-answer l good x t d h up, k, follow l good (moveSlices x (length l) d) (newTotal l t d) ds k (total-reached l t d up))
 
 -- from slices that hold the list itself, which is the tally's list at total 0
-module _ (l : List Place) (fit : All Fit l) where
-  inside-zero : Inside (pos 0) l
-  inside-zero = fit-inside 0 l (rw (list-zero l fit) fit)
+module _ (l : List Place) (good : NoBadMark l) (sixteen : All Sixteen l) where
+  zero-itself : tallyList (pos 0) l ≡ l
+  zero-itself = list-zero l sixteen (all-paired l good)
 
-  pub last-total-inside : (ds : List ℤ) → Inside (lastTotal (pos 0) (tallied l (pos 0) ds)) l
-  last-total-inside ds = last-inside l (pos 0) ds inside-zero
+  pub last-total-inside : All Low l → (ds : List ℤ) → Inside (lastTotal (pos 0) (tallied l (pos 0) ds)) l
+  last-total-inside low ds = last-inside l (pos 0) ds (low-inside 0 l (rw zero-itself low))
 
   pub last-list-is : (ds : List ℤ) → lastList l (tallied l (pos 0) ds) ≡ tallyList (lastTotal (pos 0) (tallied l (pos 0) ds)) l
-  last-list-is ds = rw (list-zero l fit) at (last-list l (pos 0) ds)
+  last-list-is ds = rw zero-itself at (last-list l (pos 0) ds)
 
   module _ (x : Slices) (h : held (length l) x ≡ l) where
     at-zero : held (length l) x ≡ tallyList (pos 0) l
-    at-zero = h ∙ sym (list-zero l fit)
+    at-zero = h ∙ sym zero-itself
 
     pub follow-from-zero : (ds : List ℤ) → moves (length l) x ds ≡ tally l (pos 0) ds
-    follow-from-zero ds = follow l fit x (pos 0) ds at-zero inside-zero
+    follow-from-zero ds = follow l good x (pos 0) ds at-zero (reached-zero l)
 
     -- one move by a distance that is near and leaves no place outside
     module _ (d : ℤ) (near : far d ≡ false) (ins : firstOutside d 0 l ≡ none) where
@@ -115,8 +125,8 @@ module _ (l : List Place) (fit : All Fit l) where
       answer-zero = rw (near, +ℤ-idl d, ins)
 
       pub move-accepted : moveAnswer x (length l) d ≡ accepted (length l)
-      move-accepted = same-answer l fit x (pos 0) d at-zero inside-zero ∙ answer-zero
+      move-accepted = same-answer l good x (pos 0) d at-zero (reached-zero l) ∙ answer-zero
 
       pub move-gives : held (length l) (moveSlices x (length l) d) ≡ tallyList d l
       unfolding newTotal addIf
-      move-gives = rw (answer-zero, +ℤ-idl d) at (same-list l fit x (pos 0) d at-zero inside-zero)
+      move-gives = rw (answer-zero, +ℤ-idl d) at (same-list l good x (pos 0) d at-zero (reached-zero l))

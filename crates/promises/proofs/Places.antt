@@ -2,10 +2,10 @@
 use Prim.Native.Nat.{ℕ, _+_, _%_}
 use mathlib.Core.Path.{_≡_, refl, _∙_, ap}
 use mathlib.Core.Bool.{false≢true}
-use mathlib.Core.List.{List, [], _∷_, map, map-append}
+use mathlib.Core.List.{List, [], _∷_, map, flatMap}
 use native.Mathlib.Nat.{add-assoc, add-comm, add-zero}
 use native.Mathlib.Omega.{arith}
-use lib.IntN.{pos}
+use lib.IntN.{ℤ, pos}
 use Rattle.rules.specs.Text.{Text}
 use Rattle.rules.specs.Number.{modulo}
 use Rattle.rules.specs.Line.{Task, linesOf}
@@ -14,25 +14,44 @@ use Rattle.rules.specs.Encode.{Content, literal, address}
 use Rattle.rules.specs.Answer.{Answer, accepted, refused, andThen}
 use Rattle.rules.specs.Assemble.{Sizes, Encoder, Put, Pass, firstPassBy, Place, placeOf, placesAt, dataContents, codeContentsBy, dataPlaces, codePlacesBy, secondPassBy, encoded, assembleBy}
 use Rattle.promises.specs.Lawful.{shiftPut, shiftPass, shiftTable, shiftContent, shiftContents, Lawful}
-use Rattle.rules.specs.Relocate.{movedAddress, movedWord}
+use Rattle.rules.specs.Relocate.{movedAddress, addedWord, movedWord}
 use Rattle.rules.specs.Tally.{movedPlace, tallyList}
-use Rattle.promises.proofs.Lists.{flatMap-by}
+use Rattle.promises.proofs.Twice.{moved-append}
+use Rattle.promises.proofs.Paired.{Grouped, over, single, grouped-append, grouped-paired}
 use Rattle.promises.proofs.Tasks.{Worded, silent, codes, holds, worded}
 use Rattle.promises.proofs.Shift.{pass-shift}
 use Rattle.promises.proofs.Accepted.{passesBy, accepts, assembles}
 
--- a place, and the places of one line
-placeOf-shift : (b a : ℕ) (c : Content) → placeOf (b + a) (shiftContent b c) ≡ movedPlace (pos b) (placeOf a c)
-unfolding placeOf shiftContent movedPlace movedAddress movedWord modulo
-placeOf-shift b a (literal w) = rw (add-comm b a)
-placeOf-shift b a (address x) =
-    let e : (b + x) % 65536 ≡ (x % 65536 + b % 65536) % 65536 = omega arith in
-    rw (e, add-comm b a)
+-- an address plus b, in a word
+low-shift : (b x : ℕ) → (b + x) % 65536 ≡ addedWord (pos b) (x % 65536)
+unfolding addedWord modulo
+low-shift b x = omega arith
 
-placesAt-shift : (b a : ℕ) (cs : List Content) → placesAt (b + a) (shiftContents b cs) ≡ map (movedPlace (pos b)) (placesAt a cs)
-unfolding placesAt
+-- the places of words b higher, at an address b higher, are the places moved by b
+placesAt-shift : (b a : ℕ) (cs : List Content) → placesAt (b + a) (shiftContents b cs) ≡ tallyList (pos b) (placesAt a cs)
+unfolding placesAt placeOf shiftContent tallyList movedPlace movedAddress movedWord
 placesAt-shift b a [] = refl
-placesAt-shift b a (c ∷ cs) = rw (placeOf-shift b a c, add-assoc b a 2, placesAt-shift b (a + 2) cs)
+placesAt-shift b a (literal w ∷ cs) = rw (add-assoc b a 2, placesAt-shift b (a + 2) cs, add-comm b a)
+placesAt-shift b a (address x ∷ cs) = rw (low-shift b x, add-assoc b a 2, placesAt-shift b (a + 2) cs, add-comm b a)
+
+-- and their marks are well paired
+pub places-grouped : (a : ℕ) (cs : List Content) → Grouped (placesAt a cs)
+unfolding placesAt placeOf
+places-grouped a [] = over
+places-grouped a (literal w ∷ cs) = single {p = placeOf a (literal w)} (omega arith) (places-grouped (a + 2) cs)
+places-grouped a (address x ∷ cs) = single {p = placeOf a (address x)} (omega arith) (places-grouped (a + 2) cs)
+
+-- lists one after another: each one moved, then joined, is the joined list moved
+flatMap-moved : {A : Type 0} (t : ℤ) (g : A → A) (f f′ : A → List Place) → ((x : A) → f (g x) ≡ tallyList t (f′ x)) → ((x : A) → Grouped (f′ x))
+    → (xs : List A) → flatMap f (map g xs) ≡ tallyList t (flatMap f′ xs)
+unfolding flatMap tallyList
+flatMap-moved t g f f′ e k [] = refl
+flatMap-moved t g f f′ e k (x ∷ xs) = rw (e x, flatMap-moved t g f f′ e k xs, moved-append t (f′ x) (flatMap f′ xs) (grouped-paired (k x)))
+
+flatMap-grouped : {A : Type 0} (f : A → List Place) → ((x : A) → Grouped (f x)) → (xs : List A) → Grouped (flatMap f xs)
+unfolding flatMap
+flatMap-grouped f k [] = over
+flatMap-grouped f k (x ∷ xs) = grouped-append (k x) (flatMap f xs) (flatMap-grouped f k xs)
 
 -- data words are numbers as they stand
 dataContents-shift : (b : ℕ) {k : Task} → Worded k → dataContents k ≡ shiftContents b (dataContents k)
@@ -42,9 +61,24 @@ dataContents-shift b (codes i) = refl
 dataContents-shift b (holds n v) = refl
 
 -- what a line asks, as data and as code
-dataPlaces-shift : (b : ℕ) (p : Put) → dataPlaces (shiftPut b p) ≡ map (movedPlace (pos b)) (dataPlaces p)
+dataPlaces-shift : (b : ℕ) (p : Put) → dataPlaces (shiftPut b p) ≡ tallyList (pos b) (dataPlaces p)
 unfolding dataPlaces shiftPut
 dataPlaces-shift b p = ap (placesAt (b + p .address)) (dataContents-shift b (worded (p .task))) ∙ placesAt-shift b (p .address) (dataContents (p .task))
+
+data-grouped : (p : Put) → Grouped (dataPlaces p)
+unfolding dataPlaces
+data-grouped p = places-grouped (p .address) (dataContents (p .task))
+
+code-grouped : (e : Encoder) (t : Table) (p : Put) → Grouped (codePlacesBy e t p)
+unfolding codePlacesBy
+code-grouped e t p = places-grouped (p .address) (codeContentsBy e t (p .address) (p .task))
+
+-- whatever the encoder, a list's marks are well paired
+pub second-grouped : (e : Encoder) (p : Pass) → Grouped (secondPassBy e p)
+unfolding secondPassBy
+second-grouped e p =
+    grouped-append (flatMap-grouped dataPlaces data-grouped (p .puts)) (flatMap (codePlacesBy e (p .labels)) (p .puts))
+    (flatMap-grouped (codePlacesBy e (p .labels)) (code-grouped e (p .labels)) (p .puts))
 
 -- by a lawful pair
 module _ {z : Sizes} {e : Encoder} {most : ℕ} (law : Lawful z e most) where
@@ -54,19 +88,20 @@ module _ {z : Sizes} {e : Encoder} {most : ℕ} (law : Lawful z e most) where
   codeContents-shift b t a (codes i) = law .shifts b t a i
   codeContents-shift b t a (holds n v) = refl
 
-  codePlaces-shift : (b : ℕ) (t : Table) (p : Put) → codePlacesBy e (shiftTable b t) (shiftPut b p) ≡ map (movedPlace (pos b)) (codePlacesBy e t p)
+  codePlaces-shift : (b : ℕ) (t : Table) (p : Put) → codePlacesBy e (shiftTable b t) (shiftPut b p) ≡ tallyList (pos b) (codePlacesBy e t p)
   unfolding codePlacesBy shiftPut
   codePlaces-shift b t p =
       ap (placesAt (b + p .address)) (codeContents-shift b t (p .address) (worded (p .task))) ∙ placesAt-shift b (p .address) (codeContentsBy e t (p .address) (p .task))
 
   -- the second pass over a shifted first pass is the list, moved
   pub second-shift : (b : ℕ) (p : Pass) → secondPassBy e (shiftPass b p) ≡ tallyList (pos b) (secondPassBy e p)
-  unfolding secondPassBy shiftPass tallyList
+  unfolding secondPassBy shiftPass
   second-shift b p =
+      let data-whole = grouped-paired (flatMap-grouped dataPlaces data-grouped (p .puts)) in
       rw (
-        flatMap-by (shiftPut b) (movedPlace (pos b)) dataPlaces dataPlaces (dataPlaces-shift b) (p .puts),
-        flatMap-by (shiftPut b) (movedPlace (pos b)) (codePlacesBy e (shiftTable b (p .labels))) (codePlacesBy e (p .labels)) (codePlaces-shift b (p .labels)) (p .puts),
-        map-append,
+        flatMap-moved (pos b) (shiftPut b) dataPlaces dataPlaces (dataPlaces-shift b) data-grouped (p .puts),
+        flatMap-moved (pos b) (shiftPut b) (codePlacesBy e (shiftTable b (p .labels))) (codePlacesBy e (p .labels)) (codePlaces-shift b (p .labels)) (code-grouped e (p .labels)) (p .puts),
+        moved-append (pos b) (flatMap dataPlaces (p .puts)) (flatMap (codePlacesBy e (p .labels)) (p .puts)) data-whole,
       )
 
   -- the passes from base b are those from base 0, moved by b

@@ -1,7 +1,7 @@
 -- Demand 1 on paper 01's definitions: which calls are refused, with which number and place, and what a call writes.
--- The eleven conditions are said from 01's text, apart from the tests by which the definitions decide them; 7 speaks of the
+-- The eleven conditions are said from 01's text, and 10 from 02's W-207, apart from the tests by which the definitions decide them; 7 speaks of the
 -- list that the definitions give, 5 and 6 of what they read in a line (at base 0 Demand2Rust says both of the Rust's states). Assumes nothing.
-use Prim.Native.Nat.{ℕ, suc, _+_, _*_, _<_, _≤_}
+use Prim.Native.Nat.{ℕ, suc, _+_, _*_, _^_, _<_, _≤_}
 use mathlib.Core.Path.{_≡_}
 use mathlib.Core.Logic.{_≢_}
 use mathlib.Core.Bool.{Bool, false, _||_, cond}
@@ -113,14 +113,20 @@ pub data AssembleCondition (base : ℕ) (s : Text) (x : Slices) : ℕ → ℕ �
   -- "7 any slice shorter than the count needed; place that count"
   slice-short : {l : List Place} → assemble base s ≡ accepted l → Shorter x (length l) → AssembleCondition base s x 7 (length l)
 
+-- "a mark over 3, a 2 not followed by a 3 and a 3 not preceded by a 2": such is the mark at index i of the first n
+pub data BadMark (ms : List ℕ) (n i : ℕ) : Type 0 where
+  over-3 : 3 < getD ms i 0 → BadMark ms n i
+  high-alone : getD ms i 0 ≡ 2 → (suc i < n → getD ms (suc i) 0 ≢ 3) → BadMark ms n i
+  low-alone : getD ms i 0 ≡ 3 → ((j : ℕ) → suc j ≡ i → getD ms j 0 ≢ 2) → BadMark ms n i
+
 -- refusals 8 to 11 of a move of count places by the distance d
 pub data MoveCondition (x : Slices) (count : ℕ) (d : ℤ) : ℕ → ℕ → Type 0 where
   -- "8 distance outside ±(2^30 − 1); place 0"
   distance-over : distanceLimit ≤ natAbs d → MoveCondition x count d 8 0
   -- "9 count over any slice's length; place the count"
   count-over : Shorter x count → MoveCondition x count d 9 count
-  -- "10 a mark not 0 or 1 in the first count places; place its index, from 0", "its lowest index"
-  mark-wrong : {p : ℕ} → Lowest (λ i. (getD (x .marks) i 0 ≢ 0) × (getD (x .marks) i 0 ≢ 1)) count p → MoveCondition x count d 10 p
+  -- "10 a mark .. in the first count places; place its index, from 0", "its lowest index"
+  mark-wrong : {p : ℕ} → Lowest (BadMark (x .marks) count) count p → MoveCondition x count d 10 p
   -- "11 a moved address, in those places, below 0 or above 2^30 + 1; place its index", "its lowest index"
   address-out : {p : ℕ} → Lowest (λ i. OutOfRange (pos (getD (x .addresses) i 0) +ℤ d)) count p → MoveCondition x count d 11 p
 
@@ -178,15 +184,21 @@ pub record Congruent (m : ℕ) (a b : ℤ) : Type 0 where
   pub down : ℕ
   pub meet : a +ℤ pos (m * up) ≡ b +ℤ pos (m * down)
 
+-- the words at i and after it as one number, the high word first
+abbrev pub pairAt : List ℕ → ℕ → ℕ
+pairAt ws i = 65536 * getD ws i 0 + getD ws (suc i) 0
+
 -- place i of x, moved by the distance d, is that of y, in plain integers
 pub record MovedAt (d : ℤ) (x y : Slices) (i : ℕ) : Type 0 where
   -- "it adds the distance to each address"
   pub address : pos (getD (y .addresses) i 0) ≡ pos (getD (x .addresses) i 0) +ℤ d
+  -- a word that is not marked stays, and a marked one has 16 bits
+  pub stays : getD (x .marks) i 0 ≡ 0 → getD (y .words) i 0 ≡ getD (x .words) i 0
+  pub reduced : getD (x .marks) i 0 ≢ 0 → getD (y .words) i 0 < 65536
   -- "a marked word becomes (word + distance) modulo 65,536"
-  pub reduced : getD (x .marks) i 0 ≡ 1 → getD (y .words) i 0 < 65536
   pub congruent : getD (x .marks) i 0 ≡ 1 → Congruent 65536 (pos (getD (y .words) i 0)) (pos (getD (x .words) i 0) +ℤ d)
-  -- any other word stays
-  pub stays : getD (x .marks) i 0 ≢ 1 → getD (y .words) i 0 ≡ getD (x .words) i 0
+  -- W-207: "The mover adds the distance to such a pair as one number modulo 2^32"
+  pub pair : getD (x .marks) i 0 ≡ 2 → Congruent (2 ^ 32) (pos (pairAt (y .words) i)) (pos (pairAt (x .words) i) +ℤ d)
 
 -- a move accepted with the count n: no condition holds, each of the first n places is moved, the rest and all marks are those of x
 pub record MoveWrites (count : ℕ) (d : ℤ) (n : ℕ) (x y : Slices) : Type 0 where

@@ -7,6 +7,7 @@ pub mod RustAssembler
 pub mod Demand2Rust
 pub mod Lawful
 pub mod Demand3
+pub mod Pairs
 pub mod Longest
 pub mod Nearest
 pub mod Symbols

@@ -1,4 +1,4 @@
--- Moves made one after another, and the tally, by paper 01: the tally keeps the first list and a running total. Assumes nothing.
+-- Moves made one after another, and the tally, by paper 01 and 02's W-207: the tally keeps the first list and a running total. Assumes nothing.
 use Prim.Native.Nat.{ℕ, zero, suc}
 use mathlib.Core.Bool.{true, false}
 use mathlib.Core.Option.{Option, none, some}
@@ -48,13 +48,20 @@ addIf (accepted n) total d = total +ℤ d
 unfoldable pub newTotal : List Place → ℤ → ℤ → ℤ
 newTotal l total d = addIf (tallyAnswer l total d) total d
 
--- the tally's list at a total: "first address + total at each place; a word with mark 1 is (first word + total) modulo 65,536"
-unfoldable pub movedPlace : ℤ → Place → Place
-movedPlace total p =
-    record { address = movedAddress total (p .address); word = movedWord total (p .mark) (p .word); mark = p .mark }
+-- the first word of a list, 0 if it is empty
+unfoldable pub firstWord : List Place → ℕ
+firstWord [] = 0
+firstWord (p ∷ ps) = p .word
+
+-- the tally's list at a total: "first address + total at each place; a word with mark 1 is (first word + total) modulo 65,536",
+-- and by 02 the total is added "to each such pair modulo 2^32"
+unfoldable pub movedPlace : ℤ → Place → ℕ → Place
+movedPlace total p next =
+    record { address = movedAddress total (p .address); word = movedWord total (p .mark) (p .word) next; mark = p .mark }
 
 unfoldable pub tallyList : ℤ → List Place → List Place
-tallyList total l = map (movedPlace total) l
+tallyList total [] = []
+tallyList total (p ∷ ps) = movedPlace total p (firstWord ps) ∷ tallyList total ps
 
 -- what the tally gives for a distance: its answer, and the total and the list that it holds after it
 pub record Tallied : Type 0 where
