@@ -2,19 +2,31 @@
 use Prim.Native.Nat.{ℕ, suc, _≤_}
 use mathlib.Core.Path.{_≡_, refl}
 use mathlib.Core.Bool.{Bool, true, false, false≢true}
-use mathlib.Core.Option.{none}
+use mathlib.Core.Option.{Option, none, some}
 use mathlib.Core.List.{List, [], _∷_, map, _++_}
 use native.Mathlib.Omega.{arith}
 use borrow.Author.Tests.{le-ltb, eqb-true, ne-eqb}
 use lib.Dec.{eqb}
-use lib.ListN.{length}
+use lib.ListN.{length, length-map}
 use Rattle.rules.specs.Assemble.{Place}
 use Rattle.rules.specs.Relocate.{firstIn, badMark, firstBadMark}
+use Rattle.promises.specs.Demand1.{BadMark}
+use Rattle.promises.specs.Pairs.{WellPaired}
+use Rattle.promises.proofs.Demand1Search.{Found, found, nowhere}
+use Rattle.promises.proofs.Demand1Marks.{marks-found}
 use Rattle.promises.proofs.Twice.{firstMark, Paired}
 
 -- refusal 10 names no place of the list
 abbrev pub NoBadMark : List Place → Type 0
 NoBadMark l = firstBadMark 0 0 (length l) (map (λ p. p .mark) l) ≡ none
+
+pub no-bad-mark : (l : List Place) → WellPaired l → NoBadMark l
+unfolding WellPaired
+no-bad-mark l h = go (firstBadMark 0 0 (length l) (map (λ p. p .mark) l)) (marks-found (map (λ p. p .mark) l) (length l) (rw (length-map l (λ p. p .mark)) (omega arith)))
+  where
+    go : (o : Option ℕ) → Found (BadMark (map (λ p. p .mark) l) (length l)) (length l) o → o ≡ none
+    go (some p) (found k) = absurd (h p (k .inside) (k .holds))
+    go none (nowhere k) = refl
 
 -- a mark that is not bad: a 2 is followed by a 3
 not-bad : (b m a : ℕ) → badMark b m a ≡ false → m ≡ 2 → a ≡ 3
