@@ -1,14 +1,13 @@
 -- What a task comes to in the rules: its data words, its size, and the address after it. Assumes nothing.
-use mathlib.Core.Path.{_≡_, refl, ap}
+use mathlib.Core.Path.{_≡_, refl}
 use mathlib.Core.Bool.{Bool, true, false, cond}
 use mathlib.Core.List.{List, [], _∷_}
-use Prim.Native.Nat.{ℕ, suc, _+_, _≤_}
+use Prim.Native.Nat.{ℕ, _≤_}
 use native.Mathlib.Omega.{arith}
 use lib.ListN.{length}
 use Rattle.rules.specs.Limits.{maxSource}
 use Rattle.rules.specs.Text.{Text, lastText}
 use Rattle.rules.specs.Line.{Instruction as Said, instructionOf, isLong, instructionSize, size}
-use Rattle.rules.specs.Encode.{Content}
 use Rattle.rules.specs.Assemble.{addressAfter, dataContents, placesAt, dataPlaces}
 use Rattle.text.specs.Spans.{spanText}
 use Rattle.line.specs.declared.Task.{Task}
@@ -19,25 +18,16 @@ use Rattle.cells.specs.Sizes.{sizeOf}
 use Rattle.cells.specs.declared.Kept.{Kept}
 
 -- ---- data words
-pub data-cells : (source : Text) (t : Task) → dataWords t ≡ length (dataContents (taskAt source t))
-unfolding dataContents
-data-cells source Skipped = refl
-data-cells source End = refl
-data-cells source (Org v) = refl
-data-cells source NoOrg = refl
-data-cells source LabelOnly = refl
-data-cells source (Instruction s) = refl
-data-cells source (Value n v) = refl
-data-cells source (Space n) = refl
-
-places-length : (a : ℕ) (cs : List Content) → length (placesAt a cs) ≡ length cs
-unfolding placesAt
-places-length a [] = refl
-places-length a (c ∷ cs) = ap suc (places-length (a + 2) cs)
-
 pub data-places : (source : Text) (a : ℕ) (t : Task) → dataWords t ≡ length (dataPlaces (record { address = a; task = taskAt source t }))
-unfolding dataPlaces
-data-places source a t = rw places-length (data-cells source t)
+unfolding dataPlaces dataContents placesAt
+data-places source a Skipped = refl
+data-places source a End = refl
+data-places source a (Org v) = refl
+data-places source a NoOrg = refl
+data-places source a LabelOnly = refl
+data-places source a (Instruction s) = refl
+data-places source a (Value n v) = refl
+data-places source a (Space n) = refl
 
 -- ---- the address after it, and sizes
 after-task : (source : Text) (base a : ℕ) (t : Task) → taskAfter base a t (sizeOf source t) ≡ addressAfter size base a (taskAt source t)

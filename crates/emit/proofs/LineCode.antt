@@ -13,7 +13,7 @@ use Rattle.rules.specs.Text.{Text}
 use Rattle.rules.specs.Line.{instructionOf}
 use Rattle.rules.specs.Label.{Table}
 use Rattle.rules.specs.Encode.{encode}
-use Rattle.rules.specs.Assemble.{Place, Slices, placeOf, placesAt, dataContents, dataPlaces, codeContentsBy, codePlacesBy, codePlaces}
+use Rattle.rules.specs.Assemble.{Place, Slices, placesAt, dataContents, dataPlaces, codeContentsBy, codePlacesBy, codePlaces}
 use Rattle.text.specs.declared.Span.{Span}
 use Rattle.text.specs.Spans.{spanText, SpanIn}
 use Rattle.line.specs.Line.{TaskIn}
@@ -48,7 +48,7 @@ module _ (source : Text) (a : ℕ) where
 
   pub value-places : (task : Task) (n v x y : ℕ) → task ≡ Value n v → x ≡ v / 65536 → y ≡ v % 65536
       → placesOf a (WithValue x y) ≡ dataPlaces (putOf source a task)
-  unfolding dataPlaces dataContents placesAt placeOf
+  unfolding dataPlaces dataContents placesAt
   value-places task n v x y e p q = rw (e, p, q)
 
 -- ---- instruction words

@@ -10,10 +10,10 @@ ghost use Prim.Native.Nat.{_+_, _<_};
 ghost use lib.ListN.{length};
 ghost use Rattle.rules.specs.Limits.{addressLimit};
 ghost use Rattle.rules.specs.Text.{Text};
-ghost use Rattle.rules.specs.Assemble.{slices, holding, dataPlaces, codePlaces, secondPass};
+ghost use Rattle.rules.specs.Assemble.{place, slices, holding, dataPlaces, codePlaces, secondPass};
 ghost use Rattle.label.specs.Table.{tableOf};
 ghost use Rattle.first.specs.Pass.{passIn};
-ghost use Rattle.encode.specs.Code.{place, placesOf, codeLength};
+ghost use Rattle.encode.specs.Code.{placesOf, codeLength};
 ghost use Rattle.emit.specs.Emit.{wanted, putFrom, Room, RoomIf, Taken, firstWords, secondWords, putOf, TakeValueNeeds, EncodeTaskNeeds, EmitWordsNeeds};
 
 // ---- Words put into the slices.

@@ -7,20 +7,20 @@ use lib.ListN.{length}
 use Rattle.rules.specs.Line.{Instruction, Task, skipped, end, org, noOrg, labelOnly, instruction, value, space}
 use Rattle.rules.specs.Label.{Table}
 use Rattle.rules.specs.Encode.{Content, encode}
-use Rattle.rules.specs.Assemble.{placeOf, placesAt, wordsBy, codeContentsBy, codeContents}
+use Rattle.rules.specs.Assemble.{placesAt, wordsBy, codeContentsBy, codeContents}
 use Rattle.encode.specs.Code.{codeOf, placesOf, codeLength}
 use Rattle.encode.specs.declared.Code.{Code}
 use Rattle.encode.specs.declared.Code.the-variants.{Nothing, Word, Value, Label}
 use Rattle.encode.proofs.Shaped.{Shaped, no-word, one-word, with-value, with-address, shaped-encode}
 
--- no answer counts as no cells
+-- no answer counts as no contents
 pub words-code : (o : Option (List Content)) → codeOf o ≡ codeOf (some (Option·getD o []))
 words-code none = refl
 words-code (some cs) = refl
 
 -- the code loses nothing
 places : {o : Option (List Content)} → Shaped o → (a : ℕ) → placesOf a (codeOf o) ≡ placesAt a (Option·getD o [])
-unfolding placesAt placeOf
+unfolding placesAt
 places no-word a = refl
 places (one-word w) a = refl
 places (with-value w v) a = refl

@@ -2,12 +2,12 @@
 use Prim.Native.Nat.{ℕ, _+_, _%_}
 use mathlib.Core.Option.{Option, none, some}
 use mathlib.Core.List.{List, [], _∷_}
-use Rattle.rules.specs.Encode.{Content, literal, address}
-use Rattle.rules.specs.Assemble.{Place}
+use Rattle.rules.specs.Encode.{Content, literal, address, longAddress}
+use Rattle.rules.specs.Assemble.{Place, place}
 use Rattle.encode.specs.declared.Code.{Code}
 use Rattle.encode.specs.declared.Code.the-variants.{Nothing, Word, Value, Label}
 
--- one word, a word and a value, or a word and a label's address modulo 65,536; no encoder gives other cells
+-- one word, a word and a value, or a word and a label's address modulo 65,536; 01's encoder gives no other contents
 abbrev pub codeOf : Option (List Content) → Code
 codeOf none = Nothing
 codeOf (some []) = Nothing
@@ -16,10 +16,9 @@ codeOf (some (literal w ∷ literal v ∷ [])) = Value w v
 codeOf (some (literal w ∷ address x ∷ [])) = Label w (x % 65536)
 codeOf (some (literal w ∷ literal v ∷ c ∷ cs)) = Nothing
 codeOf (some (literal w ∷ address x ∷ c ∷ cs)) = Nothing
+codeOf (some (literal w ∷ longAddress x ∷ cs)) = Nothing
 codeOf (some (address x ∷ cs)) = Nothing
-
-abbrev pub place : ℕ → ℕ → ℕ → Place
-place a w m = record { address = a; word = w; mark = m }
+codeOf (some (longAddress x ∷ cs)) = Nothing
 
 -- the places of an instruction at address a: the second word "at address + 2", mark 1 on a label's address
 abbrev pub placesOf : ℕ → Code → List Place

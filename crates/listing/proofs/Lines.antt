@@ -11,9 +11,9 @@ use lib.Dec.{eqb}
 use lib.ListN.{length, take, drop, getD, set, length-append, length-drop, length-set, drop-of-length-le}
 use lib.Seq.{drop-drop, getD-drop, take-all}
 use Rattle.rules.specs.Text.{Text, starts}
-use Rattle.rules.specs.Assemble.{Place, over}
+use Rattle.rules.specs.Assemble.{Place, place, over}
 use Rattle.text.proofs.Compare.{starts-equal, starts-unequal, starts-short}
-use Rattle.listing.specs.Listing.{place, digitsOf, markByte, placeText}
+use Rattle.listing.specs.Listing.{digitsOf, markByte, placeText}
 use Rattle.text.specs.Spans.{overFrom}
 use Rattle.listing.specs.Reading.{digitIn, hexIn, placeIn, isLine, readLines, readList}
 use Rattle.listing.specs.declared.reading.Parsed.the-variants.{Count, Bad}

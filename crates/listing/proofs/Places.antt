@@ -7,9 +7,9 @@ use native.Mathlib.Omega.{arith}
 use lib.ListN.{length, drop, getD}
 use lib.Seq.{drop-cons, drop-drop}
 use Rattle.rules.specs.Text.{Text}
-use Rattle.rules.specs.Assemble.{Place}
+use Rattle.rules.specs.Assemble.{Place, place}
 use Rattle.rules.specs.Tally.{listIn}
-use Rattle.listing.specs.Listing.{place, placeText, listText}
+use Rattle.listing.specs.Listing.{placeText, listText}
 use Rattle.listing.specs.Reading.{placeIn, placesIn}
 
 -- ---- a part f of each place that a text shows, from line i on

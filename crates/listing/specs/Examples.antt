@@ -2,8 +2,8 @@
 use mathlib.Core.Path.{_≡_}
 use mathlib.Core.List.{List, [], _∷_}
 use Rattle.rules.specs.Text.{Text, bytes}
-use Rattle.rules.specs.Assemble.{Place}
-use Rattle.listing.specs.Listing.{place, listText, refusedText}
+use Rattle.rules.specs.Assemble.{Place, place}
+use Rattle.listing.specs.Listing.{listText, refusedText}
 use Rattle.listing.specs.Reading.{readList}
 use Rattle.listing.specs.declared.reading.Parsed.the-variants.{Count, Bad}
 
@@ -21,10 +21,12 @@ pub record Examples : Type 0 where
   pub station : listText stationList ≡ stationText
   pub empty : listText [] ≡ []
   pub highest : listText (place 0xFFFFFFFF 0xABCD 9 ∷ []) ≡ bytes "FFFFFFFF ABCD 9\n"
+  pub pair : listText (place 0x2002 0x0001 2 ∷ place 0x2004 0x8000 3 ∷ []) ≡ bytes "00002002 0001 2\n00002004 8000 3\n"
   pub no-digit : listText (place 0 0 10 ∷ []) ≡ bytes "00000000 0000 ?\n"
   pub refused : refusedText 2 0 ≡ bytes "refused 2 0\n"
   pub refused-far : refusedText 11 32769 ≡ bytes "refused 11 32769\n"
   pub read : readList 9 stationText ≡ Count 9
+  pub read-pair : readList 2 (bytes "00002002 0001 2\n00002004 8000 3\n") ≡ Count 2
   pub one-too-many : readList 8 stationText ≡ Bad 9
   pub nothing : readList 0 [] ≡ Count 0
   pub lower-case : readList 9 (bytes "0000100a 0C82 0\n") ≡ Bad 1

@@ -2,14 +2,9 @@
 use Prim.Native.Nat.{ℕ, zero, suc, _+_, _/_, _%_}
 use mathlib.Core.Bool.{true, false, cond}
 use mathlib.Core.List.{List, [], _∷_, _++_, flatMap}
-use lib.ListN.{length, take, drop}
 use lib.Dec.{ltb}
 use Rattle.rules.specs.Text.{Text, bytes}
 use Rattle.rules.specs.Assemble.{Place}
-
--- a place by its parts
-abbrev pub place : ℕ → ℕ → ℕ → Place
-place a w m = record { address = a; word = w; mark = m }
 
 -- the byte of a digit below 16: `0` to `9`, then `A` to `F`
 unfoldable pub digitByte : ℕ → ℕ

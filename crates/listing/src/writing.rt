@@ -2,9 +2,9 @@
 ghost use mathlib.Core.Path.{_≡_};
 ghost use Prim.Native.Nat.{_+_, _*_, _<_, _≤_};
 ghost use lib.ListN.{length};
-ghost use Rattle.rules.specs.Assemble.{over};
+ghost use Rattle.rules.specs.Assemble.{place, over};
 ghost use Rattle.rules.specs.Tally.{listIn};
-ghost use Rattle.listing.specs.Listing.{place, digitByte, digitsOf, decimalPlaces, decimal, markByte, placeText, listText, refusedText};
+ghost use Rattle.listing.specs.Listing.{digitByte, digitsOf, decimalPlaces, decimal, markByte, placeText, listText, refusedText};
 ghost use Rattle.text.specs.Spans.{overFrom};
 
 // The bytes that a line takes.

@@ -9,9 +9,9 @@ use lib.Bits.{and-mask}
 use Rattle.rules.specs.Text.{Text, cutAt}
 use Rattle.rules.specs.Line.{numbered, linesOf, Instruction as Said, Task, size}
 use Rattle.rules.specs.Label.{Table, find}
-use Rattle.rules.specs.Encode.{Content, literal, address, encode}
+use Rattle.rules.specs.Encode.{Content, literal, address, longAddress, encode}
 use Rattle.rules.specs.Answer.{Answer, accepted, refused, andThen}
-use Rattle.rules.specs.Assemble.{Put, Pass, firstPass, Place, placeOf, placesAt, dataContents, wordsBy, codeContents, codeContentsBy, dataPlaces, codePlaces, secondPass, assemble, secondPassBy, codePlacesBy}
+use Rattle.rules.specs.Assemble.{Put, Pass, firstPass, Place, placesAt, dataContents, wordsBy, codeContents, codeContentsBy, dataPlaces, codePlaces, secondPass, assemble, secondPassBy, codePlacesBy}
 use Rattle.promises.specs.RustStr.{split, HashMap, look-up, push, add-u32}
 use Rattle.promises.specs.RustAssembler.{AssemblyInstruction, Code, encode-instruction-with-ext, State, first-pass, push-data, push-ext, push-code, push-instruction}
 use Rattle.promises.specs.RustAssembler as Rust
@@ -30,10 +30,13 @@ wordsAt a [] = []
 wordsAt a (w ∷ ws) = (a, w) ∷ wordsAt (a + 2) ws
 
 places-words : (a : ℕ) (cs : List Content) → map withoutMark (placesAt a cs) ≡ wordsAt a (plain cs)
-unfolding placesAt placeOf wordsAt
+unfolding placesAt wordsAt
 places-words a [] = refl
 places-words a (literal w ∷ cs) = ap (λ (r : List (ℕ × ℕ)). (a, w) ∷ r) (places-words (a + 2) cs)
 places-words a (address x ∷ cs) = ap (λ (r : List (ℕ × ℕ)). (a, x % 65536) ∷ r) (places-words (a + 2) cs)
+places-words a (longAddress x ∷ cs) =
+    let e : a + 4 ≡ a + 2 + 2 = omega arith in
+    rw e (ap (λ (r : List (ℕ × ℕ)). (a, x / 65536 % 65536) ∷ (a + 2, x % 65536) ∷ r) (places-words (a + 2 + 2) cs))
 
 -- the address of a second word does not wrap
 two-on : (a : ℕ) → a < 2 ^ 30 → add-u32 a 2 ≡ a + 2
@@ -93,7 +96,7 @@ inst-words {m} {t} g a low i =
     ∙ sym (places-words a (wordsBy encode t a i))
 
 data-words : (a v : ℕ) → a < 2 ^ 30 → v < 2 ^ 32 → dataWords (a, v) ≡ map withoutMark (placesAt a (literal (v / 65536) ∷ literal (v % 65536) ∷ []))
-unfolding dataWords push-data placesAt placeOf
+unfolding dataWords push-data placesAt
 data-words a v h k = rw (two-on a h, and-mask v 16, mod-mod v (2 ^ 16), mod-eq-of-lt {n = v / 65536} {m = 65536} high)
   where
     high : v / 65536 < 65536

@@ -6,7 +6,7 @@ use mathlib.Core.Bool.{Bool, true, false, cond}
 use mathlib.Core.Option.{none, some, Option·some-injective, Option·none-ne-some}
 use mathlib.Core.List.{List, [], _∷_}
 use native.Mathlib.Omega.{arith}
-use borrow.Author.Tests.{ltb-true, ltb-false, lt-leb, leb-false}
+use borrow.Author.Tests.{ltb-true, ltb-false, lt-leb, leb-false, ne-eqb}
 use lib.Dec.{ltb}
 use lib.ListN.{length, getElem?}
 use lib.IntN.{ℤ, pos, negsuc, _+ℤ_, _-ℤ_, natAbs, subℕ, +ℤ-comm, -ℤ-+ℤ-cancel}
@@ -19,17 +19,18 @@ use Rattle.rules.specs.Encode.{encode, mnemonics}
 use Rattle.rules.specs.Assemble.{Sizes, Encoder, Place, secondPassBy, assembleBy}
 use Rattle.rules.specs.Relocate.{far, addedWord, movedWord}
 use Rattle.rules.specs.Tally.{firstOutside, firstWord, movedPlace, tallyList, tallied, tally}
-use Rattle.promises.specs.Lawful.{Lawful, RulesAreLawful}
+use Rattle.promises.specs.Lawful.{Lawful, RulesAreLawful, ShortAddresses, RulesAreShort}
 use Rattle.promises.specs.Pairs.{Sixteen, Low}
-use Rattle.promises.specs.Demand3.{lastTotal, MovedIsAssembledBy, WordsDifferBy, MarksSayWhatMovesBy, MovesFollowTallyBy, OneMoveForAllBy, Demand3By, LawfulMoves, MovedIsAssembled, WordsDiffer, MarksSayWhatMoves, MovesFollowTally, OneMoveForAll}
+use Rattle.promises.specs.Demand3.{lastTotal, MovedIsAssembledBy, WordsDifferBy, MarkedWordsDifferBy, MarksSayWhatMovesBy, MovesFollowTallyBy, OneMoveForAllBy, Demand3By, LawfulMoves, ShortWordsDiffer, MovedIsAssembled, WordsDiffer, MarksSayWhatMoves, MovesFollowTally, OneMoveForAll}
 use Rattle.promises.proofs.Lists.{All, all-at, all-by}
 use Rattle.promises.proofs.Accepted.{accepts}
 use Rattle.promises.proofs.Places.{second-shift, list-at}
 use Rattle.promises.proofs.Fit.{Fit, listed}
+use Rattle.promises.proofs.ShortMarks.{Plain, short-marks}
 use Rattle.promises.proofs.Residues.{residue-lt}
 use Rattle.promises.proofs.Twice.{inside-reached, list-twice, outside-twice, inside-none, low-inside, length-moved}
 use Rattle.promises.proofs.Paired.{grouped-good, grouped-paired}
-use Rattle.promises.proofs.Lawful.{rules-are-lawful}
+use Rattle.promises.proofs.Lawful.{rules-are-lawful, rules-are-short}
 use Rattle.promises.proofs.Moves.{follow-from-zero, last-total-inside, last-list-is, move-accepted, move-gives}
 
 -- two bases are less than 2^30 apart
@@ -44,12 +45,16 @@ apart : (b c : ℕ) → b < addressLimit → c < addressLimit → natAbs (pos c 
 apart zero c hb hc = omega arith
 apart (suc b) c hb hc = apart-sub b c hb hc
 
--- a marked word, which has 16 bits, is another word when moved by no multiple of 65,536; other words stand
-word-differs : (d : ℤ) (m w v : ℕ) → m ≤ 1 → (m ≢ 0 → w < 65536) → modulo 65536 d ≢ 0 → (w ≢ movedWord d m w v) ↔ (m ≡ 1)
+-- a word that is not marked stays; one of 16 bits that moves by itself is another word when moved by no multiple of 65,536
+unmarked-stays : (d : ℤ) (m w v : ℕ) → m ≡ 0 → w ≡ movedWord d m w v
+unfolding movedWord
+unmarked-stays d m w v e = rw e
+
+low-differs : (d : ℤ) (m w v : ℕ) → m ≢ 0 → m ≢ 2 → w < 65536 → (w ≢ movedWord d m w v) ↔ (modulo 65536 d ≢ 0)
 unfolding movedWord addedWord
-word-differs d zero w v h f k = (λ u. absurd (u refl), λ e. absurd (omega arith))
-word-differs d (suc zero) w v h f k = (λ u. refl, λ e u. let r = residue-lt d in let z = f (λ e. omega arith) in k (omega arith))
-word-differs d (suc (suc m)) w v h f k = absurd (omega arith)
+low-differs d m w v h k l =
+    let r = residue-lt d in
+    rw (ne-eqb m 0 h, ne-eqb m 2 k) (λ u e. u (omega arith), λ u e. u (omega arith))
 
 -- the place at an index of a moved list
 moved-at : (d : ℤ) (l : List Place) (i : ℕ) (p q : Place) → getElem? l i ≡ some p → getElem? (tallyList d l) i ≡ some q → (v : ℕ) × (q ≡ movedPlace d p v)
@@ -57,6 +62,12 @@ unfolding tallyList
 moved-at d [] i p q hp hq = absurd (Option·none-ne-some p hp)
 moved-at d (r ∷ rs) zero p q hp hq = (firstWord rs, rw (← Option·some-injective r p hp) (sym (Option·some-injective (movedPlace d r (firstWord rs)) q hq)))
 moved-at d (r ∷ rs) (suc i) p q hp hq = moved-at d rs i p q hp hq
+
+-- words of marks 0 and 1 differ where their mark is 1, if those of mark 0 do not and those of others do
+zero-or-one : (m : ℕ) → m ≤ 1 → {A C : Type 0} → (m ≡ 0 → A) → (m ≢ 0 → m ≢ 2 → ¬ A ↔ C) → C → ¬ A ↔ (m ≡ 1)
+zero-or-one zero h u v c = (λ f. absurd (f (u refl)), λ e. absurd (omega arith))
+zero-or-one (suc zero) h u v c = (λ f. refl, λ e. v (λ e. omega arith) (λ e. omega arith) .1 c)
+zero-or-one (suc (suc m)) h u v c = absurd (omega arith)
 
 -- what the moves ask of a list that fits
 sixteen : (l : List Place) → All Fit l → All Sixteen l
@@ -101,12 +112,24 @@ module _ {z : Sizes} {e : Encoder} {most : ℕ} (law : Lawful z e most) where
         rw (← n) (move-gives lb good six x h (pos c -ℤ pos b) ok (m .1) ∙ m .0),
       )
 
-  words-differ-by : WordsDifferBy z e
+  marked-words-differ-by : MarkedWordsDifferBy z e
   unfolding movedPlace
-  words-differ-by s b c lb lc eb ec k i p q hp hq =
+  marked-words-differ-by s b c lb lc eb ec i p q hp hq =
+      let d : ℤ = pos c -ℤ pos b in
       let fit = all-at Fit lb i p (listed law b s lb eb .fit) hp in
-      let m = moved-at (pos c -ℤ pos b) lb i p q hp (rw (moved s b c lb lc eb ec .0) hq) in
-      rw (m .1) (refl, word-differs (pos c -ℤ pos b) (p .mark) (p .word) (m .0) (fit .marked) (fit .reduced) k)
+      let m = moved-at d lb i p q hp (rw (moved s b c lb lc eb ec .0) hq) in
+      rw (m .1)
+      (record {
+        marks = refl;
+        unmarked = unmarked-stays d (p .mark) (p .word) (m .0);
+        low = λ u v. low-differs d (p .mark) (p .word) (m .0) u v (fit .reduced u);
+      })
+
+  -- where no address has 32 bits, a mark is 0 or 1
+  words-differ-by : ShortAddresses e → WordsDifferBy z e
+  words-differ-by short s b c lb lc eb ec k i p q hp hq =
+      let d = marked-words-differ-by s b c lb lc eb ec i p q hp hq in
+      (d .marks, zero-or-one (p .mark) (all-at Plain lb i p (short-marks z e short b s lb eb) hp) (d .unmarked) (d .low) k)
 
   marks-say-what-moves-by : MarksSayWhatMovesBy z e
   unfolding assembleBy andThen
@@ -131,11 +154,15 @@ module _ {z : Sizes} {e : Encoder} {most : ℕ} (law : Lawful z e most) where
       (move-accepted l good six x h total near ins, move-gives l good six x h total near ins ∙ sym (last-list-is l good six ds))
 
   demand-3-by : Demand3By z e
-  demand-3-by = record { moved = moved-is-assembled-by; differ = words-differ-by; marks = marks-say-what-moves-by; follow = moves-follow-tally-by; one = one-move-for-all-by }
+  demand-3-by = record { moved = moved-is-assembled-by; differ = marked-words-differ-by; marks = marks-say-what-moves-by; follow = moves-follow-tally-by; one = one-move-for-all-by }
 
 pub lawful-moves : LawfulMoves
 unfolding LawfulMoves
 lawful-moves z e most law = demand-3-by law
+
+pub short-words-differ : ShortWordsDiffer
+unfolding ShortWordsDiffer
+short-words-differ z e most law short = words-differ-by law short
 
 -- 01's pair
 demand-3 : Demand3By size encode
@@ -147,8 +174,8 @@ unfolding MovedIsAssembled
 moved-is-assembled = demand-3 .moved
 
 pub words-differ : WordsDiffer
-unfolding WordsDiffer
-words-differ = demand-3 .differ
+unfolding WordsDiffer ShortWordsDiffer RulesAreLawful RulesAreShort
+words-differ = short-words-differ size encode 2 (rules-are-lawful mnemonics) (rules-are-short mnemonics)
 
 pub marks-say-what-moves : MarksSayWhatMoves
 unfolding MarksSayWhatMoves

@@ -1,6 +1,6 @@
 -- By a lawful pair a list fits the mover, and has at most the pair's places for each line. Assumes nothing.
-use Prim.Native.Nat.{ℕ, suc, _+_, _*_, _≤_, _<_}
-use mathlib.Core.Path.{_≡_, refl, ap}
+use Prim.Native.Nat.{ℕ, _+_, _*_, _/_, _≤_, _<_}
+use mathlib.Core.Path.{_≡_, refl}
 use mathlib.Core.Logic.{_≢_}
 use mathlib.Core.List.{List, [], _∷_, flatMap}
 use native.Mathlib.Nat.{mod-lt, mul-suc, le-trans, mul-le-mul-left}
@@ -11,9 +11,9 @@ use Rattle.rules.specs.Limits.{addressLimit, lastAddress}
 use Rattle.rules.specs.Text.{Text, cutAt}
 use Rattle.rules.specs.Line.{SourceLine, linesOf, Task, lineOf}
 use Rattle.rules.specs.Label.{Table}
-use Rattle.rules.specs.Encode.{Content, literal, address}
+use Rattle.rules.specs.Encode.{Content, literal, address, longAddress}
 use Rattle.rules.specs.Answer.{Answer, accepted, refused, andThen}
-use Rattle.rules.specs.Assemble.{Sizes, Encoder, Put, Pass, addressAfter, putting, firstPassBy, Place, placeOf, placesAt, dataContents, codeContentsBy, dataPlaces, codePlacesBy, secondPassBy, encoded, assembleBy}
+use Rattle.rules.specs.Assemble.{Sizes, Encoder, Put, Pass, addressAfter, putting, firstPassBy, Place, placesAt, dataContents, codeContentsBy, dataPlaces, codePlacesBy, secondPassBy, encoded, assembleBy}
 use Rattle.rules.proofs.Lines.{length-lines}
 use Rattle.promises.specs.Lawful.{Lawful}
 use Rattle.promises.proofs.Lists.{All, all-append, all-flatMap}
@@ -22,36 +22,28 @@ use Rattle.promises.proofs.Paired.{Grouped}
 use Rattle.promises.proofs.Places.{second-grouped}
 use Rattle.promises.proofs.Tasks.{Worded, silent, codes, holds, worded, pass-line}
 
--- a place that the mover takes: an address up to 2^30 + 1, a mark 0 or 1, and a marked word of 16 bits
+-- a place that the mover takes: an address up to 2^30 + 1, and a marked word of 16 bits
 pub record Fit (p : Place) : Type 0 where
   pub bound : p .address ≤ lastAddress
-  pub marked : p .mark ≤ 1
   pub reduced : p .mark ≢ 0 → p .word < 65536
 
--- a cell's place fits
-placeOf-fit : (a : ℕ) (c : Content) → a ≤ lastAddress → Fit (placeOf a c)
-unfolding placeOf
-placeOf-fit a (literal w) h = record { bound = h; marked = omega arith; reduced = λ e. absurd (e refl) }
-placeOf-fit a (address x) h = record { bound = h; marked = omega arith; reduced = λ e. mod-lt x (omega arith) }
-
--- a place for each cell
-length-placesAt : (a : ℕ) (cs : List Content) → length (placesAt a cs) ≡ length cs
-unfolding placesAt
-length-placesAt a [] = refl
-length-placesAt a (c ∷ cs) = ap suc (length-placesAt (a + 2) cs)
-
 -- places whose addresses end in time fit
-placesAt-fit : (a : ℕ) (cs : List Content) → a + 2 * length cs ≤ lastAddress + 2 → All Fit (placesAt a cs)
+placesAt-fit : (a : ℕ) (cs : List Content) → a + 2 * length (placesAt a cs) ≤ lastAddress + 2 → All Fit (placesAt a cs)
 unfolding placesAt
 placesAt-fit a [] h = tt
-placesAt-fit a (c ∷ cs) h = (placeOf-fit a c (omega arith), placesAt-fit (a + 2) cs (omega arith))
+placesAt-fit a (literal w ∷ cs) h = (record { bound = omega arith; reduced = λ e. absurd (e refl) }, placesAt-fit (a + 2) cs (omega arith))
+placesAt-fit a (address x ∷ cs) h = (record { bound = omega arith; reduced = λ e. mod-lt x (omega arith) }, placesAt-fit (a + 2) cs (omega arith))
+placesAt-fit a (longAddress x ∷ cs) h = (
+  record { bound = omega arith; reduced = λ e. mod-lt (x / 65536) (omega arith) },
+  (record { bound = omega arith; reduced = λ e. mod-lt x (omega arith) }, placesAt-fit (a + 4) cs (omega arith)),
+)
 
--- data has up to two words
-data-two : {k : Task} → Worded k → length (dataContents k) ≤ 2
-unfolding dataContents
-data-two (silent e f) = rw e (omega arith)
-data-two (codes i) = omega arith
-data-two (holds n v) = omega arith
+-- data takes up to two places
+data-two : (a : ℕ) {k : Task} → Worded k → length (placesAt a (dataContents k)) ≤ 2
+unfolding dataContents placesAt
+data-two a (silent e f) = rw (e, placesAt) (omega arith)
+data-two a (codes i) = omega arith
+data-two a (holds n v) = omega arith
 
 -- what holds of an accepted answer
 abbrev pub Holds : {A : Type 0} → (A → Type 0) → Answer A → Type 0
@@ -71,34 +63,34 @@ pub record Listed (most : ℕ) (s : Text) (l : List Place) : Type 0 where
   pub count : length l ≤ most * length (cutAt 10 s)
 
 module _ {z : Sizes} {e : Encoder} {most : ℕ} (law : Lawful z e most) where
-  -- a task's words are at most so many, data and code together
-  few-words : (t : Table) (a : ℕ) {k : Task} → Worded k → length (dataContents k) + length (codeContentsBy e t a k) ≤ most
-  unfolding dataContents codeContentsBy
-  few-words t a (silent d f) = rw (d, f e t a) (omega arith)
+  -- a task takes at most so many places, for data and code together
+  few-words : (t : Table) (a : ℕ) {k : Task} → Worded k → length (placesAt a (dataContents k)) + length (placesAt a (codeContentsBy e t a k)) ≤ most
+  unfolding dataContents codeContentsBy placesAt
+  few-words t a (silent d f) = rw (d, f e t a, placesAt) (omega arith)
   few-words t a (codes i) = omega (arith, law .few t a i)
   few-words t a (holds n v) = omega (arith, law .two)
 
   few-a-put : (t : Table) (ps : List Put) → length (flatMap dataPlaces ps) + length (flatMap (codePlacesBy e t) ps) ≤ most * length ps
   unfolding flatMap dataPlaces codePlacesBy
   few-a-put t [] = omega arith
-  few-a-put t (p ∷ ps) = simp (length-append, mul-suc, length-placesAt) (omega (arith, few-a-put t ps, few-words t (p .address) (worded (p .task))))
+  few-a-put t (p ∷ ps) = simp (length-append, mul-suc) (omega (arith, few-a-put t ps, few-words t (p .address) (worded (p .task))))
 
   -- where the address before and after a line is below the limit, its code ends in time
   code-ends : (t : Table) (base a : ℕ) {k : Task} → Worded k → a < addressLimit → addressAfter z base a k < addressLimit
-      → a + 2 * length (codeContentsBy e t a k) ≤ lastAddress + 2
-  unfolding addressAfter codeContentsBy
-  code-ends t base a (silent d f) h l = rw (f e t a) (omega arith)
+      → a + 2 * length (placesAt a (codeContentsBy e t a k)) ≤ lastAddress + 2
+  unfolding addressAfter codeContentsBy placesAt
+  code-ends t base a (silent d f) h l = rw (f e t a, placesAt) (omega arith)
   code-ends t base a (codes i) h l = omega (arith, law .ends t a i)
   code-ends t base a (holds n v) h l = omega arith
 
   -- what a line asks below the limits: its places fit
   record Low (p : Put) : Type 0 where
     address : p .address < addressLimit
-    ends : (t : Table) → p .address + 2 * length (codeContentsBy e t (p .address) (p .task)) ≤ lastAddress + 2
+    ends : (t : Table) → p .address + 2 * length (placesAt (p .address) (codeContentsBy e t (p .address) (p .task))) ≤ lastAddress + 2
 
   data-fit : (p : Put) → Low p → All Fit (dataPlaces p)
   unfolding dataPlaces
-  data-fit p h = placesAt-fit (p .address) (dataContents (p .task)) (omega (arith, data-two (worded (p .task)), h .address))
+  data-fit p h = placesAt-fit (p .address) (dataContents (p .task)) (omega (arith, data-two (p .address) (worded (p .task)), h .address))
 
   code-fit : (t : Table) (p : Put) → Low p → All Fit (codePlacesBy e t p)
   unfolding codePlacesBy

@@ -1,7 +1,8 @@
--- 01's size and words are lawful: under a shift only label addresses change, and there are at most two words. Assumes nothing.
+-- 01's size and words are lawful: under a shift only label addresses change, and there are at most two words, none of a 32-bit address.
+-- Assumes nothing.
 use native.Mathlib.Omega.{arith}
-use Rattle.promises.specs.Lawful.{RulesAreLawful}
-use Rattle.promises.proofs.Words.{words-shift, at-most-two}
+use Rattle.promises.specs.Lawful.{RulesAreLawful, RulesAreShort}
+use Rattle.promises.proofs.Words.{words-shift, words-short, at-most-two}
 
 pub rules-are-lawful : RulesAreLawful
 unfolding RulesAreLawful
@@ -12,3 +13,7 @@ rules-are-lawful names =
       two = omega arith;
       ends = λ t a i. omega (arith, at-most-two names t a i);
     }
+
+pub rules-are-short : RulesAreShort
+unfolding RulesAreShort
+rules-are-short names = words-short names

@@ -39,6 +39,7 @@ pub mod Twice
 pub mod Paired
 pub mod Places
 pub mod Fit
+pub mod ShortMarks
 pub mod Lawful
 pub mod Call
 pub mod Moves

@@ -1,6 +1,6 @@
 -- The words that the second pass puts in the list for one line: what it asks for has words exactly if the list without that line is
 -- shorter by them. Assumes nothing.
-use Prim.Native.Nat.{ℕ, suc, _+_}
+use Prim.Native.Nat.{ℕ, suc, _+_, _/_, _%_}
 use mathlib.Core.Path.{_≡_, refl, sym, ap, ap₂, _∙_}
 use mathlib.Core.Logic.{_⊎_, inl, inr}
 use mathlib.Core.List.{List, [], _∷_, _++_, flatMap, append-nil, append-assoc}
@@ -8,18 +8,36 @@ use native.Mathlib.Omega.{arith}
 use lib.ListN.{length, take, drop, length-append}
 use Rattle.rules.specs.Line.{Task}
 use Rattle.rules.specs.Label.{Table}
-use Rattle.rules.specs.Encode.{Content, literal, address, Mnemonic, encodeBy}
-use Rattle.rules.specs.Assemble.{Put, Pass, Place, placeOf, placesAt, dataContents, codeContentsBy, dataPlaces, codePlacesBy, secondPassBy, Encoder}
+use Rattle.rules.specs.Encode.{Content, literal, address, longAddress, Mnemonic, encodeBy}
+use Rattle.rules.specs.Assemble.{Put, Pass, Place, place, placesAt, dataContents, codeContentsBy, dataPlaces, codePlacesBy, secondPassBy, Encoder}
 use Rattle.promises.specs.Explain.{without, PutsWords, PutsNone}
 use Rattle.promises.proofs.Compared.{clash}
 use Rattle.promises.proofs.Lists.{flatMap-append}
 use Rattle.promises.proofs.Tasks.{Worded, silent, codes, holds, worded}
 use Rattle.promises.proofs.LineVerdicts.{contents}
 
-placed-at : (a : ℕ) (c : Content) → placeOf a c .address ≡ a
-unfolding placeOf
+-- the first place of a list that begins with a content, and those after it
+firstPlace : ℕ → Content → Place
+firstPlace a (literal w) = place a w 0
+firstPlace a (address x) = place a (x % 65536) 1
+firstPlace a (longAddress x) = place a (x / 65536 % 65536) 2
+
+otherPlaces : ℕ → Content → List Content → List Place
+otherPlaces a (literal w) cs = placesAt (a + 2) cs
+otherPlaces a (address x) cs = placesAt (a + 2) cs
+otherPlaces a (longAddress x) cs = place (a + 2) (x % 65536) 3 ∷ placesAt (a + 4) cs
+
+placed : (a : ℕ) (c : Content) (cs : List Content) → placesAt a (c ∷ cs) ≡ firstPlace a c ∷ otherPlaces a c cs
+unfolding placesAt firstPlace otherPlaces
+placed a (literal w) cs = refl
+placed a (address x) cs = refl
+placed a (longAddress x) cs = refl
+
+placed-at : (a : ℕ) (c : Content) → firstPlace a c .address ≡ a
+unfolding firstPlace
 placed-at a (literal w) = refl
 placed-at a (address x) = refl
+placed-at a (longAddress x) = refl
 
 -- a list is not itself with more in it
 pub words-or-none : {e : Encoder} {p : Pass} {j a : ℕ} → PutsWords e p j a → ¬ PutsNone e p j
@@ -63,11 +81,11 @@ module _ (e : Encoder) (p : Pass) (j a : ℕ) (k : Task) (cut : p .puts ≡ take
   puts-data c cs d n =
       record {
         before = front dataPlaces;
-        first = placeOf a c;
-        more = placesAt (a + 2) cs;
+        first = firstPlace a c;
+        more = otherPlaces a c cs;
         after = back dataPlaces ++ (front code ++ back code);
         address = placed-at a c;
-        held = whole ∙ rw (d, n) (simp append-assoc);
+        held = whole ∙ rw (d, n, placed a c cs) (simp append-assoc);
         absent = less ∙ append-assoc (front dataPlaces) (back dataPlaces) (front code ++ back code);
       }
 
@@ -76,11 +94,11 @@ module _ (e : Encoder) (p : Pass) (j a : ℕ) (k : Task) (cut : p .puts ≡ take
   puts-code c cs d n =
       record {
         before = (front dataPlaces ++ back dataPlaces) ++ front code;
-        first = placeOf a c;
-        more = placesAt (a + 2) cs;
+        first = firstPlace a c;
+        more = otherPlaces a c cs;
         after = back code;
         address = placed-at a c;
-        held = whole ∙ rw (d, n) (simp append-assoc);
+        held = whole ∙ rw (d, n, placed a c cs) (simp append-assoc);
         absent = less ∙ simp append-assoc;
       }
 

@@ -7,7 +7,7 @@ use native.Mathlib.Omega.{arith}
 use Rattle.rules.specs.Text.{Text, bytes, same}
 use Rattle.rules.specs.Label.{Table}
 use Rattle.rules.specs.Encode.{literal, branch as branchOn, branches, otherMnemonics, mnemonics, operationIn, R, two, one, oneOrMore, registersRow, highRow, lowRow, fromIndirect, toIndirect, moveRows, mulsRows, cmpRows, moveqRow, quickRow, tstRow, branchRow, encodeOperation, encodeBy, encode}
-use Rattle.rules.specs.Assemble.{placeOf, placesAt, dataContents, dataPlaces, secondPassBy, codeContentsBy, codePlacesBy}
+use Rattle.rules.specs.Assemble.{placesAt, dataContents, dataPlaces, secondPassBy, codeContentsBy, codePlacesBy}
 use Rattle.rules.proofs.Readings.{all-some}
 use Rattle.manual.specs.Manual.{InByte, join, moveSize, sizeField, opmode, mode, register, extension, Condition, T, CC, CS, NE, EQ, GE, LT, GT, LE, condition, Instruction, layout, extensions, manualWords}
 use Rattle.promises.specs.Demand2Manual.{branchName, Written, moveq, load, store, copy, mulsData, muls, add, sub, cmp, tst, subq, asl, nop, branch, emitted, markedZero, LinesAreTheManuals}
@@ -54,7 +54,7 @@ encoded (branch c {s} {z} d h) =
 
 -- cells that are no label's address get mark 0
 pub zero-places : (a : ℕ) (ws : List ℕ) → placesAt a (map literal ws) ≡ markedZero a ws
-unfolding placesAt placeOf markedZero
+unfolding placesAt markedZero
 zero-places a [] = refl
 zero-places a (w ∷ ws) = rw (zero-places (a + 2) ws)
 

@@ -1,5 +1,5 @@
 -- The list under a shift: a source accepted at base b is accepted at base 0, and its list at b is that at 0, moved by b. Assumes nothing.
-use Prim.Native.Nat.{ℕ, _+_, _%_}
+use Prim.Native.Nat.{ℕ, _+_, _*_, _/_, _%_, _^_}
 use mathlib.Core.Path.{_≡_, refl, _∙_, ap}
 use mathlib.Core.Bool.{false≢true}
 use mathlib.Core.List.{List, [], _∷_, map, flatMap}
@@ -10,36 +10,50 @@ use Rattle.rules.specs.Text.{Text}
 use Rattle.rules.specs.Number.{modulo}
 use Rattle.rules.specs.Line.{Task, linesOf}
 use Rattle.rules.specs.Label.{Table}
-use Rattle.rules.specs.Encode.{Content, literal, address}
+use Rattle.rules.specs.Encode.{Content, literal, address, longAddress}
 use Rattle.rules.specs.Answer.{Answer, accepted, refused, andThen}
-use Rattle.rules.specs.Assemble.{Sizes, Encoder, Put, Pass, firstPassBy, Place, placeOf, placesAt, dataContents, codeContentsBy, dataPlaces, codePlacesBy, secondPassBy, encoded, assembleBy}
+use Rattle.rules.specs.Assemble.{Sizes, Encoder, Put, Pass, firstPassBy, Place, place, placesAt, dataContents, codeContentsBy, dataPlaces, codePlacesBy, secondPassBy, encoded, assembleBy}
 use Rattle.promises.specs.Lawful.{shiftPut, shiftPass, shiftTable, shiftContent, shiftContents, Lawful}
-use Rattle.rules.specs.Relocate.{movedAddress, addedWord, movedWord}
-use Rattle.rules.specs.Tally.{movedPlace, tallyList}
+use Rattle.rules.specs.Relocate.{movedAddress, addedWord, addedPair, addedHigh, movedWord}
+use Rattle.rules.specs.Tally.{firstWord, movedPlace, tallyList}
 use Rattle.promises.proofs.Twice.{moved-append}
-use Rattle.promises.proofs.Paired.{Grouped, over, single, grouped-append, grouped-paired}
+use Rattle.promises.proofs.Paired.{Grouped, over, single, double, grouped-append, grouped-paired}
 use Rattle.promises.proofs.Tasks.{Worded, silent, codes, holds, worded}
 use Rattle.promises.proofs.Shift.{pass-shift}
 use Rattle.promises.proofs.Accepted.{passesBy, accepts, assembles}
 
--- an address plus b, in a word
+-- an address plus b: its low word, and its high word
 low-shift : (b x : ℕ) → (b + x) % 65536 ≡ addedWord (pos b) (x % 65536)
 unfolding addedWord modulo
 low-shift b x = omega arith
 
+high-shift : (b x : ℕ) → (b + x) / 65536 % 65536 ≡ addedHigh (pos b) (x / 65536 % 65536) (x % 65536)
+unfolding addedHigh addedPair modulo
+high-shift b x = halves (b + x) ∙ ap (λ n. n / 65536) sum
+  where
+    halves : (n : ℕ) → n / 65536 % 65536 ≡ n % 2 ^ 32 / 65536
+    halves n = omega arith
+
+    sum : (b + x) % 2 ^ 32 ≡ (65536 * (x / 65536 % 65536) + x % 65536 + b % 2 ^ 32) % 2 ^ 32
+    sum = omega arith
+
 -- the places of words b higher, at an address b higher, are the places moved by b
 placesAt-shift : (b a : ℕ) (cs : List Content) → placesAt (b + a) (shiftContents b cs) ≡ tallyList (pos b) (placesAt a cs)
-unfolding placesAt placeOf shiftContent tallyList movedPlace movedAddress movedWord
+unfolding placesAt shiftContent tallyList movedPlace movedAddress movedWord firstWord
 placesAt-shift b a [] = refl
 placesAt-shift b a (literal w ∷ cs) = rw (add-assoc b a 2, placesAt-shift b (a + 2) cs, add-comm b a)
 placesAt-shift b a (address x ∷ cs) = rw (low-shift b x, add-assoc b a 2, placesAt-shift b (a + 2) cs, add-comm b a)
+placesAt-shift b a (longAddress x ∷ cs) =
+    rw (high-shift b x, low-shift b x, add-assoc b a 2, add-assoc b a 4, placesAt-shift b (a + 4) cs, add-comm b a, add-comm b (a + 2))
 
 -- and their marks are well paired
 pub places-grouped : (a : ℕ) (cs : List Content) → Grouped (placesAt a cs)
-unfolding placesAt placeOf
+unfolding placesAt
 places-grouped a [] = over
-places-grouped a (literal w ∷ cs) = single {p = placeOf a (literal w)} (omega arith) (places-grouped (a + 2) cs)
-places-grouped a (address x ∷ cs) = single {p = placeOf a (address x)} (omega arith) (places-grouped (a + 2) cs)
+places-grouped a (literal w ∷ cs) = single {p = place a w 0} (omega arith) (places-grouped (a + 2) cs)
+places-grouped a (address x ∷ cs) = single {p = place a (x % 65536) 1} (omega arith) (places-grouped (a + 2) cs)
+places-grouped a (longAddress x ∷ cs) =
+    double {p = place a (x / 65536 % 65536) 2} {q = place (a + 2) (x % 65536) 3} refl refl (places-grouped (a + 4) cs)
 
 -- lists one after another: each one moved, then joined, is the joined list moved
 flatMap-moved : {A : Type 0} (t : ℤ) (g : A → A) (f f′ : A → List Place) → ((x : A) → f (g x) ≡ tallyList t (f′ x)) → ((x : A) → Grouped (f′ x))

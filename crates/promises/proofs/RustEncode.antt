@@ -3,7 +3,7 @@ use Prim.Native.Nat.{ℕ, suc, _+_, _/_, _%_, _^_, _<_}
 use mathlib.Core.Path.{_≡_, refl, sym, ap, _∙_}
 use mathlib.Core.Bool.{Bool, true, false, not, _&&_, _||_, cond, false≢true}
 use mathlib.Core.Option.{Option, none, some, bind, orElse, Option·map, Option·none-ne-some, Option·some-ne-none}
-use mathlib.Core.List.{List, [], _∷_, map}
+use mathlib.Core.List.{List, [], _∷_}
 use native.Mathlib.Omega.{arith}
 use lib.ListN.{length, drop}
 use lib.Dec.{eqb}
@@ -13,7 +13,7 @@ use Rattle.rules.specs.Text.{Text, bytes, same, after}
 use Rattle.rules.specs.Number.{imm8, imm16}
 use Rattle.rules.specs.Line.{Instruction as Said}
 use Rattle.rules.specs.Label.{Table}
-use Rattle.rules.specs.Encode.{Content, literal, address, moveq, move, movea, muls, tst, subq, asl, dbra, add, sub, cmp, jmp, branch, Mnemonic, branches, otherMnemonics, mnemonics, operationIn, R, registerDigit, dataRegister, addressRegister, two, one, oneOrMore, displacement, jumps, withLabel, registersRow, highRow, lowRow, fromIndirect, toIndirect, fromLabel, toLabel, moveRows, moveaRow, mulsRows, cmpRows, moveqRow, quickRow, tstRow, jumpRow, dbraRow, branchRow, encodeOperation, encodeBy, encode}
+use Rattle.rules.specs.Encode.{Content, literal, address, longAddress, moveq, move, movea, muls, tst, subq, asl, dbra, add, sub, cmp, jmp, branch, Mnemonic, branches, otherMnemonics, mnemonics, operationIn, R, registerDigit, dataRegister, addressRegister, two, one, oneOrMore, displacement, jumps, withLabel, registersRow, highRow, lowRow, fromIndirect, toIndirect, fromLabel, toLabel, moveRows, moveaRow, mulsRows, cmpRows, moveqRow, quickRow, tstRow, jumpRow, dbraRow, branchRow, encodeOperation, encodeBy, encode}
 use Rattle.rules.proofs.Readings.{All}
 use Rattle.promises.specs.RustStr.{when, at, is-empty, equals, starts-with, as-u16, i8-as-u16, HashMap, look-up, Arm, match}
 use Rattle.promises.specs.RustAssembler.{AssemblyInstruction, Code, no-ext, parse-immediate, parse-immediate-u16, parse-data-register, parse-address-register, parse-branch-displacement, encode-moveq, encode-move-with-ext, encode-movea-with-ext, encode-muls-with-ext, encode-branch, encode-add, encode-sub, encode-cmp-with-ext, encode-jump, encode-tst, encode-subq, encode-asl, encode-dbra, encode-instruction-with-ext, _or_, _and_, _<<_}
@@ -23,13 +23,12 @@ use Rattle.promises.proofs.RustNumber.{Small, clash, imm8-is, imm8-smal
 use Rattle.promises.proofs.RustOperand.{Register, data-is, data-below, address-is, address-below, indirect-is, indirect-below, Agrees, displacement-is, displacement-small, jumps-is}
 use Rattle.promises.proofs.RustOpcode.{at-low, at-high, registers, moveq-word, branch-word, quick-word}
 
--- the words of cells, and of the Rust's answers
-abbrev pub wordOf : Content → ℕ
-wordOf (literal w) = w
-wordOf (address x) = x % 65536
-
+-- the words of contents, and of the Rust's answers
 abbrev pub plain : List Content → List ℕ
-plain cs = map wordOf cs
+plain [] = []
+plain (literal w ∷ cs) = w ∷ plain cs
+plain (address x ∷ cs) = x % 65536 ∷ plain cs
+plain (longAddress x ∷ cs) = x / 65536 % 65536 ∷ x % 65536 ∷ plain cs
 
 abbrev pub extWords : Option ℕ → List ℕ
 extWords none = []

@@ -1,21 +1,21 @@
 -- The words of an instruction: under a shift only label addresses change, and there are at most two words. Assumes nothing.
 use Prim.Native.Nat.{ℕ, zero, suc, _+_, _-_, _≤_}
-use mathlib.Core.Path.{_≡_, refl, sym, _∙_}
+use mathlib.Core.Path.{_≡_, refl, sym, ap, _∙_}
 use mathlib.Core.Logic.{_≢_}
 use mathlib.Core.Bool.{Bool, true, false, cond}
 use mathlib.Core.Option.{Option, none, some, Option·map, Option·getD, bind, orElse}
-use mathlib.Core.List.{List, [], _∷_}
+use mathlib.Core.List.{List, [], _∷_, map}
 use native.Mathlib.Nat.{add-assoc, zero-add, suc-add, add-suc}
 use native.Mathlib.Omega.{arith}
 use lib.Dec.{leb, ltb, leb·suc-suc}
-use lib.ListN.{length, take, length-take}
+use lib.ListN.{length, take, length-take, length-map}
 use lib.IntN.{subℕ}
 use Rattle.rules.specs.Text.{Text}
 use Rattle.rules.specs.Line.{Instruction}
 use Rattle.rules.specs.Label.{Table}
-use Rattle.rules.specs.Encode.{Content, literal, Operation, moveq, move, movea, muls, tst, subq, asl, dbra, nop, simhalt, add, sub, cmp, jmp, branch, two, one, oneOrMore, reach, displacement, isSome, jumps, withLabel, registersRow, highRow, lowRow, fromIndirect, toIndirect, fromLabel, toLabel, moveRows, moveaRow, mulsRows, cmpRows, moveqRow, quickRow, tstRow, jumpRow, dbraRow, branchRow, encodeOperation, Mnemonic, encodeBy}
-use Rattle.rules.specs.Assemble.{wordsBy}
-use Rattle.promises.specs.Lawful.{shiftTable, shiftContent, shiftContents}
+use Rattle.rules.specs.Encode.{Content, literal, address, longAddress, Operation, moveq, move, movea, muls, tst, subq, asl, dbra, nop, simhalt, add, sub, cmp, jmp, branch, two, one, oneOrMore, reach, displacement, isSome, jumps, withLabel, registersRow, highRow, lowRow, fromIndirect, toIndirect, fromLabel, toLabel, moveRows, moveaRow, mulsRows, cmpRows, moveqRow, quickRow, tstRow, jumpRow, dbraRow, branchRow, encodeOperation, Mnemonic, encodeBy}
+use Rattle.rules.specs.Assemble.{placesAt, wordsBy}
+use Rattle.promises.specs.Lawful.{shiftTable, shiftContent, shiftContents, Short}
 use Rattle.promises.proofs.Compared.{clash}
 use Rattle.promises.proofs.Shift.{find-shift}
 
@@ -97,9 +97,17 @@ withLabel-shift : (b : ℕ) (ls : Table) (w : ℕ) (l : Text) → withLabel (shi
 unfolding withLabel shiftContent
 withLabel-shift b ls w l = simp (find-shift, bind-mapped, bind-map)
 
--- its first two words are all its words
-withLabel-two : (ls : Table) (w : ℕ) (l : Text) → Option·map (take 2) (withLabel ls w l) ≡ withLabel ls w l
-unfolding withLabel
+-- two of its contents, none of 32 bits, are all of them
+single : Content → Content
+single (literal w) = literal w
+single (address x) = address x
+single (longAddress x) = literal x
+
+firstTwo : List Content → List Content
+firstTwo cs = map single (take 2 cs)
+
+withLabel-two : (ls : Table) (w : ℕ) (l : Text) → Option·map firstTwo (withLabel ls w l) ≡ withLabel ls w l
+unfolding withLabel firstTwo single
 withLabel-two ls w l = simp bind-map
 
 -- a word put where there is none
@@ -111,9 +119,25 @@ withLabel-filled : (ls : Table) (w : ℕ) (l : Text) → Option·map filled (wit
 unfolding withLabel filled
 withLabel-filled ls w l = simp bind-map
 
-length-two : (o : Option (List Content)) → length (Option·getD (Option·map (take 2) o) []) ≤ 2
-length-two none = omega arith
-length-two (some cs) = rw length-take (omega arith)
+single-short : (cs : List Content) → Short (map single cs)
+unfolding single Short
+single-short [] = tt
+single-short (literal w ∷ cs) = single-short cs
+single-short (address x ∷ cs) = single-short cs
+single-short (longAddress x ∷ cs) = single-short cs
+
+short-two : (o : Option (List Content)) → Short (Option·getD (Option·map firstTwo o) []) × (length (Option·getD (Option·map firstTwo o) []) ≤ 2)
+unfolding firstTwo Short
+short-two none = (tt, omega arith)
+short-two (some cs) = (single-short (take 2 cs), rw (length-map (take 2 cs) single, length-take) (omega arith))
+
+-- contents without addresses of 32 bits take a place each
+short-length : (a : ℕ) (cs : List Content) → Short cs → length (placesAt a cs) ≡ length cs
+unfolding placesAt Short
+short-length a [] h = refl
+short-length a (literal w ∷ cs) h = ap suc (short-length (a + 2) cs h)
+short-length a (address x ∷ cs) h = ap suc (short-length (a + 2) cs h)
+short-length a (longAddress x ∷ cs) h = absurd h
 
 -- the law of all encoders: what changes each row's words by g changes an instruction's words by g
 module _ (g : List Content → List Content) (ls ls′ : Table) (a a′ : ℕ)
@@ -162,12 +186,16 @@ module _ (names : List Mnemonic) where
       go none = refl
       go (some cs) = refl
 
-  -- an instruction's first two words are all its words
-  encode-two : (ls : Table) (a : ℕ) (i : Instruction) → Option·map (take 2) (encodeBy names ls a i) ≡ encodeBy names ls a i
-  encode-two ls a i = encode-by (take 2) ls ls a a (λ w. refl) (λ w v. refl) (withLabel-two ls) (λ s. refl) (λ s. refl) names i
+  -- two of an instruction's contents, none of 32 bits, are all of them
+  encode-two : (ls : Table) (a : ℕ) (i : Instruction) → Option·map firstTwo (encodeBy names ls a i) ≡ encodeBy names ls a i
+  unfolding firstTwo single
+  encode-two ls a i = encode-by firstTwo ls ls a a (λ w. refl) (λ w v. refl) (withLabel-two ls) (λ s. refl) (λ s. refl) names i
 
-  pub at-most-two : (ls : Table) (a : ℕ) (i : Instruction) → length (wordsBy (encodeBy names) ls a i) ≤ 2
-  at-most-two ls a i = rw (encode-two ls a i) at (length-two (encodeBy names ls a i))
+  pub words-short : (ls : Table) (a : ℕ) (i : Instruction) → Short (wordsBy (encodeBy names) ls a i)
+  words-short ls a i = rw (encode-two ls a i) at (short-two (encodeBy names ls a i) .0)
+
+  pub at-most-two : (ls : Table) (a : ℕ) (i : Instruction) → length (placesAt a (wordsBy (encodeBy names) ls a i)) ≤ 2
+  at-most-two ls a i = rw (short-length a (wordsBy (encodeBy names) ls a i) (words-short ls a i)) (rw (encode-two ls a i) at (short-two (encodeBy names ls a i) .1))
 
   -- an instruction that has words has one at least: an empty list of words, filled, is not the encoder's
   pub some-words : (ls : Table) (a : ℕ) (i : Instruction) (cs : List Content) → encodeBy names ls a i ≡ some cs → cs ≢ []

@@ -15,7 +15,7 @@ use Rattle.rules.specs.Encode.{encode}
 use Rattle.rules.specs.Assemble.{Pass, Sizes, Encoder, Place, Slices, passAtBy, secondPassBy, assembleBy}
 use Rattle.rules.specs.Relocate.{moveAnswer, moveSlices}
 use Rattle.rules.specs.Tally.{held, Seen, moves, tallyList, Tallied, tallied, seen}
-use Rattle.promises.specs.Lawful.{shiftPass, Lawful}
+use Rattle.promises.specs.Lawful.{shiftPass, Lawful, ShortAddresses}
 
 -- "Let one source be accepted at base b and at base c. Then moving its list for b by c − b is accepted and gives
 -- exactly its list for c: the same count, addresses, words and marks."
@@ -35,6 +35,17 @@ WordsDifferBy z e =
     → modulo 65536 (pos c -ℤ pos b) ≢ 0
     → (i : ℕ) (p q : Place) → getElem? lb i ≡ some p → getElem? lc i ≡ some q
     → (p .mark ≡ q .mark) × ((p .word ≢ q .word) ↔ (p .mark ≡ 1))
+
+-- 02's W-207: "words differ only at marked places"; with mark 1, and in a pair's low word, exactly when d is not a multiple of 65,536
+pub record Differ (d : ℤ) (p q : Place) : Type 0 where
+  pub marks : p .mark ≡ q .mark
+  pub unmarked : p .mark ≡ 0 → p .word ≡ q .word
+  pub low : p .mark ≢ 0 → p .mark ≢ 2 → (p .word ≢ q .word) ↔ (modulo 65536 d ≢ 0)
+
+abbrev pub MarkedWordsDifferBy : Sizes → Encoder → Type 0
+MarkedWordsDifferBy z e =
+    (s : Text) (b c : ℕ) (lb lc : List Place) → assembleBy z e b s ≡ accepted lb → assembleBy z e c s ≡ accepted lc
+    → (i : ℕ) (p q : Place) → getElem? lb i ≡ some p → getElem? lc i ≡ some q → Differ (pos c -ℤ pos b) p q
 
 -- a mark says which words move, at one base too: with labels and lines d higher the second pass gives the list that the tally has at d
 abbrev pub MarksSayWhatMovesBy : Sizes → Encoder → Type 0
@@ -93,7 +104,7 @@ TotalsAddUp = (l : List Place) (ds : List ℤ) → Totalled (pos 0) ds (tallied 
 -- demand 3 for a size and an encoder
 pub record Demand3By (z : Sizes) (e : Encoder) : Type 0 where
   pub moved : MovedIsAssembledBy z e
-  pub differ : WordsDifferBy z e
+  pub differ : MarkedWordsDifferBy z e
   pub marks : MarksSayWhatMovesBy z e
   pub follow : MovesFollowTallyBy z e
   pub one : OneMoveForAllBy z e
@@ -102,7 +113,11 @@ pub record Demand3By (z : Sizes) (e : Encoder) : Type 0 where
 unfoldable pub LawfulMoves : Type 0
 LawfulMoves = (z : Sizes) (e : Encoder) (most : ℕ) → Lawful z e most → Demand3By z e
 
--- and so has 01's
+-- and where no label's address has 32 bits, 01's sentence on words that differ holds
+unfoldable pub ShortWordsDiffer : Type 0
+ShortWordsDiffer = (z : Sizes) (e : Encoder) (most : ℕ) → Lawful z e most → ShortAddresses e → WordsDifferBy z e
+
+-- so 01's has all of it
 unfoldable pub MovedIsAssembled : Type 0
 MovedIsAssembled = MovedIsAssembledBy size encode
 

@@ -4,16 +4,13 @@ use mathlib.Core.Path.{_≡_}
 use mathlib.Core.List.{List, [], _∷_, map}
 use Rattle.rules.specs.Text.{Text, bytes}
 use Rattle.rules.specs.Answer.{accepted}
-use Rattle.rules.specs.Assemble.{Place, assemble}
+use Rattle.rules.specs.Assemble.{Place, place, assemble}
 
 -- an example: a base, a source, and its list
 pub record Example : Type 0 where
   pub base : ℕ
   pub source : Text
   pub list : List Place
-
-abbrev place : ℕ → ℕ → ℕ → Place
-place a w m = record { address = a; word = w; mark = m }
 
 abbrev example : ℕ → Text → List Place → Example
 example b s l = record { base = b; source = s; list = l }

@@ -1,12 +1,12 @@
 -- Which sizes and encoders move: what demand 3 asks of a size and an encoder, 01's or another, and that 01's have it. Assumes nothing.
 use Prim.Native.Nat.{ℕ, _+_, _*_, _≤_}
 use mathlib.Core.Path.{_≡_}
-use mathlib.Core.List.{List, map}
+use mathlib.Core.List.{List, [], _∷_, map}
 use lib.ListN.{length}
 use Rattle.rules.specs.Line.{Instruction, size}
 use Rattle.rules.specs.Label.{Label, Table}
-use Rattle.rules.specs.Encode.{Content, literal, address, Mnemonic, encodeBy}
-use Rattle.rules.specs.Assemble.{Put, Pass, Sizes, Encoder, wordsBy}
+use Rattle.rules.specs.Encode.{Content, literal, address, longAddress, Mnemonic, encodeBy}
+use Rattle.rules.specs.Assemble.{Put, Pass, Sizes, Encoder, placesAt, wordsBy}
 
 -- labels d higher
 unfoldable pub shiftLabel : ℕ → Label → Label
@@ -22,10 +22,11 @@ shiftPut d p = record { address = d + p .address; task = p .task }
 unfoldable pub shiftPass : ℕ → Pass → Pass
 shiftPass d p = record { labels = shiftTable d (p .labels); puts = map (shiftPut d) (p .puts) }
 
--- words as they are, but for label addresses, which are d higher
+-- contents as they are, but for label addresses, which are d higher
 unfoldable pub shiftContent : ℕ → Content → Content
 shiftContent d (literal w) = literal w
 shiftContent d (address x) = address (d + x)
+shiftContent d (longAddress x) = longAddress (d + x)
 
 abbrev pub shiftContents : ℕ → List Content → List Content
 shiftContents d cs = map (shiftContent d) cs
@@ -34,12 +35,27 @@ shiftContents d cs = map (shiftContent d) cs
 pub record Lawful (z : Sizes) (e : Encoder) (most : ℕ) : Type 0 where
   -- an instruction's words at addresses d higher are the same but for label addresses, which are d higher
   pub shifts : (d : ℕ) (t : Table) (a : ℕ) (i : Instruction) → wordsBy e (shiftTable d t) (d + a) i ≡ shiftContents d (wordsBy e t a i)
-  -- there are at most so many of them, and two may be data
-  pub few : (t : Table) (a : ℕ) (i : Instruction) → length (wordsBy e t a i) ≤ most
+  -- they take at most so many places, and two may be data
+  pub few : (t : Table) (a : ℕ) (i : Instruction) → length (placesAt a (wordsBy e t a i)) ≤ most
   pub two : 2 ≤ most
   -- and they end at most 4 bytes after what it takes, so that none stands above 2^30 + 1
-  pub ends : (t : Table) (a : ℕ) (i : Instruction) → 2 * length (wordsBy e t a i) ≤ z i + 4
+  pub ends : (t : Table) (a : ℕ) (i : Instruction) → 2 * length (placesAt a (wordsBy e t a i)) ≤ z i + 4
 
 -- 01's size and words are lawful, with two places a line, whatever the mnemonics in use
 unfoldable pub RulesAreLawful : Type 0
 RulesAreLawful = (names : List Mnemonic) → Lawful size (encodeBy names) 2
+
+-- no label's address among the contents has 32 bits
+unfoldable pub Short : List Content → Type 0
+Short [] = Unit
+Short (literal w ∷ cs) = Short cs
+Short (address x ∷ cs) = Short cs
+Short (longAddress x ∷ cs) = ⊥
+
+-- nor has any of an encoder's
+abbrev pub ShortAddresses : Encoder → Type 0
+ShortAddresses e = (t : Table) (a : ℕ) (i : Instruction) → Short (wordsBy e t a i)
+
+-- 01's words hold none
+unfoldable pub RulesAreShort : Type 0
+RulesAreShort = (names : List Mnemonic) → ShortAddresses (encodeBy names)

@@ -10,7 +10,7 @@ use Rattle.rules.specs.Limits.{maxSource, maxLines, addressLimit}
 use Rattle.rules.specs.Text.{Text, cutAt}
 use Rattle.rules.specs.Line.{SourceLine, linesOf, Instruction, Task, skipped, end, org, noOrg, labelOnly, instruction, value, space, Line, lineOf, size}
 use Rattle.rules.specs.Label.{Table, recordAll}
-use Rattle.rules.specs.Encode.{Content, literal, address, encode}
+use Rattle.rules.specs.Encode.{Content, literal, address, longAddress, encode}
 use Rattle.rules.specs.Answer.{Answer, accepted, refused, refuseIf, refuseAt, andThen}
 
 -- what a line asks, at the line's address
@@ -86,21 +86,22 @@ step base a t l r = stepBy size base a t l r
 abbrev pub firstPass : ℕ → ℕ → Table → List SourceLine → Answer Pass
 firstPass base a t ls = firstPassBy size base a t ls
 
--- a place of the list: an address, a word, and a mark, which is 1 on a label's address (a relocation flag)
+-- a place of the list: an address, a word, and a mark, which is not 0 on a label's address (a relocation flag)
 pub record Place : Type 0 where
   pub address : ℕ
   pub word : ℕ
   pub mark : ℕ
 
--- "Label addresses in ext are taken modulo 65,536 and carry mark 1; all other words carry 0."
-unfoldable pub placeOf : ℕ → Content → Place
-placeOf a (literal w) = record { address = a; word = w; mark = 0 }
-placeOf a (address x) = record { address = a; word = x % 65536; mark = 1 }
+abbrev pub place : ℕ → ℕ → ℕ → Place
+place a w m = record { address = a; word = w; mark = m }
 
--- words at an address: the second "at address + 2"
+-- "Label addresses in ext are taken modulo 65,536 and carry mark 1; all other words carry 0", the second "at address + 2".
+-- 02's W-207: "A 32-bit label address carries mark 2 on its high word and 3 on the low."
 unfoldable pub placesAt : ℕ → List Content → List Place
 placesAt a [] = []
-placesAt a (c ∷ cs) = placeOf a c ∷ placesAt (a + 2) cs
+placesAt a (literal w ∷ cs) = place a w 0 ∷ placesAt (a + 2) cs
+placesAt a (address x ∷ cs) = place a (x % 65536) 1 ∷ placesAt (a + 2) cs
+placesAt a (longAddress x ∷ cs) = place a (x / 65536 % 65536) 2 ∷ place (a + 2) (x % 65536) 3 ∷ placesAt (a + 4) cs
 
 -- a value is "put as high word at the address and low word at address + 2, at every size"
 unfoldable pub dataContents : Task → List Content

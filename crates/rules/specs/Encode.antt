@@ -10,10 +10,11 @@ use Rattle.rules.specs.Number.{digitValue, Reading, valueOf, signedReadi
 use Rattle.rules.specs.Line.{Instruction}
 use Rattle.rules.specs.Label.{Table, find}
 
--- a word of the list before it has its address and mark: a number as it stands, or a label's address
+-- what the list holds, before it has addresses and marks: a number as it stands, a label's address in one word, or one of 32 bits in two
 pub data Content : Type 0 where
   literal : ℕ → Content
   address : ℕ → Content
+  longAddress : ℕ → Content
 
 -- what a mnemonic names
 pub data Operation : Type 0 where

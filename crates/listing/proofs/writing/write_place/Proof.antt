@@ -3,7 +3,7 @@ use lib.ListN.{length-set}
 use native.Mathlib.Omega.{arith}
 use borrow.Author.Needs.{needs}
 use Rattle.listing.proofs.Lines.{line-put}
-use Rattle.listing.specs.Listing.{place}
+use Rattle.rules.specs.Assemble.{place}
 use Rattle.listing.proofs.writing.write_place.Statement.{statement}
 use Rattle.listing.proofs.writing.write_place.Tie as tie
 
