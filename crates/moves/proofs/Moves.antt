@@ -16,7 +16,7 @@ use Rattle.answer.specs.Answer.{answerOf, answerNumber, answerPlace}
 use Rattle.relocate.specs.Moved.{Moved}
 use Rattle.relocate.proofs.Callers.{after-move}
 use Rattle.moves.specs.Moves.{told, slicesAfter, RelocateAllGives}
-use Rattle.moves.proofs.Tallied.{follows}
+use Rattle.moves.proofs.Tallied.{follows, pairs-follow}
 
 -- one of the two numbers of each answer, written into the slice ns, which held ns₀: the first i stand, and the rest are those of the moves left
 pub record Told (f : Answer → ℕ) (n : ℕ) (x₀ x : Slices) (ds : List ℤ) (ns₀ ns : List ℕ) (i : ℕ) : Type 0 where
@@ -81,4 +81,5 @@ module _ {n : ℕ} {x₀ : Slices} {xs ws ms : List ℕ} {ds : List ℤ} {ns₀ 
         numbers = numbers;
         places = places;
         follows = follows x₀ n ds (rw e) (rw e) numbers places;
+        pairs = pairs-follow x₀ n ds (rw e) (rw e) numbers places;
       }

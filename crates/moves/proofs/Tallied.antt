@@ -1,4 +1,5 @@
--- The moves of an accepted source's list are the tally's, by the promise: so are the answers and the slices that a call leaves. Assumes nothing.
+-- The moves of an accepted source's list, and of one with well paired marks, are the tally's, by the promises: so are the answers and
+-- the slices that a call leaves. Assumes nothing.
 use Prim.Native.Nat.{ℕ}
 use mathlib.Core.Path.{_≡_, refl, _∙_}
 use mathlib.Core.List.{List, [], _∷_, map}
@@ -12,7 +13,9 @@ use Rattle.rules.specs.Tally.{Seen, held, moves, Tallied, tallied, seen, tally}
 use Rattle.answer.specs.Answer.{answerNumber, answerPlace}
 use Rattle.relocate.proofs.Callers.{by-slice, move-keeps-marks}
 use Rattle.promises.specs.Demand3.{MovesFollowTally, lastList}
+use Rattle.promises.specs.Pairs.{Each, WellPaired, Sixteen, PairsFollowTally}
 use Rattle.promises.proofs.Demand3.{moves-follow-tally}
+use Rattle.promises.proofs.Pairs.{pairs-follow-tally}
 use Rattle.moves.specs.Moves.{told, slicesAfter, FollowsTally}
 
 keeps-marks : (n : ℕ) (x : Slices) (ds : List ℤ) → x .marks ≡ (slicesAfter n x ds) .marks
@@ -35,17 +38,23 @@ unfolding lastSeen lastList seen
 last-seen l [] = refl
 last-seen l (t ∷ ts) = last-seen (t .list) ts
 
-module _ (x : Slices) (n : ℕ) (ds : List ℤ) {ns ps xs ws ns′ ps′ : List ℕ} where
-  pub follows : xs ≡ (slicesAfter n x ds) .addresses → ws ≡ (slicesAfter n x ds) .words
-      → ns′ ≡ over (told answerNumber (moves n x ds)) ns → ps′ ≡ over (told answerPlace (moves n x ds)) ps
-      → (s : Text) (b : ℕ) (l : List Place) → assemble b s ≡ accepted l → n ≡ length l → held n x ≡ l
-      → FollowsTally l ds ns ps (slices xs ws (x .marks)) ns′ ps′
-  unfolding MovesFollowTally tally
-  follows p q u v s b l e c h =
-      let same : moves n x ds ≡ tally l (pos 0) ds = rw c (moves-follow-tally s b l e x (rw c at h) ds) in
+-- what a call leaves, where its moves are the tally's
+module _ (x : Slices) (n : ℕ) (ds : List ℤ) {ns ps xs ws ns′ ps′ : List ℕ} (p : xs ≡ (slicesAfter n x ds) .addresses) (q : ws ≡ (slicesAfter n x ds) .words)
+    (u : ns′ ≡ over (told answerNumber (moves n x ds)) ns) (v : ps′ ≡ over (told answerPlace (moves n x ds)) ps) where
+  by-tally : (l : List Place) → n ≡ length l → held n x ≡ l → moves n x ds ≡ tally l (pos 0) ds → FollowsTally l ds ns ps (slices xs ws (x .marks)) ns′ ps′
+  unfolding tally
+  by-tally l c h same =
       let after = by-slice (slicesAfter n x ds) _ _ _ p q (keeps-marks n x ds) in
       record {
         list = rw (after, ← c) (holds-last n x ds ∙ rw (h, same) (last-seen l (tallied l (pos 0) ds)));
         numbers = rw same at u;
         places = rw same at v;
       }
+
+  pub follows : (s : Text) (b : ℕ) (l : List Place) → assemble b s ≡ accepted l → n ≡ length l → held n x ≡ l → FollowsTally l ds ns ps (slices xs ws (x .marks)) ns′ ps′
+  unfolding MovesFollowTally tally
+  follows s b l e c h = by-tally l c h (rw c (moves-follow-tally s b l e x (rw c at h) ds))
+
+  pub pairs-follow : (l : List Place) → WellPaired l → Each Sixteen l → n ≡ length l → held n x ≡ l → FollowsTally l ds ns ps (slices xs ws (x .marks)) ns′ ps′
+  unfolding PairsFollowTally
+  pairs-follow l well six c h = by-tally l c h (rw c (pairs-follow-tally l well six x (rw c at h) ds))

@@ -1,5 +1,6 @@
 -- What a call that makes moves one after another needs and gives: the answers of the moves and the slices after the last, for whatever
--- slices it is lent; and, where these hold an accepted source's list, the tally's answers and its last list. Assumes nothing.
+-- slices it is lent; and, where these hold an accepted source's list or any of well paired marks, the tally's answers and its last list.
+-- Assumes nothing.
 use Prim.Native.Nat.{ℕ, _≤_}
 use mathlib.Core.Path.{_≡_}
 use mathlib.Core.List.{List, [], _∷_, map}
@@ -13,6 +14,7 @@ use Rattle.rules.specs.Tally.{Seen, held, moves, tallied, tally}
 use Rattle.answer.specs.declared.Answer.{Answer}
 use Rattle.answer.specs.Answer.{answerOf, answerNumber, answerPlace}
 use Rattle.promises.specs.Demand3.{lastList}
+use Rattle.promises.specs.Pairs.{Each, WellPaired, Sixteen}
 
 -- the number or the place of each move's answer
 unfoldable pub told : (Answer → ℕ) → List Seen → List ℕ
@@ -42,4 +44,7 @@ pub record RelocateAllGives (x : Slices) (count : ℕ) (distances : List ℤ) (n
   pub places : ps′ ≡ over (told answerPlace (moves count x distances)) ps
   -- demand 3: "each answer, and the list after each move, is that of 01's tally"
   pub follows : (s : Text) (b : ℕ) (l : List Place) → assemble b s ≡ accepted l → count ≡ length l → held count x ≡ l
+      → FollowsTally l distances ns ps (slices xs ws (x .marks)) ns′ ps′
+  -- 02's W-207: so for every list of well paired marks
+  pub pairs : (l : List Place) → WellPaired l → Each Sixteen l → count ≡ length l → held count x ≡ l
       → FollowsTally l distances ns ps (slices xs ws (x .marks)) ns′ ps′

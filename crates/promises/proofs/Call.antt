@@ -23,7 +23,7 @@ same-outside d i (suc n) (a ∷ xs) (w ∷ ws) [] e = absurd (omega arith)
 same-outside d i (suc n) (a ∷ xs) (w ∷ ws) (m ∷ ms) e =
     λ k. elim (outside (pos a +ℤ d)) [ true ↦ some i | false ↦ same-outside d (suc i) n xs ws ms (omega arith) k ]
 
--- refusal 10: the marks are the list's
+-- refusal 10: the next mark, and the scan, are the list's
 same-first : (n : ℕ) (xs ws ms : List ℕ) → length (listIn n xs ws ms) ≡ n → firstIn n ms ≡ firstIn n (map (λ p. p .mark) (listIn n xs ws ms))
 unfolding listIn firstIn
 same-first zero xs ws ms e = refl
@@ -63,7 +63,7 @@ unfolding moveAnswer held refuseIf refuseAt
 call-answers x n d e h =
     rw (not-short x n e, same-marks 0 0 n (x .addresses) (x .words) (x .marks) e, h, same-outside d 0 n (x .addresses) (x .words) (x .marks) e)
 
--- what is written: the list, moved
+-- what is written: the next word is the list's, and so the list is moved
 same-next : (n : ℕ) (xs ws ms : List ℕ) → length (listIn n xs ws ms) ≡ n → firstIn n ws ≡ firstWord (listIn n xs ws ms)
 unfolding listIn firstIn firstWord
 same-next zero xs ws ms e = refl

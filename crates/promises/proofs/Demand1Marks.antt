@@ -14,6 +14,7 @@ use Rattle.promises.specs.Demand1.{BadMark, over-3, high-alone, low-alon
 use Rattle.promises.proofs.Compared.{clash}
 use Rattle.promises.proofs.Demand1Search.{Found, found, nowhere, later, goes-on}
 
+-- a scan counted from one more
 shift : (b i n : ℕ) (ms : List ℕ) → firstBadMark b (suc i) n ms ≡ later (firstBadMark b i n ms)
 unfolding firstBadMark later
 shift b i zero ms = refl
@@ -29,12 +30,14 @@ shift b i (suc n) (m ∷ ms) = go (badMark b m (firstIn n ms)) refl (shift m (su
 abbrev around : ℕ → ℕ → List ℕ → ℕ → Bool
 around b n ms i = badMark (getD (b ∷ ms) i 0) (getD ms i 0) (cond (ltb (suc i) n) (getD ms (suc i) 0) 0)
 
+-- the next mark, by index
 first-cond : (n : ℕ) (ms : List ℕ) → n ≤ length ms → firstIn n ms ≡ cond (ltb 0 n) (getD ms 0 0) 0
 unfolding firstIn
 first-cond zero ms h = refl
 first-cond (suc n) [] h = absurd (omega arith)
 first-cond (suc n) (m ∷ ms) h = rw (lt-ltb 0 (suc n) (omega arith))
 
+-- the scan finds the lowest index at which the test passes
 scan : (b n : ℕ) (ms : List ℕ) → n ≤ length ms → Found (λ i. around b n ms i ≡ true) n (firstBadMark b 0 n ms)
 unfolding firstBadMark
 scan b zero ms h = nowhere (λ i l. absurd (omega arith))

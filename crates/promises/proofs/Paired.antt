@@ -37,11 +37,13 @@ not-bad b m a e h = go (eqb a 3) refl
     go true f = eqb-true a 3 f
     go false f = let c = rw (h, f) at e in absurd (false≢true cc)
 
+-- the first mark of a list
 first-is : (l : List Place) → firstIn (length l) (map (λ p. p .mark) l) ≡ firstMark l
 unfolding firstIn firstMark
 first-is [] = refl
 first-is (p ∷ ps) = refl
 
+-- so the scan that finds none tells that each 2 has its 3
 paired-from : (b i : ℕ) (l : List Place) → firstBadMark b i (length l) (map (λ p. p .mark) l) ≡ none → Paired l
 unfolding firstBadMark
 paired-from b i [] e = tt

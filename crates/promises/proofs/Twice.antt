@@ -38,6 +38,7 @@ unfolding movedAddress
 inside-reached t [] h = tt
 inside-reached t (p ∷ ps) h = (inside-pos (pos (p .address) +ℤ t) (h .0), inside-reached t ps (h .1))
 
+-- nor has one by 0
 pub reached-zero : (l : List Place) → All (Reached (pos 0)) l
 unfolding movedAddress
 reached-zero [] = tt

@@ -1,4 +1,5 @@
 pub mod Signed
+pub mod Marks
 pub mod Scan
 pub mod Sweep
 pub mod Verdict

@@ -1,6 +1,7 @@
 -- A search by index is the definition's recursion: laws for the two loops that look for a first one. Assumes nothing.
 use Prim.Native.Nat.{ℕ, zero, suc, _+_, _-_, _≤_, _<_}
 use mathlib.Core.Path.{_≡_, refl}
+use mathlib.Core.Logic.{_≢_}
 use mathlib.Core.Bool.{Bool, true, false}
 use mathlib.Core.Option.{none, some}
 use mathlib.Core.List.{List, [], _∷_}
@@ -9,8 +10,8 @@ use native.Mathlib.Numerals.{add-one}
 use native.Mathlib.Omega.{arith}
 use lib.ListN.{length, getD, drop}
 use lib.Seq.{drop-cons}
-use Rattle.rules.specs.Relocate.{firstIndex}
-use Rattle.relocate.specs.Found.{foundOf}
+use Rattle.rules.specs.Relocate.{firstIn, firstIndex, badMark, firstBadMark}
+use Rattle.relocate.specs.Found.{foundOf, beforeIn, nextIn}
 use Rattle.relocate.specs.declared.Found.the-variants.{At, Nothing}
 
 -- the first i of n numbers do not pass the test: the search goes on at i
@@ -52,3 +53,50 @@ none-passes f (x ∷ xs) i (suc n) e j h l = go (f x) refl j h (none-passes f xs
     go true u j h rest = absurd (let k : some i ≡ none = rw (u, firstIndex) at e in let v : _≡_ {A = ℕ} 0 1 = cc in omega arith)
     go false u zero h rest = u
     go false u (suc j) h rest = rest (rw (u, firstIndex) at e) j (omega arith) (omega arith)
+
+-- the number after the i-th, as the code reads it
+module _ (xs : List ℕ) (n i : ℕ) where
+  pub next-there : i + 1 < n → n ≤ length xs → getD xs (i + 1) 0 ≡ nextIn xs n i
+  unfolding firstIn
+  next-there h l =
+      let e : n - suc i ≡ suc (n - suc (suc i)) = omega arith in
+      rw (e, drop-cons xs (suc i) 0 (omega arith), add-one i)
+
+  pub next-none : n ≤ i + 1 → 0 ≡ nextIn xs n i
+  unfolding firstIn
+  next-none h = let e : n - suc i ≡ 0 = omega arith in rw e
+
+-- and the number before it
+pub before-there : (xs : List ℕ) (i : ℕ) → i ≢ 0 → getD xs (i - 1) 0 ≡ beforeIn xs i
+before-there xs zero h = absurd (h refl)
+before-there xs (suc i) h = let e : suc i - 1 ≡ i = omega arith in rw e
+
+pub before-none : (xs : List ℕ) (i : ℕ) → i ≡ 0 → 0 ≡ beforeIn xs i
+before-none xs i e = rw e
+
+-- the first i of n marks are not bad: the scan goes on at i
+pub record Scanned (ms : List ℕ) (n i : ℕ) : Type 0 where
+  pub reach : i ≤ n
+  pub same : firstBadMark 0 0 n ms ≡ firstBadMark (beforeIn ms i) i (n - i) (drop i ms)
+
+pub scan-starts : (ms : List ℕ) (n : ℕ) → Scanned ms n 0
+scan-starts ms n = record { reach = omega arith; same = rw sub-zero }
+
+module _ {ms : List ℕ} {n i : ℕ} (s : Scanned ms n i) where
+  pub scan-ends : n ≤ i → Nothing ≡ foundOf (firstBadMark 0 0 n ms)
+  unfolding firstBadMark
+  scan-ends h = let e : n - i ≡ 0 = omega arith in rw (s .same, e)
+
+  module _ (h : i < n) (l : n ≤ length ms) where
+    left : n - i ≡ suc (n - suc i)
+    left = omega arith
+
+    pub scan-finds : badMark (beforeIn ms i) (getD ms i 0) (nextIn ms n i) ≡ true → At i ≡ foundOf (firstBadMark 0 0 n ms)
+    unfolding firstBadMark
+    scan-finds e = let k : i < length ms = omega arith in rw (s .same, left, drop-cons ms i 0 k, e, firstBadMark)
+
+    pub scan-passes : badMark (beforeIn ms i) (getD ms i 0) (nextIn ms n i) ≡ false → Scanned ms n (i + 1)
+    unfolding firstBadMark
+    scan-passes e =
+        let k : i < length ms = omega arith in
+        record { reach = omega arith; same = rw (s .same, add-one i, left, drop-cons ms i 0 k, e, firstBadMark) }

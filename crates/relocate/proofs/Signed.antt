@@ -1,5 +1,5 @@
 -- Distances and moved addresses as signed numbers: tests, sums and casts. Assumes nothing.
-use Prim.Native.Nat.{ℕ, suc, _+_, _-_, _%_, _<_, _^_}
+use Prim.Native.Nat.{ℕ, suc, _+_, _-_, _*_, _/_, _%_, _<_, _^_}
 use mathlib.Core.Path.{_≡_, refl, sym, _∙_, ap}
 use mathlib.Core.Bool.{Bool, true, false, false≢true, cond}
 use native.Mathlib.Omega.{arith}
@@ -7,11 +7,11 @@ use lib.Dec.{T, ltb, leb·suc-zero, leb·suc-suc}
 use lib.IntN.{ℤ, pos, negsuc, _+ℤ_, natAbs}
 use lib.Signed.{ltZ, mag, nonNeg}
 use borrow.Author.Tests.{ltb-false, le-ltb}
-use mir.Syntax.{w32, w64}
+use mir.Syntax.{w16, w32, w64}
 use mir.Val.{SFits, Fits, toZ, ofZ}
 use mir.Facts.{toZ-ofZ}
 use Rattle.rules.specs.Number.{modulo}
-use Rattle.rules.specs.Relocate.{outside, far}
+use Rattle.rules.specs.Relocate.{outside, far, addedPair, addedHigh}
 
 pub far-low : (d : ℤ) → ltZ d (negsuc 1073741822) ≡ true → ltZ d (negsuc 1073741822) ≡ far d
 unfolding far
@@ -61,3 +61,25 @@ pub lifted-modulo : (d : ℤ) → SFits w32 d → natAbs (pos 2147483648 +ℤ d)
 unfolding modulo
 lifted-modulo (pos n) f = omega arith
 lifted-modulo (negsuc n) f = let k : n < 2 ^ 31 = f .sfits in rw (le-ltb 2147483648 (suc n) (omega arith)) (omega arith)
+
+-- the high and the low half of a distance modulo 2^32
+pub upper-fits : (d : ℤ) → SFits w32 d → Fits w16 (natAbs (pos 2147483648 +ℤ d) / 65536)
+upper-fits d f = let k : natAbs (pos 2147483648 +ℤ d) < 2 ^ 32 = lifted d f .1 .fits in record { fits = omega arith }
+
+pub lifted-upper : (d : ℤ) → SFits w32 d → (natAbs (pos 2147483648 +ℤ d) / 65536 + 32768) % 65536 ≡ modulo (2 ^ 32) d / 65536
+unfolding modulo
+lifted-upper (pos n) f = let k : n < 2 ^ 31 = f .sfits in omega arith
+lifted-upper (negsuc n) f = let k : n < 2 ^ 31 = f .sfits in rw (le-ltb 2147483648 (suc n) (omega arith)) (omega arith)
+
+lower : (d : ℤ) → modulo 65536 d ≡ modulo (2 ^ 32) d % 65536
+unfolding modulo
+lower (pos n) = omega arith
+lower (negsuc n) = omega arith
+
+-- a pair's high word by the halves, with the carry of the low ones
+pub high-by : (d : ℤ) (h l : ℕ) → ((h + modulo (2 ^ 32) d / 65536) % 65536 + (l + modulo 65536 d) / 65536) % 65536 ≡ addedHigh d h l
+unfolding addedHigh addedPair
+high-by d h l = rw (lower d) (halves (modulo (2 ^ 32) d))
+  where
+    halves : (m : ℕ) → ((h + m / 65536) % 65536 + (l + m % 65536) / 65536) % 65536 ≡ (65536 * h + l + m) % 2 ^ 32 / 65536
+    halves m = omega arith

@@ -1,12 +1,14 @@
 -- A loop that replaces each of the first places of a slice: laws for the two loops that move a list. Assumes nothing.
-use Prim.Native.Nat.{ℕ, zero, suc, _+_, _≤_, _<_}
+use Prim.Native.Nat.{ℕ, zero, suc, _+_, _-_, _≤_, _<_}
 use mathlib.Core.Path.{_≡_, refl, ap, _∙_}
 use mathlib.Core.List.{List, [], _∷_}
 use native.Mathlib.Numerals.{add-one}
 use native.Mathlib.Omega.{arith}
-use lib.ListN.{length, getD, set}
+use lib.ListN.{length, getD, set, drop}
 use lib.IntN.{ℤ}
-use Rattle.rules.specs.Relocate.{movedAddress, movedWord, moveAddresses, moveWords}
+use Rattle.rules.specs.Relocate.{movedAddress, movedWord, firstIn, moveAddresses, moveWords}
+use Rattle.relocate.specs.Found.{nextIn}
+use Rattle.relocate.proofs.Scan.{next-there}
 
 -- the first n numbers, each replaced by what f makes of its index and of it
 unfoldable pub mapFirst : (ℕ → ℕ → ℕ) → ℕ → List ℕ → List ℕ
@@ -26,6 +28,13 @@ unfolding mapFirst
 first-next f zero xs = refl
 first-next f (suc n) [] = refl
 first-next f (suc n) (x ∷ xs) = first-next (λ i. f (suc i)) n xs
+
+-- and so are those after it
+first-rest : (f : ℕ → ℕ → ℕ) (n : ℕ) (xs : List ℕ) → drop (suc n) (mapFirst f n xs) ≡ drop (suc n) xs
+unfolding mapFirst
+first-rest f zero xs = refl
+first-rest f (suc n) [] = refl
+first-rest f (suc n) (x ∷ xs) = first-rest (λ i. f (suc i)) n xs
 
 first-set : (f : ℕ → ℕ → ℕ) (n : ℕ) (xs : List ℕ) → n < length xs → set (mapFirst f n xs) n (f n (getD xs n 0)) ≡ mapFirst f (suc n) xs
 unfolding mapFirst
@@ -52,11 +61,18 @@ module _ {f : ℕ → ℕ → ℕ} {xs ys : List ℕ} {n i : ℕ} (s : Swept f x
   pub sweep-reads : getD ys i 0 ≡ getD xs i 0
   sweep-reads = rw (s .same) (first-next f i xs)
 
+  -- and so is what is read after it
+  pub sweep-next : i + 1 < n → n ≤ length xs → getD ys (i + 1) 0 ≡ nextIn xs n i
+  sweep-next h l = let k = s .long in next-there ys n i h (omega arith) ∙ rw (s .same, first-rest f i xs)
+
   pub sweep-steps : i < n → n ≤ length xs → (v : ℕ) → v ≡ f i (getD ys i 0) → Swept f xs (set ys i v) n (i + 1)
   sweep-steps h l v e =
       let k : i < length xs = omega arith in
       let w : set ys i v ≡ mapFirst f (i + 1) xs = rw (add-one i, e, sweep-reads, s .same) (first-set f i xs k) in
       record { reach = omega arith; long = ap length w ∙ first-length f (i + 1) xs; same = w }
+
+less : (n i : ℕ) → suc n - suc (suc i) ≡ n - suc i
+less n i = omega arith
 
 -- the two sweeps of a move
 module _ (d : ℤ) where
@@ -66,9 +82,13 @@ module _ (d : ℤ) where
   sweeps-addresses (suc n) [] = refl
   sweeps-addresses (suc n) (x ∷ xs) = ap (λ r. movedAddress d x ∷ r) (sweeps-addresses n xs)
 
-  pub sweeps-words : (n : ℕ) (ms ws : List ℕ) → n ≤ length ms → mapFirst (λ i w. movedWord d (getD ms i 0) w) n ws ≡ moveWords d n ms ws
+  pub sweeps-words : (n : ℕ) (ms ws : List ℕ) → n ≤ length ms → mapFirst (λ i w. movedWord d (getD ms i 0) w (nextIn ws n i)) n ws ≡ moveWords d n ms ws
   unfolding mapFirst moveWords
   sweeps-words zero ms ws h = refl
   sweeps-words (suc n) [] ws h = absurd (omega arith)
   sweeps-words (suc n) (m ∷ ms) [] h = refl
-  sweeps-words (suc n) (m ∷ ms) (w ∷ ws) h = ap (λ r. movedWord d m w ∷ r) (sweeps-words n ms ws (omega arith))
+  sweeps-words (suc n) (m ∷ ms) (w ∷ ws) h =
+      let e : suc n - 1 ≡ n = omega arith in
+      let f : mapFirst (λ i v. movedWord d (getD ms i 0) v (firstIn (suc n - suc (suc i)) (drop (suc i) ws))) n ws ≡ moveWords d n ms ws =
+      ap (λ g. mapFirst g n ws) (λ k i v. movedWord d (getD ms i 0) v (firstIn (less n i k) (drop (suc i) ws))) ∙ sweeps-words n ms ws (omega arith)
+      in rw (e, f)
