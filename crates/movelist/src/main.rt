@@ -2,7 +2,7 @@
 // decimal number of 32 bits with an optional sign, and prints on standard output
 //   the moved list in the same form, if the mover accepts it;
 //   `refused N P`, the mover's refusal and its place, if not;
-//   `not a list: line N`, if line N is the first that is not of that form, or is the 8,193rd.
+//   `not a list: line N`, if line N is the first that is not of that form, or is the 12,289th.
 // If the list cannot be read to its end it prints nothing. It says that on standard error, and there too if standard output
 // does not take all that it prints, or if it has no such argument or more than one: it reads nothing then.
 use libc::STDERR_FILENO;

@@ -73,13 +73,13 @@ read-front (suc room) n (suc m) (b ∷ s) h = go (isLine (b ∷ s)) refl (read-f
         read-bad (suc room) n (take (suc m) (b ∷ s)) (omega arith) (line-front (suc m) (b ∷ s) (omega arith) ∙ q)
         ∙ sym (read-bad (suc room) n (b ∷ s) (omega arith) q)
 
-list-front : (d : ℤ) (m : ℕ) (t : Text) → 131072 < m → movedText d (take m t) ≡ movedText d t
+list-front : (d : ℤ) (m : ℕ) (t : Text) → 196608 < m → movedText d (take m t) ≡ movedText d t
 unfolding movedText parsedText
-list-front d m t h = rw (read-front 8192 0 m t h) (go (readList 8192 t) refl)
+list-front d m t h = rw (read-front 12288 0 m t h) (go (readList 12288 t) refl)
   where
-    go : (a : Parsed) → readList 8192 t ≡ a → parsedText d (take m t) a ≡ parsedText d t a
+    go : (a : Parsed) → readList 12288 t ≡ a → parsedText d (take m t) a ≡ parsedText d t a
     go (Count n) e =
-        let short : length t ≤ m = omega (arith, read-length t 8192 n e, read-within t 8192 n e) in
+        let short : length t ≤ m = omega (arith, read-length t 12288 n e, read-within t 12288 n e) in
         ap (λ (u : Text). parsedText d u (Count n)) (take-all m t short)
     go (Bad n) e = refl
 
@@ -93,8 +93,8 @@ module _ (d : ℤ) (i : Input) (buffer : List ℕ) where
   unfolding listInputText unlessFailed
   list-read f n e = rw (f, take-lesser n (i .total) buffer e)
 
-  -- 131,073 bytes of a list's text are enough to print what the whole comes to
-  pub list-front-is-enough : (t : Text) → (i .failed ≡ false → 131072 < length buffer) → Reads t buffer i → listInputText d i buffer ≡ unlessFailed i (movedText d t)
+  -- 196,609 bytes of a list's text are enough to print what the whole comes to
+  pub list-front-is-enough : (t : Text) → (i .failed ≡ false → 196608 < length buffer) → Reads t buffer i → listInputText d i buffer ≡ unlessFailed i (movedText d t)
   unfolding listInputText unlessFailed
   list-front-is-enough t k r = go (i .failed) refl
     where

@@ -2,6 +2,7 @@
 use Prim.Native.Nat.{ℕ, zero, suc, _≤_}
 use mathlib.Core.Path.{_≡_, refl, ap}
 use mathlib.Core.Bool.{Bool, true, false}
+use mathlib.Core.Option.{some}
 use mathlib.Core.List.{List, [], _∷_, _++_, map}
 use native.Mathlib.Omega.{arith}
 use lib.ListN.{length, length-append, length-map}
@@ -10,7 +11,7 @@ use borrow.Author.Tests.{le-ltb}
 use Rattle.rules.specs.Text.{Text}
 use Rattle.rules.specs.Answer.{Answer as Ruled, accepted, refused}
 use Rattle.rules.specs.Assemble.{Place, Slices, short, over, holding}
-use Rattle.rules.specs.Relocate.{firstIndex, moveAddresses, moveWords, moveAnswer, moveBy, moveSlices}
+use Rattle.rules.specs.Relocate.{firstIn, firstIndex, badMark, firstBadMark, moveAddresses, moveWords, moveAnswer, moveBy, moveSlices}
 use Rattle.rules.specs.Tally.{listIn, held}
 use Rattle.answer.specs.declared.Answer.{Answer}
 use Rattle.answer.specs.Answer.{answerOf}
@@ -41,6 +42,20 @@ first-front f i (x ∷ xs) ys (suc n) h = go (f x) refl (first-front f (suc i) x
     go true e k = rw (e, firstIndex)
     go false e k = rw (e, firstIndex) k
 
+-- the next number, and the scan of the marks
+next-front : (xs ys : List ℕ) (n : ℕ) → n ≤ length xs → firstIn n (xs ++ ys) ≡ firstIn n xs
+unfolding firstIn
+next-front xs ys zero h = refl
+next-front [] ys (suc n) h = absurd (omega arith)
+next-front (x ∷ xs) ys (suc n) h = refl
+
+bad-front : (b i : ℕ) (xs ys : List ℕ) (n : ℕ) → n ≤ length xs → firstBadMark b i n (xs ++ ys) ≡ firstBadMark b i n xs
+unfolding firstBadMark
+bad-front b i xs ys zero h = refl
+bad-front b i [] ys (suc n) h = absurd (omega arith)
+bad-front b i (x ∷ xs) ys (suc n) h =
+    λ k. elim (badMark b x (next-front xs ys n (omega arith) k)) [ true ↦ some i | false ↦ bad-front x (suc i) xs ys n (omega arith) k ]
+
 pub long-enough : (x : Slices) (n : ℕ) → n ≤ length (x .addresses) → n ≤ length (x .words) → n ≤ length (x .marks) → short x n ≡ false
 unfolding short
 long-enough x n a b c = rw (le-ltb _ _ a, le-ltb _ _ b, le-ltb _ _ c)
@@ -50,7 +65,8 @@ listed-front : (d : ℤ) (n : ℕ) (l : List Place) (xs ws ms : List ℕ) → n 
 unfolding held listIn moveBy moveAddresses moveWords filledBy
 listed-front d zero l xs ws ms h = refl
 listed-front d (suc n) [] xs ws ms h = absurd (omega arith)
-listed-front d (suc n) (p ∷ l) xs ws ms h = rw (listed-front d n l xs ws ms (omega arith))
+listed-front d (suc n) (p ∷ l) xs ws ms h =
+    rw (next-front (map (λ (q : Place). q .word) l) ws n (rw (length-map l (λ (q : Place). q .word)) (omega arith)), listed-front d n l xs ws ms (omega arith))
 
 module _ (d : ℤ) (l : List Place) (n : ℕ) (e : length l ≡ n) (xs ws ms : List ℕ) where
   same-answer : moveAnswer (filledThen l xs ws ms) n d ≡ moveAnswer (filledBy l) n d
@@ -59,7 +75,7 @@ module _ (d : ℤ) (l : List Place) (n : ℕ) (e : length l ≡ n) (xs ws ms : L
       let fits : (f : Place → ℕ) → n ≤ length (map f l) = λ f. rw (length-map l f) (omega arith) in
       let more : (f : Place → ℕ) (ys : List ℕ) → n ≤ length (map f l ++ ys) = λ f ys. rw (length-append (map f l) ys, length-map l f) (omega arith) in
       rw
-      (long-enough (filledThen l xs ws ms) n (more _ xs) (more _ ws) (more _ ms), long-enough (filledBy l) n (fits _) (fits _) (fits _), first-front _ 0 _ xs n (fits _), first-front _ 0 _ ms n (fits _))
+      (long-enough (filledThen l xs ws ms) n (more _ xs) (more _ ws) (more _ ms), long-enough (filledBy l) n (fits _) (fits _) (fits _), first-front _ 0 _ xs n (fits _), bad-front 0 0 _ ms n (fits _))
 
   same-text : movedSlicesText d n (filledThen l xs ws ms) ≡ movedSlicesText d n (filledBy l)
   unfolding movedSlicesText moveSlices moveBy answerText filledBy
@@ -72,9 +88,9 @@ module _ (d : ℤ) (l : List Place) (n : ℕ) (e : length l ≡ n) (xs ws ms : L
           let h : m ≤ length l = rw (length-map l (λ (p : Place). p .address)) at (passed (filledBy l) n d m (ap answerOf f) .long .addresses) in
           ap listText (listed-front d m l xs ws ms h)
 
--- ---- a text read into slices with room for 8,192 places
-module _ (d : ℤ) (t : Text) (x y : Slices) (room : roomIn x ≡ 8192) (a : Parsed) (read : Read t x y a) where
-  answered : a ≡ readList 8192 t
+-- ---- a text read into slices with room for 12,288 places
+module _ (d : ℤ) (t : Text) (x y : Slices) (room : roomIn x ≡ 12288) (a : Parsed) (read : Read t x y a) where
+  answered : a ≡ readList 12288 t
   answered = rw room at (read .answer)
 
   -- it is a list, and the slices after the move are printed by the mover's answer

@@ -1,4 +1,4 @@
--- The text for a script: what is printed of an answer and of slices with 8,192 places is the script's list, or its refusal. Assumes nothing.
+-- The text for a script: what is printed of an answer and of slices with at least 8,192 places is the script's list, or its refusal. Assumes nothing.
 use Prim.Native.Nat.{_≤_}
 use mathlib.Core.Path.{_≡_, refl, ap}
 use mathlib.Core.List.{List}

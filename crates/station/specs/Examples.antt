@@ -1,4 +1,4 @@
--- What `movelist` prints, byte for byte: P1's list moved to P2's, refusals, and texts that are no lists. Assumes nothing.
+-- What `movelist` prints, byte for byte: P1's list moved to P2's, a pair, refusals, and texts that are no lists. Assumes nothing.
 use mathlib.Core.Path.{_≡_}
 use mathlib.Core.List.{[], _++_}
 use lib.IntN.{pos, negsuc}
@@ -19,7 +19,9 @@ pub record Examples : Type 0 where
   pub back : movedText (negsuc 0x1FFF) p2 ≡ p1
   pub empty : movedText (pos 5) [] ≡ []
   pub far : movedText (pos 0x40000000) p1 ≡ bytes "refused 8 0\n"
-  pub mark : movedText (pos 5) (p1 ++ bytes "00001012 4E71 2\n") ≡ bytes "refused 10 9\n"
+  pub pair : movedText (pos 0x9000) (bytes "00001000 4EF9 0\n00001002 0001 2\n00001004 8000 3\n") ≡ bytes "0000A000 4EF9 0\n0000A002 0002 2\n0000A004 1000 3\n"
+  pub mark : movedText (pos 5) (p1 ++ bytes "00001012 4E71 4\n") ≡ bytes "refused 10 9\n"
+  pub no-low : movedText (pos 5) (p1 ++ bytes "00001012 4E71 2\n") ≡ bytes "refused 10 9\n"
   pub below : movedText (negsuc 0x1000) p1 ≡ bytes "refused 11 0\n"
   pub above : movedText (pos 0x3FFFEFF2) p1 ≡ bytes "refused 11 8\n"
   pub no-end : movedText (pos 5) (p1 ++ bytes "00001012 4E71 0") ≡ bytes "not a list: line 10\n"

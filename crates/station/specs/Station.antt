@@ -66,9 +66,9 @@ unfoldable pub parsedText : ℤ → Text → Parsed → Text
 parsedText d t (Count n) = movedSlicesText d n (filledBy (placesIn n t))
 parsedText d t (Bad n) = wrongLineText n
 
--- what `movelist` prints: "up to 8,192 lines, the longest list there is"
+-- what `movelist` prints, for up to 12,288 lines, the longest list there is
 unfoldable pub movedText : ℤ → Text → Text
-movedText d t = parsedText d t (readList 8192 t)
+movedText d t = parsedText d t (readList 12288 t)
 
 -- a list
 unfoldable pub listInputText : ℤ → Input → List ℕ → Text

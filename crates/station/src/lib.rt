@@ -25,8 +25,8 @@ use listing::writing::write_refused;
 use relocate::relocate;
 use rules::MAX_SOURCE;
 
-// The places of the longest list there is.
-pub const PLACES: usize = 8192;
+// The places of the longest list there is: three for each line of a source, by W-207's call.
+pub const PLACES: usize = 12288;
 
 // The bytes of its text.
 pub const TEXT: usize = LINE * PLACES;

@@ -15,7 +15,7 @@ slice-aggregate-assemble c = sym (length-take-le _ _ (omega arith))
 returns : tie.Need-returns
 returns c =
     let call = c .before .before .before .before .before .before .before .before .assemble in
-    let zeros = slices (replicate 8192 0) (replicate 8192 0) (replicate 8192 0) in
+    let zeros = slices (replicate 12288 0) (replicate 12288 0) (replicate 12288 0) in
     let after = slices (call .last .1 .1 .0) (call .last .1 .1 .1 .0) (call .last .1 .1 .1 .1 .0) in
     let a = c .before .before .before .before .before .before .before .before .before .before .before .before .before .before .args in
     rw (← (assembled (take (a .length) (a .bytes .now)) zeros (omega arith) (omega arith) (omega arith) (call .result) after (call .ensures))) (c .write-answer .ensures)

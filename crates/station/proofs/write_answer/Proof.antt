@@ -10,7 +10,7 @@ returns : tie.Need-returns
 returns c =
     let told = c .before .before .before .before .before .before .before .answer .given .1 in
     let w = c .write-list .ensures in
-    rw told (printed-list _ 8192 _ _ _ (omega arith) (omega arith) (omega arith) _ _ _ _ (c .before .before .lesser .ensures) (w .0) (w .1))
+    rw told (printed-list _ 12288 _ _ _ (omega arith) (omega arith) (omega arith) _ _ _ _ (c .before .before .lesser .ensures) (w .0) (w .1))
 
 returns-2 : tie.Need-returns-2
 unfolding answerText
