@@ -7,7 +7,8 @@
  * what a call writes overlaps nothing else that it is lent, and nothing else writes there meanwhile.
  *
  * A list stands in the first count places of three slices: addresses, words and marks. A mark is 1 on a word that is a
- * label's address, taken modulo 65,536, and 0 on every other word. Places past the count never change.
+ * label's address, taken modulo 65,536; 2 on the high word and 3 on the low word of a label's address of 32 bits, which
+ * stand next to each other; and 0 on every other word. Places past the count never change.
  *
  * An answer is a number: LAGVETTU_ACCEPTED, with the count in *place, or else a refusal of enum lagvettu_refusal, with its
  * place in *place. A refused call changes no slice. *place is written by each call.
@@ -40,7 +41,8 @@ enum lagvettu_refusal {
     LAGVETTU_SLICE_TOO_SHORT = 7,   /* any slice shorter than the count needed; place that count */
     LAGVETTU_DISTANCE_TOO_FAR = 8,  /* distance outside +-(2^30 - 1); place 0 */
     LAGVETTU_COUNT_TOO_HIGH = 9,    /* count over any slice's length; place the count */
-    LAGVETTU_MARK_UNKNOWN = 10,     /* a mark not 0 or 1 in the first count places; place its index, from 0 */
+    LAGVETTU_MARK_UNKNOWN = 10,     /* a mark over 3, a 2 not followed by a 3 or a 3 not preceded by a 2, in the first
+                                       count places; place its index, from 0 */
     LAGVETTU_MOVED_OUTSIDE = 11,    /* a moved address, in those places, below 0 or above 2^30 + 1; place its index */
 
     /* From what is asked. */
@@ -93,9 +95,11 @@ uint8_t lagvettu_assemble(const uint8_t *source, size_t source_length,
                           size_t *place);
 
 /*
- * Moves the list in the first count places: adds the distance to each address, and a marked word becomes
- * (word + distance) modulo 65,536. Other words and all marks stay. Checks 8, 9, then 10 over all count places, then 11
- * over all of them, each with its lowest index.
+ * Moves the list in the first count places: adds the distance to each address; a word with mark 1 becomes
+ * (word + distance) modulo 65,536, and two words with marks 2 and 3 are moved as one number, modulo 2^32. Other words and
+ * all marks stay. Checks 8, 9, then 10 over all count places, then 11 over all of them, each with its lowest index.
+ *
+ *     Words $0001 and $FFFF with marks 2 and 3, moved by 1: $0002 and $0000.
  */
 uint8_t lagvettu_move(uint32_t *addresses, size_t addresses_length,
                       uint16_t *words, size_t words_length,
