@@ -1,10 +1,10 @@
 -- The samples hold, by computation. Assumes nothing.
 use mathlib.Core.Path.{refl}
-use Rattle.manual.specs.Manual.{join, byte, moveSize, sizeField, opmode, mode, register, extension, condition, quick, layout, displacementWord, extensions, manualWords}
+use Rattle.manual.specs.Manual.{join, byte, sixteenBits, moveSize, sizeField, opmode, mode, register, halves, extension, condition, quick, layout, displacementWord, extensions, operationWord, manualWords}
 use Rattle.manual.specs.Samples.{Samples}
 
 pub samples : Samples
-unfolding join byte moveSize sizeField opmode mode register extension condition quick layout displacementWord extensions manualWords
+unfolding join byte sixteenBits moveSize sizeField opmode mode register halves extension condition quick layout displacementWord extensions operationWord manualWords
 samples =
     record {
       moveq = refl;
@@ -22,4 +22,13 @@ samples =
       nop = refl;
       back = refl;
       forth = refl;
+      plus = refl;
+      minus = refl;
+      moveData = refl;
+      loadLabel = refl;
+      storeLabel = refl;
+      movea = refl;
+      cmpi = refl;
+      jmp = refl;
+      dbra = refl;
     }

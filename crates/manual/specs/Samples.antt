@@ -2,7 +2,7 @@
 use mathlib.Core.Path.{_≡_}
 use mathlib.Core.List.{[], _∷_}
 use lib.IntN.{pos, negsuc}
-use Rattle.manual.specs.Manual.{word, long, direct, indirect, immediate, NE, GE, MOVEQ, MOVE, MULS, ADD, SUB, CMP, TST, SUBQ, ASL, NOP, Bcc, manualWords}
+use Rattle.manual.specs.Manual.{word, long, direct, indirect, immediate, absolute, NE, PL, MI, GE, MOVEQ, MOVE, MULS, ADD, SUB, CMP, TST, SUBQ, ASL, NOP, Bcc, MOVEA, CMPI, JMP, DBRA, manualWords}
 
 pub record Samples : Type 0 where
   pub moveq : manualWords (MOVEQ (pos 3) 1) ≡ 0x7203 ∷ []
@@ -20,3 +20,12 @@ pub record Samples : Type 0 where
   pub nop : manualWords NOP ≡ 0x4E71 ∷ []
   pub back : manualWords (Bcc NE (negsuc 1)) ≡ 0x66FE ∷ []
   pub forth : manualWords (Bcc GE (pos 14)) ≡ 0x6C0E ∷ []
+  pub plus : manualWords (Bcc PL (negsuc 1)) ≡ 0x6AFE ∷ []
+  pub minus : manualWords (Bcc MI (pos 4)) ≡ 0x6B04 ∷ []
+  pub moveData : manualWords (MOVE long (immediate 0x89ABCDEF) (direct 1)) ≡ 0x223C ∷ 0x89AB ∷ 0xCDEF ∷ []
+  pub loadLabel : manualWords (MOVE long (absolute 0x12340) (direct 2)) ≡ 0x2439 ∷ 0x0001 ∷ 0x2340 ∷ []
+  pub storeLabel : manualWords (MOVE long (direct 3) (absolute 0x12340)) ≡ 0x23C3 ∷ 0x0001 ∷ 0x2340 ∷ []
+  pub movea : manualWords (MOVEA long (immediate 0x12340) 4) ≡ 0x287C ∷ 0x0001 ∷ 0x2340 ∷ []
+  pub cmpi : manualWords (CMPI long 4160 (direct 5)) ≡ 0x0C85 ∷ 0x0000 ∷ 0x1040 ∷ []
+  pub jmp : manualWords (JMP (absolute 0x12340)) ≡ 0x4EF9 ∷ 0x0001 ∷ 0x2340 ∷ []
+  pub dbra : manualWords (DBRA 6 (negsuc 43)) ≡ 0x51CE ∷ 0xFFD4 ∷ []
