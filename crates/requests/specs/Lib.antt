@@ -1,3 +1,5 @@
 pub mod Nearest
 pub mod Symbols
 pub mod Explain
+pub mod ManualCall
+pub mod ManualAssemble
