@@ -7,25 +7,27 @@ use lib.IntN.{ℤ}
 use Rattle.rules.specs.Text.{Text}
 use Rattle.rules.specs.Label.{Table}
 use Rattle.rules.proofs.Readings.{all-some, imm16-all}
-use Rattle.manual.specs.Manual.{InByte, byte, widths, Layout, moveSize, sizeField, opmode, mode, register, extension, Condition, T, CC, CS, NE, EQ, GE, LT, GT, LE, condition, Instruction, layout, extensions}
-use Rattle.promises.specs.Demand2Manual.{Written, moveq, load, store, copy, mulsData, muls, add, sub, cmp, tst, subq, asl, nop, branch, Words, FieldsHold}
+use Rattle.manual.specs.Manual.{InByte, byte, widths, Layout, moveSize, sizeField, opmode, mode, register, extension, Condition, T, CC, CS, NE, EQ, PL, MI, GE, LT, GT, LE, condition, Instruction, layout, extensions}
+use Rattle.promises.specs.Demand2Manual.{conditionOf, Written, moveq, load, store, copy, mulsData, muls, add, sub, cmp, tst, subq, asl, nop, branch, Words, FieldsHold}
 use Rattle.promises.proofs.ManualLaws.{imm8-byte, bytes-read-back, quick-reads-back, displaced-byte, no-word}
 
 -- a condition has four bits
-condition-fits : (c : Condition) → condition c < 16
+pub condition-fits : (c : Condition) → condition c < 16
 unfolding condition
 condition-fits T = omega arith
 condition-fits CC = omega arith
 condition-fits CS = omega arith
 condition-fits NE = omega arith
 condition-fits EQ = omega arith
+condition-fits PL = omega arith
+condition-fits MI = omega arith
 condition-fits GE = omega arith
 condition-fits LT = omega arith
 condition-fits GT = omega arith
 condition-fits LE = omega arith
 
 -- a byte has eight
-byte-fits : (z : ℤ) → InByte z → byte z < 256
+pub byte-fits : (z : ℤ) → InByte z → byte z < 256
 byte-fits z h = bytes-read-back z h .0
 
 -- form by form
@@ -45,7 +47,7 @@ held (tst h) = omega arith
 held (subq {k = k} e l u h) = omega (arith, quick-reads-back k l u .0)
 held (asl {k = k} e l u h) = omega (arith, quick-reads-back k l u .0)
 held nop = omega arith
-held (branch c {z = z} d h) = rw (no-word z h) (omega (arith, byte-fits z (displaced-byte d), condition-fits c))
+held (branch c {z = z} d h) = rw (no-word z h) (omega (arith, byte-fits z (displaced-byte d), condition-fits (conditionOf c)))
 
 pub fields-hold : FieldsHold
 fields-hold ls a l i r = held (r .written)

@@ -10,8 +10,8 @@ use Rattle.rules.specs.Number.{digitValue, digits, someDigits, ranged, below, w
 use Rattle.rules.specs.Line.{Instruction as Said, instruction, instructionOf, operandsOf, isData, restLine, afterLabel, labelLine, trimmedLine, lineOf}
 use Rattle.rules.specs.Label.{Table, find}
 use Rattle.rules.specs.Encode.{writtenReading, writtenSigned}
-use Rattle.manual.specs.Manual.{Condition, T, CC, CS, NE, EQ, GE, LT, GT, LE, Instruction}
-use Rattle.promises.specs.Demand2Manual.{X, branchName, InReach, label, signedNumber, Written, moveq, load, store, copy, mulsData, muls, add, sub, cmp, tst, subq, asl, nop, branch, LineSays, EveryFormHasALine}
+use Rattle.manual.specs.Manual.{Instruction}
+use Rattle.promises.specs.Demand2Manual.{X, Branch, BRA, BCC, BCS, BNE, BEQ, BGE, BLT, BGT, BLE, branchName, InReach, label, signedNumber, Written, moveq, load, store, copy, mulsData, muls, add, sub, cmp, tst, subq, asl, nop, branch, LineSays, EveryFormHasALine}
 
 -- a line from its form
 abbrev said : Text → Option Text → List Text → Said
@@ -36,21 +36,21 @@ unfolding find same bytes
 not-in-reach y r = apart (cc (r .found))
 
 -- the line of a branch with one operand
-abbrev BranchLine : Condition → Text → Type 0
+abbrev BranchLine : Branch → Text → Type 0
 BranchLine c s = lineOf (branchName c ++ (32 ∷ s)) .task ≡ instruction (said (branchName c) none (s ∷ []))
 
 -- the two lines of each branch
-branch-lines : (c : Condition) → BranchLine c (bytes "X") × BranchLine c (bytes "-2")
+branch-lines : (c : Branch) → BranchLine c (bytes "X") × BranchLine c (bytes "-2")
 unfolding bytes blank upper uppers leading trimStart keepEnd trimEnd trim onFirst cutWhere cutAt dropEmpty pieces joinMore joined inFront firstCut starts contains nth firstText otherTexts instructionOf operandsOf isData restLine afterLabel labelLine trimmedLine lineOf branchName
-branch-lines T = (refl, refl)
-branch-lines CC = (refl, refl)
-branch-lines CS = (refl, refl)
-branch-lines NE = (refl, refl)
-branch-lines EQ = (refl, refl)
-branch-lines GE = (refl, refl)
-branch-lines LT = (refl, refl)
-branch-lines GT = (refl, refl)
-branch-lines LE = (refl, refl)
+branch-lines BRA = (refl, refl)
+branch-lines BCC = (refl, refl)
+branch-lines BCS = (refl, refl)
+branch-lines BNE = (refl, refl)
+branch-lines BEQ = (refl, refl)
+branch-lines BGE = (refl, refl)
+branch-lines BLT = (refl, refl)
+branch-lines BGT = (refl, refl)
+branch-lines BLE = (refl, refl)
 
 pub every-form-has-a-line : EveryFormHasALine
 unfolding bytes blank upper uppers leading trimStart keepEnd trimEnd trim onFirst cutWhere cutAt dropEmpty pieces joinMore joined inFront firstCut starts contains nth firstText otherTexts instructionOf operandsOf isData restLine afterLabel labelLine trimmedLine lineOf after digitValue digits someDigits ranged below within without unsignedReading signedReading hexTail byPrefix reading16 reading8 immediate valueOf imm8 imm16 writtenReading writtenSigned bind

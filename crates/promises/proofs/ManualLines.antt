@@ -9,8 +9,8 @@ use Rattle.rules.specs.Label.{Table}
 use Rattle.rules.specs.Encode.{literal, branch as branchOn, branches, otherMnemonics, mnemonics, operationIn, R, two, one, oneOrMore, registersRow, highRow, lowRow, fromIndirect, toIndirect, moveRows, mulsRows, cmpRows, moveqRow, quickRow, tstRow, branchRow, encodeOperation, encodeBy, encode}
 use Rattle.rules.specs.Assemble.{placesAt, dataContents, dataPlaces, secondPassBy, codeContentsBy, codePlacesBy}
 use Rattle.rules.proofs.Readings.{all-some}
-use Rattle.manual.specs.Manual.{InByte, join, moveSize, sizeField, opmode, mode, register, extension, Condition, T, CC, CS, NE, EQ, GE, LT, GT, LE, condition, Instruction, layout, extensions, manualWords}
-use Rattle.promises.specs.Demand2Manual.{branchName, Written, moveq, load, store, copy, mulsData, muls, add, sub, cmp, tst, subq, asl, nop, branch, emitted, markedZero, LinesAreTheManuals}
+use Rattle.manual.specs.Manual.{InByte, join, moveSize, sizeField, opmode, mode, register, extension, condition, Instruction, layout, extensions, operationWord, manualWords}
+use Rattle.promises.specs.Demand2Manual.{Branch, BRA, BCC, BCS, BNE, BEQ, BGE, BLT, BGT, BLE, conditionOf, branchName, Written, moveq, load, store, copy, mulsData, muls, add, sub, cmp, tst, subq, asl, nop, branch, emitted, markedZero, LinesAreTheManuals}
 use Rattle.promises.proofs.ManualLaws.{data-register, operand, imm8-byte, byte-modulo, quick-modulo, displaced, displaced-byte, no-word}
 
 -- one word for another
@@ -18,22 +18,22 @@ one-word : {v w : ℕ} → v ≡ w → some (literal v ∷ []) ≡ some (literal
 one-word e = ap (λ w. some (literal w ∷ [])) e
 
 -- a branch's mnemonic has the manual's condition
-branch-operation : (c : Condition) → operationIn mnemonics (branchName c) ≡ some (branchOn (condition c))
-unfolding operationIn mnemonics otherMnemonics branches same bytes branchName condition
-branch-operation T = refl
-branch-operation CC = refl
-branch-operation CS = refl
-branch-operation NE = refl
-branch-operation EQ = refl
-branch-operation GE = refl
-branch-operation LT = refl
-branch-operation GT = refl
-branch-operation LE = refl
+branch-operation : (c : Branch) → operationIn mnemonics (branchName c) ≡ some (branchOn (condition (conditionOf c)))
+unfolding operationIn mnemonics otherMnemonics branches same bytes branchName conditionOf condition
+branch-operation BRA = refl
+branch-operation BCC = refl
+branch-operation BCS = refl
+branch-operation BNE = refl
+branch-operation BEQ = refl
+branch-operation BGE = refl
+branch-operation BLT = refl
+branch-operation BGT = refl
+branch-operation BLE = refl
 
 -- 01 encodes a listed form as the manual's words, none of them a label's address
 pub encoded : {ls : Table} {a : ℕ} {m : Text} {f : Option Text} {ps : List Text} {i : Instruction} → Written ls a m f ps i
     → encode ls a (record { mnemonic = m; suffix = f; operands = ps }) ≡ some (map literal (manualWords i))
-unfolding encodeBy operationIn mnemonics otherMnemonics branches same bytes bind orElse encodeOperation registersRow highRow lowRow fromIndirect toIndirect moveRows mulsRows cmpRows moveqRow quickRow tstRow branchRow two one oneOrMore R branchName manualWords layout join extensions extension mode register moveSize sizeField opmode condition
+unfolding encodeBy operationIn mnemonics otherMnemonics branches same bytes bind orElse encodeOperation registersRow highRow lowRow fromIndirect toIndirect moveRows mulsRows cmpRows moveqRow quickRow tstRow branchRow two one oneOrMore R branchName manualWords operationWord layout join extensions extension mode register moveSize sizeField opmode condition
 encoded (moveq {s} {z} {n} e h) =
     rw (e, data-register n h, byte-modulo z (all-some InByte (imm8-byte s) e)) (one-word (omega arith))
 encoded (load {n} {m} h k) = simp operand (one-word (omega arith))

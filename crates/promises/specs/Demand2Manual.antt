@@ -30,17 +30,31 @@ L = some (bytes "L")
 abbrev pub W : Option Text
 W = some (bytes "W")
 
--- a branch's mnemonic
-unfoldable pub branchName : Condition → Text
-branchName T = bytes "BRA"
-branchName CC = bytes "BCC"
-branchName CS = bytes "BCS"
-branchName NE = bytes "BNE"
-branchName EQ = bytes "BEQ"
-branchName GE = bytes "BGE"
-branchName LT = bytes "BLT"
-branchName GT = bytes "BGT"
-branchName LE = bytes "BLE"
+-- the branches that 01 lists, with their conditions and mnemonics: BPL and BMI are not among them
+pub data Branch : Type 0 where
+  BRA BCC BCS BNE BEQ BGE BLT BGT BLE : Branch
+
+unfoldable pub conditionOf : Branch → Condition
+conditionOf BRA = T
+conditionOf BCC = CC
+conditionOf BCS = CS
+conditionOf BNE = NE
+conditionOf BEQ = EQ
+conditionOf BGE = GE
+conditionOf BLT = LT
+conditionOf BGT = GT
+conditionOf BLE = LE
+
+unfoldable pub branchName : Branch → Text
+branchName BRA = bytes "BRA"
+branchName BCC = bytes "BCC"
+branchName BCS = bytes "BCS"
+branchName BNE = bytes "BNE"
+branchName BEQ = bytes "BEQ"
+branchName BGE = bytes "BGE"
+branchName BLT = bytes "BLT"
+branchName BGT = bytes "BGT"
+branchName BLE = bytes "BLE"
 
 -- s is a label in reach of the instruction at a: z leads from the program counter, a + 2, to its address
 pub record InReach (ls : Table) (a : ℕ) (s : Text) (z : ℤ) : Type 0 where
@@ -75,8 +89,8 @@ pub data Written (ls : Table) (a : ℕ) : Text → Option Text → List Text →
   asl : {s : Text} {k n : ℕ} → imm8 s ≡ some (pos k) → 1 ≤ k → k ≤ 8 → n < 8
       → Written ls a (bytes "ASL") L (s ∷ D n ∷ []) (ASL long k n)
   nop : Written ls a (bytes "NOP") none [] NOP
-  branch : (c : Condition) {s : Text} {z : ℤ} → Displaced ls a s z → (z ≡ pos 0 → ⊥)
-      → Written ls a (branchName c) none (s ∷ []) (Bcc c z)
+  branch : (c : Branch) {s : Text} {z : ℤ} → Displaced ls a s z → (z ≡ pos 0 → ⊥)
+      → Written ls a (branchName c) none (s ∷ []) (Bcc (conditionOf c) z)
 
 -- the line l, at address a with the labels ls, is an instruction of the manual
 pub record LineSays (ls : Table) (a : ℕ) (l : Text) (i : Instruction) : Type 0 where
@@ -153,5 +167,5 @@ pub record EveryFormHasALine : Type 0 where
   pub subq : LineSays [] 0 (bytes "SUBQ.L #8,D2") (SUBQ long 8 (direct 2))
   pub asl : LineSays [] 0 (bytes "ASL.L #1,D3") (ASL long 1 3)
   pub nop : LineSays [] 0 (bytes "NOP") NOP
-  pub branch : (c : Condition) → LineSays X 0 (branchName c ++ bytes " X") (Bcc c (pos 14))
-  pub branchBack : (c : Condition) → LineSays X 0 (branchName c ++ bytes " -2") (Bcc c (negsuc 1))
+  pub branch : (c : Branch) → LineSays X 0 (branchName c ++ bytes " X") (Bcc (conditionOf c) (pos 14))
+  pub branchBack : (c : Branch) → LineSays X 0 (branchName c ++ bytes " -2") (Bcc (conditionOf c) (negsuc 1))
