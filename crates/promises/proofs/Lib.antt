@@ -46,6 +46,8 @@ pub mod Moves
 pub mod Demand3
 pub mod Pairs
 pub mod Longest
+pub mod ManualShape
+pub mod ManualCall
 pub mod Standing
 pub mod Kept
 pub mod Records

@@ -21,7 +21,7 @@ use Rattle.promises.proofs.Shift.{find-shift}
 
 -- a function of the value goes into each combinator that the encoders are made of
 module _ {A B : Type 0} (g : A → B) where
-  bind-map : {X : Type 0} (o : Option X) (f : X → Option A) → Option·map g (bind o f) ≡ bind o (λ x. Option·map g (f x))
+  pub bind-map : {X : Type 0} (o : Option X) (f : X → Option A) → Option·map g (bind o f) ≡ bind o (λ x. Option·map g (f x))
   unfolding bind
   bind-map none f = refl
   bind-map (some x) f = refl
@@ -57,7 +57,7 @@ module _ {A B : Type 0} (g : A → B) where
 ruleset into = (bind-map, else-map, cond-map, two-map, one-map, oneOrMore-map)
 
 -- a changed value is bound, or is there, as the value itself
-bind-mapped : {X Y Z : Type 0} (g : X → Y) (o : Option X) (f : Y → Option Z) → bind (Option·map g o) f ≡ bind o (λ x. f (g x))
+pub bind-mapped : {X Y Z : Type 0} (g : X → Y) (o : Option X) (f : Y → Option Z) → bind (Option·map g o) f ≡ bind o (λ x. f (g x))
 unfolding bind
 bind-mapped g none f = refl
 bind-mapped g (some x) f = refl
@@ -72,7 +72,7 @@ leb-shift : (b x y : ℕ) → leb (b + x) (b + y) ≡ leb x y
 leb-shift zero x y = rw (zero-add x, zero-add y)
 leb-shift (suc b) x y = rw (suc-add b x, suc-add b y) (leb·suc-suc (b + x) (b + y) ∙ leb-shift b x y)
 
-sub-shift : (b x y : ℕ) → subℕ (b + x) (b + y) ≡ subℕ x y
+pub sub-shift : (b x y : ℕ) → subℕ (b + x) (b + y) ≡ subℕ x y
 sub-shift b x y =
     let e : ltb (b + x) (b + y) ≡ ltb x y = rw (← add-suc b x) (leb-shift b (suc x) y) in
     let m : b + y - suc (b + x) ≡ y - suc x = omega arith in

@@ -9,6 +9,7 @@ pub mod Lawful
 pub mod Demand3
 pub mod Pairs
 pub mod Longest
+pub mod ManualCall
 pub mod Nearest
 pub mod Symbols
 pub mod Readings
