@@ -16,12 +16,12 @@ use Rattle.rules.specs.Number.{modulo}
 use Rattle.rules.specs.Answer.{accepted, andThen}
 use Rattle.rules.specs.Line.{size}
 use Rattle.rules.specs.Encode.{encode, mnemonics}
-use Rattle.rules.specs.Assemble.{Sizes, Encoder, Place, secondPassBy, assembleBy}
+use Rattle.rules.specs.Assemble.{Sizes, Encoder, Place, secondPassBy, encoded, assembleBy, assemble}
 use Rattle.rules.specs.Relocate.{far, addedWord, movedWord}
 use Rattle.rules.specs.Tally.{firstOutside, firstWord, movedPlace, tallyList, tallied, tally}
 use Rattle.promises.specs.Lawful.{Lawful, RulesAreLawful, ShortAddresses, RulesAreShort}
 use Rattle.promises.specs.Pairs.{Sixteen, Low}
-use Rattle.promises.specs.Demand3.{lastTotal, MovedIsAssembledBy, WordsDifferBy, MarkedWordsDifferBy, MarksSayWhatMovesBy, MovesFollowTallyBy, OneMoveForAllBy, Demand3By, LawfulMoves, ShortWordsDiffer, MovedIsAssembled, WordsDiffer, MarksSayWhatMoves, MovesFollowTally, OneMoveForAll}
+use Rattle.promises.specs.Demand3.{lastTotal, MovedIsAssembledFor, WordsDifferFor, MarkedWordsDifferFor, MarksSayWhatMovesFor, MovesFollowTallyFor, OneMoveForAllFor, Demand3For, LawfulMoves, ShortWordsDiffer, MovedIsAssembled, WordsDiffer, MarksSayWhatMoves, MovesFollowTally, OneMoveForAll}
 use Rattle.promises.proofs.Lists.{All, all-at, all-by}
 use Rattle.promises.proofs.Accepted.{accepts}
 use Rattle.promises.proofs.Places.{second-shift, list-at}
@@ -99,7 +99,7 @@ module _ {z : Sizes} {e : Encoder} {most : ℕ} (law : Lawful z e most) where
           rw (qb .2, outside-twice (pos b) (pos c -ℤ pos b) 0 (qb .0) at-b, to-c, same) (inside-none (pos c) 0 (qc .0) at-c),
         )
 
-  moved-is-assembled-by : MovedIsAssembledBy z e
+  moved-is-assembled-by : MovedIsAssembledFor (assembleBy z e)
   moved-is-assembled-by s b c lb lc eb ec x h =
       let k = listed law b s lb eb in
       let good = grouped-good (k .grouped) in
@@ -112,7 +112,7 @@ module _ {z : Sizes} {e : Encoder} {most : ℕ} (law : Lawful z e most) where
         rw (← n) (move-gives lb good six x h (pos c -ℤ pos b) ok (m .1) ∙ m .0),
       )
 
-  marked-words-differ-by : MarkedWordsDifferBy z e
+  marked-words-differ-by : MarkedWordsDifferFor (assembleBy z e)
   unfolding movedPlace
   marked-words-differ-by s b c lb lc eb ec i p q hp hq =
       let d : ℤ = pos c -ℤ pos b in
@@ -126,23 +126,23 @@ module _ {z : Sizes} {e : Encoder} {most : ℕ} (law : Lawful z e most) where
       })
 
   -- where no address has 32 bits, a mark is 0 or 1
-  words-differ-by : ShortAddresses e → WordsDifferBy z e
+  words-differ-by : ShortAddresses e → WordsDifferFor (assembleBy z e)
   words-differ-by short s b c lb lc eb ec k i p q hp hq =
       let d = marked-words-differ-by s b c lb lc eb ec i p q hp hq in
       (d .marks, zero-or-one (p .mark) (all-at Plain lb i p (short-marks z e short b s lb eb) hp) (d .unmarked) (d .low) k)
 
-  marks-say-what-moves-by : MarksSayWhatMovesBy z e
+  marks-say-what-moves-by : MarksSayWhatMovesFor z (encoded e) (assembleBy z e)
   unfolding assembleBy andThen
   marks-say-what-moves-by s b p l f g d =
       let h : accepted (secondPassBy e p) ≡ accepted l = rw f at g in
       let k : secondPassBy e p ≡ l = cc in
-      second-shift law d p ∙ ap (tallyList (pos d)) k
+      ap accepted (second-shift law d p ∙ ap (tallyList (pos d)) k)
 
-  moves-follow-tally-by : MovesFollowTallyBy z e
+  moves-follow-tally-by : MovesFollowTallyFor (assembleBy z e)
   unfolding tally
   moves-follow-tally-by s b l f x h ds = let k = listed law b s l f in follow-from-zero l (grouped-good (k .grouped)) (sixteen l (k .fit)) x h ds
 
-  one-move-for-all-by : OneMoveForAllBy z e
+  one-move-for-all-by : OneMoveForAllFor (assembleBy z e)
   unfolding far
   one-move-for-all-by s b l f x h ds ok =
       let k = listed law b s l f in
@@ -153,7 +153,7 @@ module _ {z : Sizes} {e : Encoder} {most : ℕ} (law : Lawful z e most) where
       let ins = inside-none total 0 l (last-total-inside l good six (low l (k .fit)) ds) in
       (move-accepted l good six x h total near ins, move-gives l good six x h total near ins ∙ sym (last-list-is l good six ds))
 
-  demand-3-by : Demand3By z e
+  demand-3-by : Demand3For z (encoded e) (assembleBy z e)
   demand-3-by = record { moved = moved-is-assembled-by; differ = marked-words-differ-by; marks = marks-say-what-moves-by; follow = moves-follow-tally-by; one = one-move-for-all-by }
 
 pub lawful-moves : LawfulMoves
@@ -165,7 +165,7 @@ unfolding ShortWordsDiffer
 short-words-differ z e most law short = words-differ-by law short
 
 -- 01's pair
-demand-3 : Demand3By size encode
+demand-3 : Demand3For size (encoded encode) assemble
 unfolding LawfulMoves RulesAreLawful
 demand-3 = lawful-moves size encode 2 (rules-are-lawful mnemonics)
 

@@ -48,6 +48,7 @@ pub mod Pairs
 pub mod Longest
 pub mod ManualShape
 pub mod ManualCall
+pub mod ManualDemand3
 pub mod Standing
 pub mod Kept
 pub mod Records

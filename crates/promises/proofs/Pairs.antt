@@ -7,20 +7,24 @@ use mathlib.Core.List.{List, [], _∷_, map}
 use native.Mathlib.Omega.{arith}
 use borrow.Author.Tests.{le-ltb, lt-leb}
 use lib.Dec.{ltb, eqb}
-use lib.ListN.{getD, getElem?}
+use lib.ListN.{length, getD, getElem?, length-map}
 use lib.IntN.{ℤ, pos, natAbs}
 use Rattle.rules.specs.Limits.{distanceLimit}
 use Rattle.rules.specs.Number.{modulo}
 use Rattle.rules.specs.Assemble.{Place, Slices}
 use Rattle.rules.specs.Relocate.{far, firstIn, firstIndex, badMark, firstBadMark, movedAddress, addedWord, addedPair, addedHigh, movedWord, moveWords, moveAnswer}
 use Rattle.rules.specs.Tally.{firstWord, movedPlace, tallyList, tallied}
+use Rattle.promises.specs.Demand1.{BadMark}
 use Rattle.promises.specs.Demand3.{lastTotal}
-use Rattle.promises.specs.Pairs.{placeBefore, wordsBefore, answerBefore, Each, MovesAsBefore, Sixteen, Low, PairsFollowTally, PairsAddTotal, OneMoveForPairs, MarkExamples, PairExamples}
-use Rattle.promises.proofs.Lists.{All}
+use Rattle.promises.specs.Pairs.{placeBefore, wordsBefore, answerBefore, Each, MovesAsBefore, Sixteen, Low, PairsFollowTally, WellPaired, PairsAddTotal, OneMoveForPairs, LawfulListsArePaired, MarkExamples, PairExamples}
+use Rattle.promises.proofs.Lists.{All, all-at}
+use Rattle.promises.proofs.Demand1Search.{none-found}
+use Rattle.promises.proofs.Demand1Marks.{marks-found}
+use Rattle.promises.proofs.Fit.{Fit, listed}
 use Rattle.promises.proofs.Residues.{pair-added, low-lt, high-lt}
 use Rattle.promises.proofs.Demand1Written.{pair-congruent}
 use Rattle.promises.proofs.Twice.{firstMark, Paired, inside-none}
-use Rattle.promises.proofs.Paired.{no-bad-mark, all-paired, plain-mark}
+use Rattle.promises.proofs.Paired.{NoBadMark, no-bad-mark, all-paired, plain-mark, grouped-good}
 use Rattle.promises.proofs.Moves.{follow-from-zero, last-total-inside, last-list-is, move-accepted, move-gives}
 
 -- a property of each place, by index and along the list
@@ -109,6 +113,22 @@ unfolding PairsAddTotal
 pairs-add-total l well d i p q p′ q′ hp hq m hp′ hq′ =
     let w = pair-at d l (all-paired l (no-bad-mark l well)) i p q p′ q′ hp hq m hp′ hq′ in
     rw (w .0, w .1, pair-added d (p .word) (q .word)) (high-lt d (p .word) (q .word), low-lt d (q .word), pair-congruent d (p .word) (q .word))
+
+-- ---- lists of lawful pairs
+well-paired : (l : List Place) → NoBadMark l → WellPaired l
+unfolding WellPaired
+well-paired l e =
+    none-found (BadMark (map (λ p. p .mark) l) (length l)) (length l)
+    (rw e at (marks-found (map (λ p. p .mark) l) (length l) (rw (length-map l (λ p. p .mark)) (omega arith))))
+
+pub lawful-lists-are-paired : LawfulListsArePaired
+unfolding LawfulListsArePaired
+lawful-lists-are-paired z e most law s b l h =
+    let k = listed law b s l h in (
+      well-paired l (grouped-good (k .grouped)),
+      λ i p f. all-at Fit l i p (k .fit) f .reduced,
+      λ i p f. all-at Fit l i p (k .fit) f .bound,
+    )
 
 pub mark-examples : MarkExamples
 unfolding firstBadMark badMark firstIn

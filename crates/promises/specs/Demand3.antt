@@ -1,4 +1,4 @@
--- Demand 3, sentence by sentence, over a size z and an encoder e: paper 01's, and whatever others are lawful. Assumes nothing.
+-- Demand 3, sentence by sentence, over an assembling call: paper 01's, and that of whatever size z and encoder e are lawful. Assumes nothing.
 use Prim.Native.Nat.{ℕ, _<_}
 use mathlib.Core.Path.{_≡_}
 use mathlib.Core.Logic.{_≢_, _↔_}
@@ -9,19 +9,23 @@ use lib.IntN.{ℤ, pos, _+ℤ_, _-ℤ_, natAbs}
 use Rattle.rules.specs.Limits.{distanceLimit}
 use Rattle.rules.specs.Text.{Text}
 use Rattle.rules.specs.Number.{modulo}
-use Rattle.rules.specs.Answer.{accepted, refused}
+use Rattle.rules.specs.Answer.{Answer, accepted, refused}
 use Rattle.rules.specs.Line.{size}
 use Rattle.rules.specs.Encode.{encode}
-use Rattle.rules.specs.Assemble.{Pass, Sizes, Encoder, Place, Slices, passAtBy, secondPassBy, assembleBy}
+use Rattle.rules.specs.Assemble.{Pass, Sizes, Encoder, Place, Slices, encoded, passAtBy, assembleBy, assemble}
 use Rattle.rules.specs.Relocate.{moveAnswer, moveSlices}
 use Rattle.rules.specs.Tally.{held, Seen, moves, tallyList, Tallied, tallied, seen}
 use Rattle.promises.specs.Lawful.{shiftPass, Lawful, ShortAddresses}
 
+-- an assembling call: the list of a source at a base, or a refusal
+abbrev pub Call : Type 0
+Call = ℕ → Text → Answer (List Place)
+
 -- "Let one source be accepted at base b and at base c. Then moving its list for b by c − b is accepted and gives
 -- exactly its list for c: the same count, addresses, words and marks."
-abbrev pub MovedIsAssembledBy : Sizes → Encoder → Type 0
-MovedIsAssembledBy z e =
-    (s : Text) (b c : ℕ) (lb lc : List Place) → assembleBy z e b s ≡ accepted lb → assembleBy z e c s ≡ accepted lc
+abbrev pub MovedIsAssembledFor : Call → Type 0
+MovedIsAssembledFor call =
+    (s : Text) (b c : ℕ) (lb lc : List Place) → call b s ≡ accepted lb → call c s ≡ accepted lc
     → (x : Slices) → held (length lb) x ≡ lb
     → (length lb ≡ length lc)
     × (moveAnswer x (length lb) (pos c -ℤ pos b) ≡ accepted (length lc))
@@ -29,9 +33,9 @@ MovedIsAssembledBy z e =
 
 -- "If c − b is not a multiple of 65,536, a word differs between the two exactly when its mark is 1."
 -- p and q are the places at index i of the two lists; their marks agree, so "its mark" is either's.
-abbrev pub WordsDifferBy : Sizes → Encoder → Type 0
-WordsDifferBy z e =
-    (s : Text) (b c : ℕ) (lb lc : List Place) → assembleBy z e b s ≡ accepted lb → assembleBy z e c s ≡ accepted lc
+abbrev pub WordsDifferFor : Call → Type 0
+WordsDifferFor call =
+    (s : Text) (b c : ℕ) (lb lc : List Place) → call b s ≡ accepted lb → call c s ≡ accepted lc
     → modulo 65536 (pos c -ℤ pos b) ≢ 0
     → (i : ℕ) (p q : Place) → getElem? lb i ≡ some p → getElem? lc i ≡ some q
     → (p .mark ≡ q .mark) × ((p .word ≢ q .word) ↔ (p .mark ≡ 1))
@@ -42,16 +46,17 @@ pub record Differ (d : ℤ) (p q : Place) : Type 0 where
   pub unmarked : p .mark ≡ 0 → p .word ≡ q .word
   pub low : p .mark ≢ 0 → p .mark ≢ 2 → (p .word ≢ q .word) ↔ (modulo 65536 d ≢ 0)
 
-abbrev pub MarkedWordsDifferBy : Sizes → Encoder → Type 0
-MarkedWordsDifferBy z e =
-    (s : Text) (b c : ℕ) (lb lc : List Place) → assembleBy z e b s ≡ accepted lb → assembleBy z e c s ≡ accepted lc
+abbrev pub MarkedWordsDifferFor : Call → Type 0
+MarkedWordsDifferFor call =
+    (s : Text) (b c : ℕ) (lb lc : List Place) → call b s ≡ accepted lb → call c s ≡ accepted lc
     → (i : ℕ) (p q : Place) → getElem? lb i ≡ some p → getElem? lc i ≡ some q → Differ (pos c -ℤ pos b) p q
 
--- a mark says which words move, at one base too: with labels and lines d higher the second pass gives the list that the tally has at d
-abbrev pub MarksSayWhatMovesBy : Sizes → Encoder → Type 0
-MarksSayWhatMovesBy z e =
-    (s : Text) (b : ℕ) (p : Pass) (l : List Place) → passAtBy z b s ≡ accepted p → assembleBy z e b s ≡ accepted l
-    → (d : ℕ) → secondPassBy e (shiftPass d p) ≡ tallyList (pos d) l
+-- a mark says which words move, at one base too: of a call by the sizes z, with labels and lines d higher its second pass gives the list that
+-- the tally has at d
+abbrev pub MarksSayWhatMovesFor : Sizes → (Pass → Answer (List Place)) → Call → Type 0
+MarksSayWhatMovesFor z second call =
+    (s : Text) (b : ℕ) (p : Pass) (l : List Place) → passAtBy z b s ≡ accepted p → call b s ≡ accepted l
+    → (d : ℕ) → second (shiftPass d p) ≡ accepted (tallyList (pos d) l)
 
 -- "Each move is a call with these slices, that count and any signed 32-bit distance. It gets the slices as the call before left them,
 -- refused or not": what is seen of moves made so, each answer and the list after it
@@ -65,9 +70,9 @@ MovesAreMade = (n : ℕ) (x : Slices) (ds : List ℤ) → Made n x ds (moves n x
 
 -- "And for every list of distances, let its moves be made one after another from the list for b, refused ones included.
 -- Then each answer, and the list after each move, is that of 01's tally."
-abbrev pub MovesFollowTallyBy : Sizes → Encoder → Type 0
-MovesFollowTallyBy z e =
-    (s : Text) (b : ℕ) (l : List Place) → assembleBy z e b s ≡ accepted l
+abbrev pub MovesFollowTallyFor : Call → Type 0
+MovesFollowTallyFor call =
+    (s : Text) (b : ℕ) (l : List Place) → call b s ≡ accepted l
     → (x : Slices) → held (length l) x ≡ l
     → (ds : List ℤ) → moves (length l) x ds ≡ map seen (tallied l (pos 0) ds)
 
@@ -81,9 +86,9 @@ lastList l [] = l
 lastList l (t ∷ ts) = lastList (t .list) ts
 
 -- "If the tally's last total is within ±(2^30 − 1), one move by it from the list for b is accepted and gives the tally's last list."
-abbrev pub OneMoveForAllBy : Sizes → Encoder → Type 0
-OneMoveForAllBy z e =
-    (s : Text) (b : ℕ) (l : List Place) → assembleBy z e b s ≡ accepted l
+abbrev pub OneMoveForAllFor : Call → Type 0
+OneMoveForAllFor call =
+    (s : Text) (b : ℕ) (l : List Place) → call b s ≡ accepted l
     → (x : Slices) → held (length l) x ≡ l
     → (ds : List ℤ) → natAbs (lastTotal (pos 0) (tallied l (pos 0) ds)) < distanceLimit
     → (moveAnswer x (length l) (lastTotal (pos 0) (tallied l (pos 0) ds)) ≡ accepted (length l))
@@ -101,34 +106,34 @@ pub data Totalled : ℤ → List ℤ → List Tallied → Type 0 where
 unfoldable pub TotalsAddUp : Type 0
 TotalsAddUp = (l : List Place) (ds : List ℤ) → Totalled (pos 0) ds (tallied l (pos 0) ds)
 
--- demand 3 for a size and an encoder
-pub record Demand3By (z : Sizes) (e : Encoder) : Type 0 where
-  pub moved : MovedIsAssembledBy z e
-  pub differ : MarkedWordsDifferBy z e
-  pub marks : MarksSayWhatMovesBy z e
-  pub follow : MovesFollowTallyBy z e
-  pub one : OneMoveForAllBy z e
+-- demand 3 for a call by the sizes z with that second pass
+pub record Demand3For (z : Sizes) (second : Pass → Answer (List Place)) (call : Call) : Type 0 where
+  pub moved : MovedIsAssembledFor call
+  pub differ : MarkedWordsDifferFor call
+  pub marks : MarksSayWhatMovesFor z second call
+  pub follow : MovesFollowTallyFor call
+  pub one : OneMoveForAllFor call
 
 -- every lawful pair has it
 unfoldable pub LawfulMoves : Type 0
-LawfulMoves = (z : Sizes) (e : Encoder) (most : ℕ) → Lawful z e most → Demand3By z e
+LawfulMoves = (z : Sizes) (e : Encoder) (most : ℕ) → Lawful z e most → Demand3For z (encoded e) (assembleBy z e)
 
 -- and where no label's address has 32 bits, 01's sentence on words that differ holds
 unfoldable pub ShortWordsDiffer : Type 0
-ShortWordsDiffer = (z : Sizes) (e : Encoder) (most : ℕ) → Lawful z e most → ShortAddresses e → WordsDifferBy z e
+ShortWordsDiffer = (z : Sizes) (e : Encoder) (most : ℕ) → Lawful z e most → ShortAddresses e → WordsDifferFor (assembleBy z e)
 
--- so 01's has all of it
+-- so 01's call has all of it
 unfoldable pub MovedIsAssembled : Type 0
-MovedIsAssembled = MovedIsAssembledBy size encode
+MovedIsAssembled = MovedIsAssembledFor assemble
 
 unfoldable pub WordsDiffer : Type 0
-WordsDiffer = WordsDifferBy size encode
+WordsDiffer = WordsDifferFor assemble
 
 unfoldable pub MarksSayWhatMoves : Type 0
-MarksSayWhatMoves = MarksSayWhatMovesBy size encode
+MarksSayWhatMoves = MarksSayWhatMovesFor size (encoded encode) assemble
 
 unfoldable pub MovesFollowTally : Type 0
-MovesFollowTally = MovesFollowTallyBy size encode
+MovesFollowTally = MovesFollowTallyFor assemble
 
 unfoldable pub OneMoveForAll : Type 0
-OneMoveForAll = OneMoveForAllBy size encode
+OneMoveForAll = OneMoveForAllFor assemble

@@ -10,6 +10,7 @@ pub mod Demand3
 pub mod Pairs
 pub mod Longest
 pub mod ManualCall
+pub mod ManualDemand3
 pub mod Nearest
 pub mod Symbols
 pub mod Readings

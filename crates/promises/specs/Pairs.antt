@@ -11,11 +11,13 @@ use lib.IntN.{ℤ, pos, negsuc, _+ℤ_, natAbs}
 use Rattle.rules.specs.Limits.{lastAddress, distanceLimit}
 use Rattle.rules.specs.Number.{modulo}
 use Rattle.rules.specs.Answer.{Answer, accepted, refuseIf, refuseAt}
-use Rattle.rules.specs.Assemble.{Place, Slices, short}
+use Rattle.rules.specs.Text.{Text}
+use Rattle.rules.specs.Assemble.{Sizes, Encoder, Place, Slices, short, assembleBy}
 use Rattle.rules.specs.Relocate.{far, outside, movedAddress, firstIndex, firstBadMark, moveWords, moveAnswer, moveSlices}
 use Rattle.rules.specs.Tally.{held, moves, tallied, tally, tallyList}
 use Rattle.promises.specs.Demand1.{BadMark, Congruent}
-use Rattle.promises.specs.Demand3.{lastTotal, lastList}
+use Rattle.promises.specs.Lawful.{Lawful}
+use Rattle.promises.specs.Demand3.{Call, lastTotal, lastList}
 
 -- ---- 01's lists move as before
 
@@ -87,6 +89,14 @@ OneMoveForPairs =
     → (ds : List ℤ) → natAbs (lastTotal (pos 0) (tallied l (pos 0) ds)) < distanceLimit
     → (moveAnswer x (length l) (lastTotal (pos 0) (tallied l (pos 0) ds)) ≡ accepted (length l))
     × (held (length l) (moveSlices x (length l) (lastTotal (pos 0) (tallied l (pos 0) ds))) ≡ lastList l (tallied l (pos 0) ds))
+
+-- the lists of a call are such lists
+abbrev pub ListsArePairedFor : Call → Type 0
+ListsArePairedFor call = (s : Text) (b : ℕ) (l : List Place) → call b s ≡ accepted l → WellPaired l × Each Sixteen l × Each Low l
+
+-- those of every lawful pair are
+unfoldable pub LawfulListsArePaired : Type 0
+LawfulListsArePaired = (z : Sizes) (e : Encoder) (most : ℕ) → Lawful z e most → ListsArePairedFor (assembleBy z e)
 
 -- the readings by example: a broken pair's place is the 2 without a 3 or the 3 without a 2, and pairs lie within the count
 pub record MarkExamples : Type 0 where
