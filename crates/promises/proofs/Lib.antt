@@ -46,9 +46,12 @@ pub mod Moves
 pub mod Demand3
 pub mod Pairs
 pub mod Longest
-pub mod ManualShape
+pub mod ManualOperands
+pub mod ManualWritten
+pub mod ManualWords
 pub mod ManualCall
 pub mod ManualDemand3
+pub mod ManualFaults
 pub mod Standing
 pub mod Kept
 pub mod Records

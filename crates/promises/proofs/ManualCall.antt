@@ -23,9 +23,15 @@ use Rattle.promises.proofs.Compared.{clash}
 use Rattle.promises.proofs.Kept.{same-self}
 use Rattle.promises.proofs.Shift.{find-shift}
 use Rattle.promises.proofs.Words.{bind-map, bind-mapped, sub-shift}
-use Rattle.promises.proofs.ManualShape.{bind-all, three-words}
+use Rattle.promises.proofs.ManualWords.{three-words}
 
 -- ---- the size
+-- what follows a value that is there
+bind-all : {X Y : Type 0} (P : Y → Type 0) (o : Option X) (f : X → Option Y) → ((x : X) → o ≡ some x → All P (f x)) → All P (bind o f)
+unfolding bind
+bind-all P none f h = tt
+bind-all P (some x) f h = h x refl
+
 -- numbers take a place each
 pub literal-places : (a : ℕ) (ws : List ℕ) → length (placesAt a (map literal ws)) ≡ length ws
 unfolding placesAt

@@ -84,7 +84,7 @@ quick-reads-back k l u = go (eqb k 8) refl
         (omega arith, rw (ne-eqb k 0 (λ z. omega arith)))
 
 -- a signed number z leads from a to t exactly if it is t less a
-leads-back : (a t : ℕ) (z : ℤ) → pos a +ℤ z ≡ pos t → subℕ t a ≡ z
+pub leads-back : (a t : ℕ) (z : ℤ) → pos a +ℤ z ≡ pos t → subℕ t a ≡ z
 leads-back a t (pos n) e = let h : a + n ≡ t = cc in rw (le-ltb t a (omega arith)) (ap pos (omega arith))
 leads-back a t (negsuc n) e = go (ltb a (suc n)) refl e
   where
@@ -95,7 +95,7 @@ leads-back a t (negsuc n) e = go (ltb a (suc n)) refl e
         let k : suc n ≤ a = ltb-false a (suc n) p in
         rw (lt-ltb t a (omega arith)) (ap negsuc (omega arith))
 
-leads-there : (a t : ℕ) → pos a +ℤ subℕ t a ≡ pos t
+pub leads-there : (a t : ℕ) → pos a +ℤ subℕ t a ≡ pos t
 leads-there a t = go (ltb t a) refl
   where
     go : (x : Bool) → ltb t a ≡ x → pos a +ℤ cond x (negsuc (a - suc t)) (pos (t - a)) ≡ pos t

@@ -88,15 +88,15 @@ hash-marked : (s : Text) → starts (bytes "#") s ≡ true → Marked s hash
 unfolding bytes
 hash-marked s e = let h = there (after (bytes "#") s) (after-starts (bytes "#") s ∙ e) in rw (after-text (bytes "#") s (h .0) (h .1)) as-hash
 
-Dn-marked : (s : Text) → isSome (dataRegister s) ≡ true → Marked s dn
+pub Dn-marked : (s : Text) → isSome (dataRegister s) ≡ true → Marked s dn
 unfolding dataRegister bytes
 Dn-marked s e = let h = register-digit (after (bytes "D") s) e in rw (after-text (bytes "D") s _ (h .1), h .2 .is) (as-Dn (h .2 .small))
 
-An-marked : (s : Text) → isSome (addressRegister s) ≡ true → Marked s an
+pub An-marked : (s : Text) → isSome (addressRegister s) ≡ true → Marked s an
 unfolding addressRegister bytes
 An-marked s e = let h = register-digit (after (bytes "A") s) e in rw (after-text (bytes "A") s _ (h .1), h .2 .is) (as-An (h .2 .small))
 
-AtAn-marked : (s : Text) → isSome (indirect s) ≡ true → Marked s atAn
+pub AtAn-marked : (s : Text) → isSome (indirect s) ≡ true → Marked s atAn
 unfolding indirect bytes
 AtAn-marked s e = let h = closed-digit (after (bytes "(A") s) e in rw (after-text (bytes "(A") s _ (h .1), h .2 .is) (as-AtAn (h .2 .small))
 

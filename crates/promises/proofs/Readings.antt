@@ -36,7 +36,7 @@ not-bad {radix} {b} {s} h n d = go (d .place) (d .inside) (d .no-digit)
     go (suc i) l k = n (record { place = i; inside = omega arith; no-digit = k })
 
 -- digits behind the value v so far: bad somewhere, or worth what they are, after v
-data Told (radix v : ℕ) (s : Text) (r : Reading ℕ) : Type 0 where
+pub data Told (radix v : ℕ) (s : Text) (r : Reading ℕ) : Type 0 where
   good : ¬ BadDigit radix s → r ≡ read (v * radix ^ length s + worth radix s) → Told radix v s r
   wrong : BadDigit radix s → r ≡ failed badDigit → Told radix v s r
 
@@ -44,7 +44,7 @@ data Told (radix v : ℕ) (s : Text) (r : Reading ℕ) : Type 0 where
 carried : (radix v d n w : ℕ) → (v * radix + d) * radix ^ n + w ≡ v * radix ^ suc n + (d * radix ^ n + w)
 carried radix v d n w = rw (add-mul (v * radix) d (radix ^ n), mul-assoc v radix (radix ^ n), mul-comm radix (radix ^ n), pow-suc radix n) (omega arith)
 
-digits-told : (radix v : ℕ) (s : Text) → Told radix v s (digits radix v s)
+pub digits-told : (radix v : ℕ) (s : Text) → Told radix v s (digits radix v s)
 unfolding digits worth
 digits-told radix v [] = good no-bad (ap read (rw (pow-zero radix) (omega arith)))
 digits-told radix v (b ∷ s) = go (ltb (digitValue b) radix) refl (digits-told radix (v * radix + digitValue b) s)
@@ -63,7 +63,7 @@ data Typed {A : Type 0} (Has : ℕ → A → Type 0) (v : ℕ) (o : Option A) : 
   has : {a : A} → Has v a → ((b : A) → Has v b → a ≡ b) → o ≡ some a → Typed Has v o
   hasn't : ((a : A) → ¬ Has v a) → o ≡ none → Typed Has v o
 
-filled : (b : ℕ) (s : Text) → b ∷ s ≢ []
+pub filled : (b : ℕ) (s : Text) → b ∷ s ≢ []
 filled b s e = let h : suc (length s) ≡ 0 = ap length e in omega arith
 
 module _ {A : Type 0} (f : ℕ → Option A) (Has : ℕ → A → Type 0) (typed : (v : ℕ) → Typed Has v (f v)) (radix : ℕ) where

@@ -10,6 +10,8 @@ pub mod Demand3
 pub mod Pairs
 pub mod Longest
 pub mod ManualCall
+pub mod ManualWritten
+pub mod ManualFaults
 pub mod ManualDemand3
 pub mod Nearest
 pub mod Symbols
