@@ -23,7 +23,7 @@ at-drop [] j x e = clash cc
 at-drop (y ∷ xs) zero x e = let u : y ≡ x = cc in ap (λ z. z ∷ xs) u
 at-drop (y ∷ xs) (suc j) x e = at-drop xs j x e
 
-drop-more : {A : Type 0} (xs : List A) (j : ℕ) (y : A) (ys : List A) → drop j xs ≡ y ∷ ys → drop (suc j) xs ≡ ys
+pub drop-more : {A : Type 0} (xs : List A) (j : ℕ) (y : A) (ys : List A) → drop j xs ≡ y ∷ ys → drop (suc j) xs ≡ ys
 drop-more [] zero y ys e = clash cc
 drop-more [] (suc j) y ys e = clash cc
 drop-more (x ∷ xs) zero y ys e = cc

@@ -40,25 +40,23 @@ unfolding MoveRefusesExactly apart
 move-refuses-exactly x count d =
     refuses-exactly (MoveCondition x count d) moving (are-apart moving refl) (M.known x count d) (moveAnswer x count d) (M.answered x count d)
 
--- a refused call
-unwritten : (base : ℕ) (s : Text) (x : Slices) (n p : ℕ) → assembleAnswer base s x ≡ refused n p → assembleSlices base s x ≡ x
-unfolding assembleAnswer room assembleSlices andThen writeList refuseIf
-unwritten base s x n p e = go (assemble base s) refl
+-- a refused call, whatever list it would write
+pub unwritten : (r : Answer (List Place)) (x : Slices) (n p : ℕ) → andThen r (room x) ≡ refused n p → writeList r x ≡ x
+unfolding andThen room writeList refuseIf
+unwritten (refused m q) x n p e = refl
+unwritten (accepted l) x n p e = go (short x (length l)) refl e
   where
-    listed : (l : List Place) (y : Bool) → short x (length l) ≡ y → refuseIf (short x (length l)) 7 (length l) (accepted (length l)) ≡ refused n p → writeList (accepted l) x ≡ x
-    listed l true f g = rw (f, writeList)
-    listed l false f g = let z : accepted (length l) ≡ refused n p = rw f at g in clash cc
-
-    go : (a : Answer (List Place)) → assemble base s ≡ a → writeList (assemble base s) x ≡ x
-    go (refused m q) f = rw f
-    go (accepted l) f = rw f (listed l (short x (length l)) refl (rw f at e))
+    go : (y : Bool) → short x (length l) ≡ y → refuseIf y 7 (length l) (accepted (length l)) ≡ refused n p → writeList (accepted l) x ≡ x
+    go true f g = rw (f, writeList)
+    go false f g = clash cc
 
 unmoved : (x : Slices) (count : ℕ) (d : ℤ) (n p : ℕ) → moveAnswer x count d ≡ refused n p → moveSlices x count d ≡ x
 unfolding moveSlices moveBy
 unmoved x count d n p e = rw e
 
 pub refusal-changes-nothing : RefusalChangesNothing
-refusal-changes-nothing = record { assembling = unwritten; moving = unmoved }
+unfolding assembleAnswer assembleSlices
+refusal-changes-nothing = record { assembling = λ base s x n p e. unwritten (assemble base s) x n p e; moving = unmoved }
 
 -- a list put over slices is held there, and nothing after it changes
 held-over : (l : List Place) (xs ws ms : List ℕ)
@@ -97,25 +95,37 @@ module _ (d : ℤ) where
   past-words (suc n) (m ∷ ms) [] = refl
   past-words (suc n) (m ∷ ms) (w ∷ ws) = past-words n ms ws
 
--- an accepted call
-accepted-list : (base : ℕ) (s : Text) (x : Slices) (n : ℕ) → assembleAnswer base s x ≡ accepted n → AssembleWrites base s n x (assembleSlices base s x)
-unfolding assembleAnswer room assembleSlices andThen writeList refuseIf apart
-accepted-list base s x n e = go (assemble base s) refl
+-- an accepted call, whatever list it writes
+pub record Wrote (r : Answer (List Place)) (n : ℕ) (x y : Slices) : Type 0 where
+  pub list : List Place
+  pub listed : r ≡ accepted list
+  pub counted : n ≡ length list
+  pub written : held n y ≡ list
+  pub past : SamePast n y x
+
+pub wrote : (r : Answer (List Place)) (x : Slices) (n : ℕ) → andThen r (room x) ≡ accepted n → Wrote r n x (writeList r x)
+unfolding andThen room writeList refuseIf
+wrote (refused m q) x n e = clash cc
+wrote (accepted l) x n e = go (short x (length l)) refl e
   where
-    clear : (m q : ℕ) → ¬ AssembleCondition base s x m q
-    clear = none-holds (AssembleCondition base s x) assembling (are-apart assembling refl) (A.known base s x) n (assembleAnswer base s x) e (A.answered base s x)
-
-    listed : (l : List Place) → assemble base s ≡ accepted l → (y : Bool) → short x (length l) ≡ y
-        → refuseIf (short x (length l)) 7 (length l) (accepted (length l)) ≡ accepted n → AssembleWrites base s n x (writeList (accepted l) x)
-    listed l f true g h = let z : refused 7 (length l) ≡ accepted n = rw g at h in clash cc
-    listed l f false g h =
-        let z : accepted (length l) ≡ accepted n = rw g at h in
+    go : (y : Bool) → short x (length l) ≡ y → refuseIf y 7 (length l) (accepted (length l)) ≡ accepted n → Wrote (accepted l) n x (writeList (accepted l) x)
+    go true f g = clash cc
+    go false f g =
         let k : n ≡ length l = cc in
-        rw (g, writeList, k) (record { clear = clear; list = l; listed = f; counted = refl; written = written l x .0; past = written l x .1 })
+        rw (f, writeList, k) (record { list = l; listed = refl; counted = refl; written = written l x .0; past = written l x .1 })
 
-    go : (a : Answer (List Place)) → assemble base s ≡ a → AssembleWrites base s n x (writeList (assemble base s) x)
-    go (refused m q) f = let z : refused m q ≡ accepted n = rw f at e in clash cc
-    go (accepted l) f = rw f (listed l f (short x (length l)) refl (rw f at e))
+accepted-list : (base : ℕ) (s : Text) (x : Slices) (n : ℕ) → assembleAnswer base s x ≡ accepted n → AssembleWrites base s n x (assembleSlices base s x)
+unfolding assembleAnswer assembleSlices apart
+accepted-list base s x n e =
+    let w = wrote (assemble base s) x n e in
+    record {
+      clear = none-holds (AssembleCondition base s x) assembling (are-apart assembling refl) (A.known base s x) n (assembleAnswer base s x) e (A.answered base s x);
+      list = w .list;
+      listed = w .listed;
+      counted = w .counted;
+      written = w .written;
+      past = w .past;
+    }
 
 -- an answer that no check refuses
 accepted-move : (x : Slices) (count : ℕ) (d : ℤ) (n : ℕ) → moveAnswer x count d ≡ accepted n → MoveWrites count d n x (moveSlices x count d)

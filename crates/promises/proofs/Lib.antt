@@ -52,6 +52,7 @@ pub mod ManualWords
 pub mod ManualCall
 pub mod ManualDemand3
 pub mod ManualFaults
+pub mod ManualRefusals
 pub mod Standing
 pub mod Kept
 pub mod Records

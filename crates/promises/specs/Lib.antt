@@ -12,6 +12,7 @@ pub mod Longest
 pub mod ManualCall
 pub mod ManualWritten
 pub mod ManualFaults
+pub mod ManualRefusals
 pub mod ManualDemand3
 pub mod Nearest
 pub mod Symbols
