@@ -10,9 +10,9 @@ use Rattle.rules.specs.Text.{Text, bytes}
 use Rattle.rules.specs.Number.{imm8, imm16}
 use Rattle.rules.specs.Line.{Instruction as Said, instruction, size, lineOf}
 use Rattle.rules.specs.Label.{Table, find}
-use Rattle.rules.specs.Encode.{writtenSigned}
+use Rattle.rules.specs.Encode.{writtenSigned, encode}
 use Rattle.rules.specs.Answer.{accepted}
-use Rattle.rules.specs.Assemble.{Pass, Place, dataPlaces, codePlaces, secondPass, passAt, assemble}
+use Rattle.rules.specs.Assemble.{Pass, Place, Encoder, dataPlaces, codePlacesBy, secondPass, passAt, assemble}
 use Rattle.promises.specs.Demand1.{Reached, IsLine}
 use Rattle.manual.specs.Manual.{InByte, byte, signOf, word, long, direct, indirect, immediate, Condition, T, CC, CS, NE, EQ, GE, LT, GT, LE, quick, quickOf, Instruction, MOVEQ, MOVE, MULS, ADD, SUB, CMP, TST, SUBQ, ASL, NOP, Bcc, Layout, layout, extensions, manualWords}
 
@@ -112,13 +112,13 @@ abbrev pub LinesAreTheManuals : Type 0
 LinesAreTheManuals =
     (ls : Table) (a : ℕ) (l : Text) (i : Instruction) → LineSays ls a l i → emitted ls a l ≡ markedZero a (manualWords i)
 
--- what stands before and after the words of the line after the first j ones, in the list of what the first pass came to: all data
--- words and the earlier lines' words; the later lines' words
-unfoldable pub wordsBefore : Pass → ℕ → List Place
-wordsBefore p j = flatMap dataPlaces (p .puts) ++ flatMap (codePlaces (p .labels)) (take j (p .puts))
+-- what stands before and after the words of the line after the first j ones, in the list that an encoder makes of what the first pass came
+-- to: all data words and the earlier lines' words; the later lines' words
+unfoldable pub wordsBefore : Encoder → Pass → ℕ → List Place
+wordsBefore e p j = flatMap dataPlaces (p .puts) ++ flatMap (codePlacesBy e (p .labels)) (take j (p .puts))
 
-unfoldable pub wordsAfter : Pass → ℕ → List Place
-wordsAfter p j = flatMap (codePlaces (p .labels)) (drop (suc j) (p .puts))
+unfoldable pub wordsAfter : Encoder → Pass → ℕ → List Place
+wordsAfter e p j = flatMap (codePlacesBy e (p .labels)) (drop (suc j) (p .puts))
 
 -- on the list: for an accepted source and base, and each of its lines that is read and is an instruction of the manual, at the line's
 -- address and with the source's labels, the manual's words stand there with mark 0, from that address on, in their place
@@ -127,7 +127,7 @@ ListHoldsTheManuals =
     (base : ℕ) (s : Text) (p : Pass) → passAt base s ≡ accepted p
     → (j a : ℕ) (ns : List Text) (l : Text) → Reached size base s j a ns → IsLine s j l
     → (i : Instruction) → LineSays (p .labels) a l i
-    → assemble base s ≡ accepted (wordsBefore p j ++ (markedZero a (manualWords i) ++ wordsAfter p j))
+    → assemble base s ≡ accepted (wordsBefore encode p j ++ (markedZero a (manualWords i) ++ wordsAfter encode p j))
 
 -- every word of the extension has sixteen bits
 abbrev pub Words : List ℕ → Type 0

@@ -13,6 +13,7 @@ pub mod ManualCall
 pub mod ManualWritten
 pub mod ManualFaults
 pub mod ManualRefusals
+pub mod ManualLists
 pub mod ManualDemand3
 pub mod Nearest
 pub mod Symbols
