@@ -18,7 +18,6 @@ pub mod Demand1
 pub mod ManualLaws
 pub mod ManualLines
 pub mod Asked
-pub mod ManualLists
 pub mod ManualFields
 pub mod ManualForms
 pub mod RustText
@@ -46,13 +45,6 @@ pub mod Moves
 pub mod Demand3
 pub mod Pairs
 pub mod Longest
-pub mod ManualOperands
-pub mod ManualWritten
-pub mod ManualWords
-pub mod ManualCall
-pub mod ManualDemand3
-pub mod ManualFaults
-pub mod ManualRefusals
 pub mod Standing
 pub mod Kept
 pub mod Records
@@ -75,3 +67,12 @@ pub mod LineWords
 pub mod Explain
 pub mod ExplainMoves
 pub mod ExplainCases
+pub mod ManualOperands
+pub mod ManualWritten
+pub mod ManualWords
+pub mod ManualCall
+pub mod ManualDemand3
+pub mod ManualFaults
+pub mod ManualRefusals
+pub mod ManualLists
+pub mod ManualExamples

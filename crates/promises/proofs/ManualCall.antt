@@ -1,22 +1,22 @@
 -- The manual's call: an instruction's size is the length of its words, and under a shift only label addresses change, so that size and
 -- words are lawful. Assumes nothing.
 use Prim.Native.Nat.{ℕ, zero, suc, _+_, _*_, _≤_}
-use mathlib.Core.Path.{_≡_, refl, sym, _∙_}
+use mathlib.Core.Path.{_≡_, refl}
 use mathlib.Core.Bool.{Bool, true, false, false≢true}
 use mathlib.Core.Option.{Option, none, some, Option·map, Option·getD, bind, map-map}
 use mathlib.Core.List.{List, [], _∷_, map}
 use native.Mathlib.Nat.{add-assoc}
 use native.Mathlib.Omega.{arith}
 use lib.ListN.{length}
-use lib.IntN.{ℤ, pos, negsuc, subℕ}
-use Rattle.rules.specs.Text.{Text, same}
+use lib.IntN.{ℤ, pos, negsuc}
+use Rattle.rules.specs.Text.{Text}
 use Rattle.rules.specs.Line.{Instruction as Said}
 use Rattle.rules.specs.Label.{Table, find}
 use Rattle.rules.specs.Encode.{Content, literal}
 use Rattle.rules.specs.Assemble.{placesAt, wordsBy}
 use Rattle.rules.proofs.Readings.{All, all-some}
 use Rattle.manual.specs.Manual.{mode, register, extension, halves, layout, displacementWord, extensions, operationWord, manualWords}
-use Rattle.requests.specs.ManualCall.{Addressing, load, store, point, jump, addressed, Branching, branch, loop, branched, Form, said, labelled, displaced, form, asIfThere, formSize, signedDigits, listed, displacements, fits, firstThat, withAddress, formContents, manualSize, manualEncode}
+use Rattle.requests.specs.ManualCall.{Addressing, load, store, point, jump, addressed, Branching, branch, loop, branched, Form, said, labelled, displaced, form, asIfThere, formSize, listed, displacements, fits, firstThat, withAddress, formContents, manualSize, manualEncode}
 use Rattle.promises.specs.Lawful.{shiftTable, shiftContent, shiftContents, Lawful}
 use Rattle.promises.specs.ManualCall.{SizeIsLength, ThreeWords, ManualIsLawful}
 use Rattle.promises.proofs.Compared.{clash}

@@ -8,14 +8,14 @@ use native.Mathlib.Omega.{arith}
 use lib.IntN.{pos}
 use Rattle.rules.specs.Text.{Text}
 use Rattle.rules.specs.Line.{linesOf, Task, skipped, end, org, noOrg, labelOnly, instruction, value, space}
-use Rattle.rules.specs.Label.{Table, find}
+use Rattle.rules.specs.Label.{Table}
 use Rattle.rules.specs.Answer.{Answer, accepted, refused, andThen}
 use Rattle.rules.specs.Assemble.{Put, Pass, Place, firstPassBy, secondPassBy, encoded, passAtBy, assembleBy}
 use Rattle.rules.specs.Tally.{tallyList}
 use Rattle.requests.specs.ManualCall.{Form, said, labelled, displaced, form, formFault, manualSize, manualEncode, manualFault}
 use Rattle.requests.specs.ManualAssemble.{taskFault, faultless, encodedManual, assembleManual}
 use Rattle.promises.specs.Lawful.{shiftTable, shiftPut, shiftPass}
-use Rattle.promises.specs.Demand3.{Call, Demand3For, LawfulMoves, MarksSayWhatMovesFor}
+use Rattle.promises.specs.Demand3.{LawfulMoves, MarksSayWhatMovesFor}
 use Rattle.promises.specs.Pairs.{LawfulListsArePaired}
 use Rattle.promises.specs.Longest.{AtMostALine}
 use Rattle.promises.specs.ManualCall.{AtMostThree}

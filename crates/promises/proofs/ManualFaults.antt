@@ -1,7 +1,7 @@
 -- 14 and 15 come exactly by their conditions, and an instruction has words or one of them. Assumes nothing.
 use Prim.Native.Nat.{ℕ}
 use mathlib.Core.Path.{_≡_, refl, sym, _∙_}
-use mathlib.Core.Bool.{Bool, true, false, cond}
+use mathlib.Core.Bool.{Bool, cond}
 use mathlib.Core.Option.{Option, none, some, bind}
 use mathlib.Core.List.{List, [], _∷_, map}
 use native.Mathlib.Omega.{arith}
@@ -16,9 +16,9 @@ use Rattle.requests.specs.ManualCall.{branch as branches, loop as loops, Branch
 use Rattle.promises.specs.ManualWritten.{WrittenHere}
 use Rattle.promises.specs.ManualFaults.{Gives, Outside, OutOfRange, branch, loop, NoEncoding, FaultsExactly, Outcome, emits, no-encoding, out-of-range, WordsOrFault}
 use Rattle.promises.proofs.Compared.{clash}
-use Rattle.promises.proofs.Decided.{decided-yes, decided-true, decided-false}
+use Rattle.promises.proofs.Decided.{decided-true, decided-false}
 use Rattle.promises.proofs.ManualLaws.{data-register}
-use Rattle.promises.proofs.ManualOperands.{other-read, Range, in-range, Among, here, there, gives-among, among-gives, none-passes, passes-none, takes, taken}
+use Rattle.promises.proofs.ManualOperands.{other-read, Range, in-range, Among, here, gives-among, among-gives, none-passes, passes-none, takes, taken}
 use Rattle.promises.proofs.ManualWritten.{Leads, branch-to, loop-to, Written, form-written}
 use Rattle.promises.proofs.ManualWords.{branch-head, line, Formed, as-said, as-label, as-taken, formed, leads-written}
 

@@ -3,20 +3,20 @@ use Prim.Native.Nat.{ℕ, suc, _+_, _%_, _<_}
 use mathlib.Core.Path.{_≡_, refl, sym, ap, _∙_}
 use mathlib.Core.Logic.{_≢_}
 use mathlib.Core.Bool.{Bool, true, false}
-use mathlib.Core.Option.{Option, none, some, Option·getD, Option·some-injective, Option·none-ne-some}
+use mathlib.Core.Option.{Option, none, some, Option·some-injective, Option·none-ne-some}
 use mathlib.Core.List.{List, [], _∷_, _++_, flatMap, map, append-assoc}
 use native.Mathlib.Omega.{arith}
 use borrow.Author.Tests.{leb-false}
 use lib.ListN.{take, drop}
 use Rattle.rules.specs.Limits.{addressLimit}
 use Rattle.rules.specs.Text.{Text, same}
-use Rattle.rules.specs.Line.{SourceLine, Name, linesOf, Instruction as Said, Task, end, instruction, lineOf, size}
+use Rattle.rules.specs.Line.{SourceLine, Name, linesOf, end, instruction, lineOf, size}
 use Rattle.rules.specs.Label.{Label, Table, find, recorded, hasRoom, labelOf, recordAll}
 use Rattle.rules.specs.Encode.{Content, literal, address, longAddress, encode}
 use Rattle.rules.specs.Answer.{Answer, accepted, andThen}
-use Rattle.rules.specs.Assemble.{Put, Pass, Sizes, Encoder, firstPassBy, putting, Place, place, placesAt, dataPlaces, codeContentsBy, codePlaces, codePlacesBy, secondPassBy, encoded, passAtBy, assembleBy}
+use Rattle.rules.specs.Assemble.{Put, Pass, Sizes, Encoder, firstPassBy, putting, Place, place, placesAt, dataPlaces, codeContentsBy, codePlaces, codePlacesBy, secondPassBy, passAtBy, assembleBy}
 use Rattle.manual.specs.Manual.{Instruction, manualWords}
-use Rattle.requests.specs.ManualCall.{manualSize, manualEncode, manualFault}
+use Rattle.requests.specs.ManualCall.{manualSize, manualEncode}
 use Rattle.requests.specs.ManualAssemble.{taskFault, faultless, encodedManual, assembleManual}
 use Rattle.promises.specs.Demand1.{IsLine, Reached}
 use Rattle.promises.specs.Demand2Manual.{LineSays, markedZero, wordsBefore, wordsAfter, ListHoldsTheManuals}

@@ -1,5 +1,5 @@
 -- The operands of the manual's call: from their texts to what is read, and back; and the displacements that a text gives. Assumes nothing.
-use Prim.Native.Nat.{ℕ, zero, suc, _+_, _*_, _^_, _≤_, _<_}
+use Prim.Native.Nat.{ℕ, zero, suc, _+_, _≤_, _<_}
 use mathlib.Core.Path.{_≡_, refl, sym, ap, _∙_}
 use mathlib.Core.Logic.{_≢_}
 use mathlib.Core.Bool.{Bool, true, false, cond, _&&_}
@@ -8,13 +8,12 @@ use mathlib.Core.List.{List, [], _∷_, _++_}
 use native.Mathlib.Omega.{arith}
 use borrow.Author.Tests.{ltb-true, ltb-false, lt-ltb, leb-true, le-leb, eqb-true}
 use lib.Dec.{leb, ltb, eqb}
-use lib.ListN.{length}
 use lib.IntN.{ℤ, pos, negsuc, negℤ, subℕ}
 use Rattle.rules.specs.Text.{Text, bytes, after}
-use Rattle.rules.specs.Number.{Reading, read, failed, valueOf, digits, someDigits, reading32, reading16, reading8, immediate, imm8, imm16}
+use Rattle.rules.specs.Number.{Reading, read, failed, valueOf, someDigits, reading32, reading16, reading8, immediate, imm8, imm16}
 use Rattle.rules.specs.Label.{Table, find}
 use Rattle.rules.specs.Encode.{registerDigit, dataRegister, addressRegister, indirect, isSome}
-use Rattle.rules.specs.Forms.{hash, dn, an, atAn, text, kindOf, kindNumber, sameKind}
+use Rattle.rules.specs.Forms.{dn, an, atAn, text, kindOf, kindNumber, sameKind}
 use Rattle.rules.proofs.Readings.{All}
 use Rattle.rules.proofs.Operands.{after-starts, kind-told, kind-itself, kinded}
 use Rattle.manual.specs.Manual.{InWord, displacementWord}
@@ -22,7 +21,7 @@ use Rattle.requests.specs.ManualCall.{Branching, branch, loop, otherText, imm32
 use Rattle.promises.specs.Readings.{BadDigit, worth, Means32, Means16, Means8}
 use Rattle.promises.specs.Explain.{behindHash, Marked, as-Dn, as-An, as-AtAn, IsKind, marked}
 use Rattle.promises.specs.Demand2Manual.{D, atA}
-use Rattle.promises.specs.ManualWritten.{A, SignedNumber, plus, minus, Reaches, InBranch, Takes, label, number}
+use Rattle.promises.specs.ManualWritten.{A, SignedNumber, plus, minus, InBranch, Takes, label, number}
 use Rattle.promises.specs.ManualFaults.{Gives, by-label, by-number}
 use Rattle.promises.proofs.Compared.{clash}
 use Rattle.promises.proofs.Decided.{Decided, yes, no, decided-yes, decided-true, decided-false, none-there}

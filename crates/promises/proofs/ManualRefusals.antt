@@ -1,24 +1,24 @@
 -- The manual's call refuses exactly by its conditions, in their order, and writes what it answers. Assumes nothing.
-use Prim.Native.Nat.{ℕ, zero, suc, _+_, _<_, _≤_}
+use Prim.Native.Nat.{ℕ, zero, suc, _+_, _≤_}
 use mathlib.Core.Path.{_≡_, refl, sym, ap, _∙_}
 use mathlib.Core.Logic.{_≢_}
-use mathlib.Core.Bool.{Bool, true, false}
+use mathlib.Core.Bool.{true}
 use mathlib.Core.Option.{Option, none, some}
 use mathlib.Core.List.{List, [], _∷_, _++_}
 use native.Mathlib.Omega.{arith}
-use lib.ListN.{length, drop, length-drop}
-use Rattle.rules.specs.Text.{Text, cutAt}
+use lib.ListN.{length, drop}
+use Rattle.rules.specs.Text.{Text}
 use Rattle.rules.specs.Line.{Instruction, Task, skipped, end, org, noOrg, labelOnly, instruction, value, space, linesOf, lineOf}
 use Rattle.rules.specs.Label.{Table}
 use Rattle.rules.specs.Encode.{Content}
-use Rattle.rules.specs.Answer.{Answer, accepted, refused, refuseIf, andThen}
-use Rattle.rules.specs.Assemble.{Put, Pass, Place, Slices, firstPassBy, encoded, passAtBy, short, room, writeList}
-use Rattle.requests.specs.ManualCall.{manualSize, manualEncode, manualFault}
+use Rattle.rules.specs.Answer.{accepted}
+use Rattle.rules.specs.Assemble.{Put, Pass, Place, Slices, firstPassBy, passAtBy, short, room}
+use Rattle.requests.specs.ManualCall.{manualSize, manualFault}
 use Rattle.requests.specs.ManualAssemble.{taskFault, faultless, encodedManual, assembleManual, manualAnswer, manualSlices}
-use Rattle.promises.specs.Stages.{Stage, all, byLine, OneOf, here, there, Ahead, ahead, behind, Checked}
+use Rattle.promises.specs.Stages.{all, byLine, OneOf, here, there, Ahead, ahead, behind, Checked}
 use Rattle.promises.specs.Demand1.{IsLine, Reached, PassCondition, passing}
 use Rattle.promises.specs.ManualFaults.{Outcome, emits, no-encoding, out-of-range, WordsOrFault}
-use Rattle.promises.specs.ManualRefusals.{Instructs, ManualCondition, of-pass, unencoded, far, slice-short, assemblingManual, ManualRefusesExactly, ManualRefusalChangesNothing, ManualWrites, ManualAcceptedWrites}
+use Rattle.promises.specs.ManualRefusals.{Instructs, ManualCondition, of-pass, unencoded, far, slice-short, assemblingManual, ManualRefusesExactly, ManualRefusalChangesNothing, ManualAcceptedWrites}
 use Rattle.promises.proofs.Compared.{clash, Compared, less, more, equal, compared}
 use Rattle.promises.proofs.Accepted.{not-refused, checks-passed}
 use Rattle.promises.proofs.Asked.{drop-more, asked, ended, over, Lined, asks, ends, past-end, past-lines, lined}

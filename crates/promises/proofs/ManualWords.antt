@@ -1,15 +1,14 @@
 -- The words of the manual's call: what is written as a form has its words, what has words is written as a form, fields hold, and there are at
 -- most three. Assumes nothing.
-use Prim.Native.Nat.{ℕ, zero, suc, _+_, _*_, _/_, _%_, _^_, _≤_, _<_}
-use mathlib.Core.Path.{_≡_, refl, sym, ap, _∙_}
-use mathlib.Core.Bool.{true, false}
+use Prim.Native.Nat.{ℕ, _+_, _/_, _%_, _^_, _≤_, _<_}
+use mathlib.Core.Path.{_≡_, refl, ap}
 use mathlib.Core.Option.{Option, none, some, bind, orElse, Option·some-injective}
 use mathlib.Core.List.{List, [], _∷_, map}
 use native.Mathlib.Omega.{arith}
 use lib.ListN.{length, length-map}
 use lib.IntN.{ℤ, pos, negsuc}
 use Rattle.rules.specs.Text.{Text, bytes, same, after}
-use Rattle.rules.specs.Number.{read, valueOf, reading32}
+use Rattle.rules.specs.Number.{read, valueOf}
 use Rattle.rules.specs.Line.{Instruction as Said}
 use Rattle.rules.specs.Label.{Table, find}
 use Rattle.rules.specs.Encode.{Content, literal, two, one}

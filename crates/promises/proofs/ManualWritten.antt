@@ -1,35 +1,31 @@
 -- The forms of the manual's call: what has a form is written as one, and what is written as one has its words. Assumes nothing.
-use Prim.Native.Nat.{ℕ, _+_, _/_, _%_, _^_, _<_}
-use mathlib.Core.Path.{_≡_, refl, sym, ap, _∙_}
-use mathlib.Core.Bool.{Bool, true, false, cond, _&&_, _||_}
-use mathlib.Core.Option.{Option, none, some, bind, orElse, Option·some-injective}
+use Prim.Native.Nat.{ℕ, _<_}
+use mathlib.Core.Path.{_≡_, refl, ap}
+use mathlib.Core.Bool.{Bool, true, false, cond, _&&_}
+use mathlib.Core.Option.{Option, none, some, bind, orElse}
 use mathlib.Core.List.{List, [], _∷_, map}
 use native.Mathlib.Omega.{arith}
-use lib.IntN.{ℤ, pos}
+use lib.IntN.{pos}
 use Rattle.rules.specs.Text.{Text, bytes, same, after}
-use Rattle.rules.specs.Number.{Reading, read, failed, valueOf, reading32, hexTail, imm8, imm16}
+use Rattle.rules.specs.Number.{Reading, read, failed, valueOf, reading32, imm8, imm16}
 use Rattle.rules.specs.Line.{Instruction as Said}
 use Rattle.rules.specs.Label.{Table, find}
-use Rattle.rules.specs.Encode.{Content, literal, dataRegister, addressRegister, indirect as indirectRegister, two, one, allDigits, isSome}
+use Rattle.rules.specs.Encode.{dataRegister, addressRegister, indirect as indirectRegister, two, one}
 use Rattle.rules.specs.Forms.{text}
-use Rattle.rules.specs.Assemble.{placesAt}
-use Rattle.rules.proofs.Readings.{All, all-some}
-use Rattle.rules.proofs.Operands.{numeric-text}
-use Rattle.manual.specs.Manual.{Condition, T, CC, CS, NE, EQ, PL, MI, GE, LT, GT, LE, Instruction, NOP, JMP, absolute, extension, halves, displacementWord, extensions, operationWord, manualWords}
-use Rattle.requests.specs.ManualCall.{Addressing, load as loads, store as stores, point, jump, addressed, Branching, branch as branches, loop, branched, Form, said, labelled, displaced, Head, moveq as moveqH, nop as nopH, jmp as jmpH, dbra as dbraH, branchOn, moveW, addW, subW, cmpW, mulsW, moveL, moveaL, cmpL, tstL, subqL, aslL, HeadRow, heads, sameSuffix, headIn, otherText, number32, imm32, quickly, noOperand, registers, jumpTo, moveLong, formOf, form, displacements, fits, firstThat, withAddress, formContents, manualEncode}
+use Rattle.rules.proofs.Readings.{All}
+use Rattle.manual.specs.Manual.{Condition, Instruction, NOP, JMP, absolute, extension, halves, extensions, manualWords}
+use Rattle.requests.specs.ManualCall.{jump, addressed, Branching, branch as branches, loop, Form, said, labelled, displaced, Head, moveq as moveqH, nop as nopH, jmp as jmpH, dbra as dbraH, branchOn, moveW, addW, subW, cmpW, mulsW, moveL, moveaL, cmpL, tstL, subqL, aslL, HeadRow, heads, sameSuffix, headIn, otherText, number32, imm32, quickly, noOperand, registers, jumpTo, moveLong, formOf, form}
 use Rattle.promises.specs.Readings.{Means32, Means16, Means8}
 use Rattle.promises.specs.Explain.{behindHash, IsKind, Numeric}
 use Rattle.promises.specs.Demand2Manual.{D, atA, L, W}
-use Rattle.promises.specs.ManualWritten.{A, Takes, label, number, branchNamed, Jump, as-JMP, as-JUMP, WrittenHere, moveq, moveData, load, store, copy, loadLabel, storeLabel, movea, mulsData, muls, add, sub, cmp, cmpData, tst, subq, asl, nop, jumpNumber, jumpLabel, dbra, branchTo, Addresses32, HasWords, Encoded, NoFormLeftOut, IsManual, WordsAreTheManuals}
+use Rattle.promises.specs.ManualWritten.{A, branchNamed, Jump, as-JMP, as-JUMP, WrittenHere, moveq, moveData, load, store, copy, loadLabel, storeLabel, movea, mulsData, muls, add, sub, cmp, cmpData, tst, subq, asl, nop, jumpNumber, jumpLabel}
 use Rattle.promises.proofs.Compared.{clash}
 use Rattle.promises.proofs.RustText.{same-eq}
 use Rattle.promises.proofs.Stages.{and-both}
-use Rattle.promises.proofs.Decided.{decided-yes, decided-true, decided-false, Decided, yes, no}
+use Rattle.promises.proofs.Decided.{Decided, yes, no}
 use Rattle.promises.proofs.Readings.{readings-mean}
-use Rattle.promises.proofs.OperandKinds.{of-kind}
 use Rattle.promises.proofs.OperandTests.{behind-hash, numeric}
-use Rattle.promises.proofs.ManualLaws.{data-register, D-not-indirect, operand}
-use Rattle.promises.proofs.ManualOperands.{Numbered, address-register, is-D, is-A, is-atA, Hash, is-imm8, is-imm16, is-imm32, imm8-read, imm16-read, imm32-read, Quick, is-quick, quick-read, is-other, other-read, other-not-data, other-not-indirect, other-not-long, D-not-long, atA-not-long, D-not-other, Range, no-word-after, takes, taken}
+use Rattle.promises.proofs.ManualOperands.{Numbered, is-D, is-A, is-atA, Hash, is-imm8, is-imm16, is-imm32, Quick, is-quick, is-other}
 
 -- ---- what a form is written as
 -- a branch, or DBRA, with its operand
