@@ -8,9 +8,9 @@ use mathlib.Core.List.{List, [], _∷_, _++_, append-nil}
 use native.Mathlib.Omega.{arith}
 use lib.ListN.{length, getElem?, take, drop, length-drop, drop-of-length-le}
 use lib.Seq.{take-all}
-use Rattle.rules.specs.Text.{Text, cutAt, same}
+use Rattle.rules.specs.Text.{Text, cutAt}
 use Rattle.rules.specs.Line.{linesOf, Task, end, lineOf, size}
-use Rattle.rules.specs.Label.{Label, Table, find}
+use Rattle.rules.specs.Label.{find}
 use Rattle.rules.specs.Encode.{Content, Mnemonic, encodeBy}
 use Rattle.rules.specs.Answer.{Answer, accepted, refused}
 use Rattle.rules.specs.Assemble.{Put, Pass, isEnd, firstPassBy, dataContents, codeContentsBy, secondPassBy, passAtBy, passAt}
@@ -18,11 +18,9 @@ use Rattle.requests.specs.Explain.{Verdict, emitted, because, whyTask, verdictA
 use Rattle.requests.proofs.Answers.{one-of-all, all-refused, one-refused, line-0, line-asks, line-ends, line-after-end, line-past-last}
 use Rattle.promises.specs.Stages.{all, Checked}
 use Rattle.promises.specs.Demand1.{IsLine, Reached, PassCondition, passing}
-use Rattle.promises.specs.Nearest.{In, head, tail}
-use Rattle.promises.specs.Explain.{without, PutsWords, PutsNone, RecordedAt, recorded-at, Right, words, reason, Explained, ExplainsExactly, below-first, past-last, ExplainCondition, of-pass, no-line, never-read, explaining, ExplainRefusesExactly, ExplainsAll}
+use Rattle.promises.specs.Nearest.{FoundIsLast}
+use Rattle.promises.specs.Explain.{without, PutsWords, PutsNone, RecordedAt, Right, words, reason, Explained, ExplainsExactly, below-first, past-last, ExplainCondition, of-pass, no-line, never-read, explaining, ExplainRefusesExactly, ExplainsAll}
 use Rattle.promises.proofs.Compared.{clash}
-use Rattle.promises.proofs.RustText.{same-eq}
-use Rattle.promises.proofs.Kept.{same-self, Unique}
 use Rattle.promises.proofs.Stages.{isChecked, not-checked, checked-by, still-checked, apart, are-apart, Runs, done, stop, pass, and-then, runs-by, refuses-exactly}
 use Rattle.promises.proofs.Demand1Passes.{not-end}
 use Rattle.promises.proofs.Demand1Assemble.{counted, pass-known, pass-answered}
@@ -30,40 +28,9 @@ use Rattle.promises.proofs.Accepted.{not-refused, checks-passed}
 use Rattle.promises.proofs.Tasks
 use Rattle.promises.proofs.Tasks.{is-end}
 use Rattle.promises.proofs.Asked.{asked, put-at, asked-before, ended, over, Lined, asks, ends, past-end, past-lines, lined}
-use Rattle.promises.proofs.Records.{LastRecords, labels-are-last}
+use Rattle.promises.proofs.Records.{found-is-last}
 use Rattle.promises.proofs.LineVerdicts.{contents, Told, worded, reasoned, task-told, told-task}
 use Rattle.promises.proofs.LineWords.{words-or-none, line-puts, line-silent}
-
--- ---- labels: what is found in the table is what its last record says
-found-in : (n : Text) (t : Table) (x : ℕ) → find n t ≡ some x → (l : Label) × In l t × (l .name ≡ n) × (l .address ≡ x)
-unfolding find
-found-in n [] x e = clash cc
-found-in n (l ∷ t) x e = go (same n (l .name)) refl e (found-in n t x)
-  where
-    go : (y : Bool) → same n (l .name) ≡ y → elim y [ true ↦ some (l .address) | false ↦ find n t ] ≡ some x
-        → (find n t ≡ some x → (m : Label) × In m t × (m .name ≡ n) × (m .address ≡ x)) → (m : Label) × In m (l ∷ t) × (m .name ≡ n) × (m .address ≡ x)
-    go true f e ih = (l, head refl, sym (same-eq n (l .name) f), (let u : l .address ≡ x = cc in u))
-    go false f e ih = let h = ih e in (h .0, tail (h .1), h .2, h .3)
-
-in-found : {l : Label} {t : Table} → Unique t → In l t → find (l .name) t ≡ some (l .address)
-unfolding find
-in-found {l} u (head {y = m} e) = rw (e, find, same-self (m .name))
-in-found {l} u (tail {y = m} {ys = t} i) = go (same (l .name) (m .name)) refl (in-found (u .1) i)
-  where
-    go : (y : Bool) → same (l .name) (m .name) ≡ y → find (l .name) t ≡ some (l .address)
-        → elim y [ true ↦ some (m .address) | false ↦ find (l .name) t ] ≡ some (l .address)
-    go true e ih = absurd (u .0 l i (same-eq (l .name) (m .name) e))
-    go false e ih = ih
-
-module _ (base : ℕ) (s : Text) (t : Table) (law : LastRecords base s t) where
-  recorded : (l : Text) (x : ℕ) → find l t ≡ some x → RecordedAt base s l x
-  recorded l x e =
-      let f = found-in l t x e in
-      let h = law .exactly (f .0) .0 (f .1) in
-      rw (f .2, f .3) at (recorded-at h)
-
-  is-recorded : (l : Text) (x : ℕ) → RecordedAt base s l x → find l t ≡ some x
-  is-recorded l x (recorded-at {i} {k} h) = in-found (law .unique) (law .exactly (record { name = l; start = i; address = x; line = k }) .1 h)
 
 -- ---- a list by index
 first-is : {A : Type 0} (xs : List A) (j : ℕ) (x : A) (ys : List A) → drop j xs ≡ x ∷ ys → getElem? xs j ≡ some x
@@ -86,8 +53,13 @@ module _ (names : List Mnemonic) (base : ℕ) (s : Text) (p : Pass) (accepts : p
   unfolding passAtBy
   passed = not-refused _ 4 0 _ p (checks-passed s _ p accepts .1) .1
 
-  law : LastRecords base s (p .labels)
-  law = labels-are-last base s p accepts
+  recorded : (l : Text) (x : ℕ) → find l (p .labels) ≡ some x → RecordedAt base s l x
+  unfolding FoundIsLast
+  recorded l x = found-is-last size base s p accepts l x .0
+
+  is-recorded : (l : Text) (x : ℕ) → RecordedAt base s l x → find l (p .labels) ≡ some x
+  unfolding FoundIsLast
+  is-recorded l x = found-is-last size base s p accepts l x .1
 
   -- the verdict given on a line that is read
   given : {j a : ℕ} {ns : List Text} (l : Text) → Reached size base s j a ns → IsLine s j l
@@ -159,14 +131,14 @@ module _ (names : List Mnemonic) (base : ℕ) (s : Text) (p : Pass) (accepts : p
       k = lineOf l .task
 
       told : Told names (p .labels) At a k (whyTask names (p .labels) a k)
-      told = task-told names (p .labels) a At (recorded base s (p .labels) law) (is-recorded base s (p .labels) law) k
+      told = task-told names (p .labels) a At recorded is-recorded k
 
       both : ((c : Content) (cs : List Content) → contents names (p .labels) a k ≡ c ∷ cs → PutsWords (encodeBy names) p j a)
           → (contents names (p .labels) a k ≡ [] → PutsNone (encodeBy names) p j)
           → (whyTask names (p .labels) a k ≡ v) ↔ Right names base s p j a k v
       both put unput = (
         λ f. rw f at (right-by j a k put unput _ told),
-        λ h. told-task names (p .labels) a At (recorded base s (p .labels) law) (is-recorded base s (p .labels) law) k v (by-right j a k put unput v h),
+        λ h. told-task names (p .labels) a At recorded is-recorded k v (by-right j a k put unput v h),
       )
 
       go : (x : Bool) → isEnd k ≡ x → (whyTask names (p .labels) a k ≡ v) ↔ Right names base s p j a k v

@@ -36,14 +36,14 @@ both-names (x ∷ y ∷ z ∷ ms) r k i j u = absurd (omega arith)
 
 module _ (base : ℕ) (s : Text) where
   -- records start in the order of their lines and steps
-  before : {x y : Label} → Made base s x → Made base s y → x .start < y .start → Before s x y
+  before : {x y : Label} → Made size base s x → Made size base s y → x .start < y .start → Before s x y
   before {x} {y} p q h = go (compared (x .line) (y .line))
     where
-      a : Apart base s (x .name) (x .start) (x .line) (x .address)
-      a = apart base s p
+      a : Apart size base s (x .name) (x .start) (x .line) (x .address)
+      a = apart size base s p
 
-      b : Apart base s (y .name) (y .start) (y .line) (y .address)
-      b = apart base s q
+      b : Apart size base s (y .name) (y .start) (y .line) (y .address)
+      b = apart size base s q
 
       on : b .index ≡ a .index → b .text ≡ a .text → Before s x y
       on e f =
@@ -61,19 +61,19 @@ module _ (base : ℕ) (s : Text) where
           let is′ = a .is in
           on e cc
 
-  after : {x y : Label} → Before s x y → Made base s x → Made base s y → x .start < y .start
+  after : {x y : Label} → Before s x y → Made size base s x → Made size base s y → x .start < y .start
   after (earlier-line h) p q = records-stand .lines p q h
   after (earlier-step {l = l} {m = m} {m′ = m′} e f a b) p q = let h = records-stand .names l m m′ f in omega (arith, a .start, b .start)
 
   -- in a table that holds the last records
   module _ (t : Table) (law : LastRecords base s t) where
-    made : {x : Label} → In x t → Made base s x
+    made : {x : Label} → In x t → Made size base s x
     made {x} i = law .exactly x .0 i .made
 
     pub in-order : Sorted t (inOrder t)
     in-order = sorted t (are-apart t (law .unique) (λ x y i j. law .one (made i) (made j)))
 
-    entry-made : (i : ℕ) {x : Label} → IsEntry (inOrder t) i x → Made base s x
+    entry-made : (i : ℕ) {x : Label} → IsEntry (inOrder t) i x → Made size base s x
     entry-made i e = made (in-order .is (entry-in (inOrder t) i e))
 
     -- of one name there is one last record
@@ -111,7 +111,7 @@ module _ (base : ℕ) (s : Text) where
     is-listed : (l : List Label) → IsSymbols base s l → l ≡ inOrder t
     is-listed l h = once (ascends-by l (λ i j x y e f u. after (h .order e f u) (of i e) (of j f))) (in-order .ascends) (λ x i. in-order .has (law .exactly x .1 (h .last i))) back
       where
-        of : (i : ℕ) {x : Label} → IsEntry l i x → Made base s x
+        of : (i : ℕ) {x : Label} → IsEntry l i x → Made size base s x
         of i e = h .last (entry-in l i e) .made
 
         back : (x : Label) → In x (inOrder t) → In x l

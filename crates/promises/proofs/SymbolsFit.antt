@@ -61,10 +61,10 @@ module _ (base : ℕ) (s : Text) where
   low c (further {j = j} {a = a} {l = l} r e k) =
       let d : ¬ (addressLimit ≤ nextAddress size base a (lineOf l .task)) = λ h. c 5 (suc j) (address-over r e h) in omega arith
 
-  entry-fits : (p : Pass) → passAt base s ≡ accepted p → (x : Label) → Made base s x → EntryFits s x
+  entry-fits : (p : Pass) → passAt base s ≡ accepted p → (x : Label) → Made size base s x → EntryFits s x
   unfolding passAtBy
   entry-fits p e x m =
-      let q = apart base s m in
+      let q = apart size base s m in
       record {
         text = records-stand .text m;
         end = at-within (stands-at m);
@@ -73,7 +73,7 @@ module _ (base : ℕ) (s : Text) where
       }
 
   -- ---- how long their names are together
-  names-fit : {l : List Label} → Ascending l → ((x : Label) → In x l → Made base s x) → (b : ℕ) → b ≤ length s → ((x : Label) → In x l → b ≤ x .start)
+  names-fit : {l : List Label} → Ascending l → ((x : Label) → In x l → Made size base s x) → (b : ℕ) → b ≤ length s → ((x : Label) → In x l → b ≤ x .start)
       → b + namesLength l ≤ length s
   unfolding namesLength
   names-fit ended m b h f = omega arith
@@ -100,7 +100,7 @@ each-list-fits base s l e = go (passAt base s) refl
         o : Sorted (p .labels) (inOrder (p .labels))
         o = in-order base s (p .labels) law
 
-        made : (x : Label) → In x (inOrder (p .labels)) → Made base s x
+        made : (x : Label) → In x (inOrder (p .labels)) → Made size base s x
         made x i = law .exactly x .0 (o .is i) .made
 
         few : length (p .labels) ≤ maxLabels

@@ -18,7 +18,7 @@ use Rattle.rules.specs.Assemble.{Pass, Place, Encoder, secondPassBy, passAt}
 use Rattle.requests.specs.Explain.{Reason, notInstruction, unknownMnemonic, wrongCount, wrongKinds, badNumber, notRecorded, outOfReach, Verdict, emitted, because, explainAllBy, explainBy}
 use Rattle.promises.specs.Stages.{Stage, all, RefusesExactly}
 use Rattle.promises.specs.Demand1.{lineCount, IsLine, Reached, PassCondition, passing}
-use Rattle.promises.specs.Nearest.{In, LastRecord}
+use Rattle.promises.specs.Nearest.{In, RecordedAtBy}
 
 -- 02's order of the reasons
 unfoldable pub rank : Reason → ℕ
@@ -152,8 +152,8 @@ PutsNone e p j = secondPassBy e (without j p) ≡ secondPassBy e p
 
 -- ---- the call
 -- the last record of l has the address x
-pub data RecordedAt (base : ℕ) (s l : Text) (x : ℕ) : Type 0 where
-  recorded-at : {i k : ℕ} → LastRecord base s l i k x → RecordedAt base s l x
+abbrev pub RecordedAt : ℕ → Text → Text → ℕ → Type 0
+RecordedAt base s l x = RecordedAtBy size base s l x
 
 -- the right verdict on the line after the first j ones, which asks k at address a: "word emitted" "exactly if it emits. Otherwise it
 -- gives the first that holds"

@@ -3,12 +3,14 @@
 use Prim.Native.Nat.{ℕ, zero, suc, _+_, _<_, _≤_}
 use mathlib.Core.Path.{_≡_}
 use mathlib.Core.Logic.{_↔_}
+use mathlib.Core.Option.{some}
 use mathlib.Core.List.{List, [], _∷_, _++_}
 use lib.ListN.{length, take, drop}
 use Rattle.rules.specs.Text.{Text, cutAt}
 use Rattle.rules.specs.Line.{Name, name, lineOf, size}
 use Rattle.rules.specs.Answer.{accepted}
-use Rattle.rules.specs.Assemble.{Pass, passAt}
+use Rattle.rules.specs.Label.{find}
+use Rattle.rules.specs.Assemble.{Sizes, Pass, passAtBy, passAt}
 use Rattle.requests.specs.Nearest.{Nearest, nearest}
 use Rattle.promises.specs.Stages.{Stage, all, RefusesExactly}
 use Rattle.promises.specs.Demand1.{IsLine, Reached, PassCondition, passing}
@@ -24,15 +26,32 @@ startAfter zero ls = 0
 startAfter (suc j) [] = 0
 startAfter (suc j) (l ∷ ls) = suc (length l + startAfter j ls)
 
--- a record of the name n: it starts at i in the source, on the line k, from 1, which is read at the address a
-pub data Records (base : ℕ) (s n : Text) : ℕ → ℕ → ℕ → Type 0 where
-  records : {j a m : ℕ} {ns : List Text} {l : Text} → Reached size base s j a ns → IsLine s j l → In (name m n) (lineOf l .names)
-      → Records base s n (startAfter j (cutAt 10 s) + m) (suc j) a
+-- a record of the name n, with the sizes z: it starts at i in the source, on the line k, from 1, which is read at the address a
+pub data RecordsBy (z : Sizes) (base : ℕ) (s n : Text) : ℕ → ℕ → ℕ → Type 0 where
+  records : {j a m : ℕ} {ns : List Text} {l : Text} → Reached z base s j a ns → IsLine s j l → In (name m n) (lineOf l .names)
+      → RecordsBy z base s n (startAfter j (cutAt 10 s) + m) (suc j) a
 
 -- "its last record": no record of the same name starts later
-pub record LastRecord (base : ℕ) (s n : Text) (i k a : ℕ) : Type 0 where
-  pub made : Records base s n i k a
-  pub last : {i′ k′ a′ : ℕ} → Records base s n i′ k′ a′ → i′ ≤ i
+pub record LastRecordBy (z : Sizes) (base : ℕ) (s n : Text) (i k a : ℕ) : Type 0 where
+  pub made : RecordsBy z base s n i k a
+  pub last : {i′ k′ a′ : ℕ} → RecordsBy z base s n i′ k′ a′ → i′ ≤ i
+
+-- the last record of l has the address x
+pub data RecordedAtBy (z : Sizes) (base : ℕ) (s l : Text) (x : ℕ) : Type 0 where
+  recorded-at : {i k : ℕ} → LastRecordBy z base s l i k x → RecordedAtBy z base s l x
+
+-- what a pass with any sizes finds for a name is the address of its last record, and it finds none for others
+unfoldable pub FoundIsLast : Type 0
+FoundIsLast =
+    (z : Sizes) (base : ℕ) (s : Text) (p : Pass) → passAtBy z base s ≡ accepted p
+    → (l : Text) (x : ℕ) → (find l (p .labels) ≡ some x) ↔ RecordedAtBy z base s l x
+
+-- with 01's sizes
+abbrev pub Records : ℕ → Text → Text → ℕ → ℕ → ℕ → Type 0
+Records base s n i k a = RecordsBy size base s n i k a
+
+abbrev pub LastRecord : ℕ → Text → Text → ℕ → ℕ → ℕ → Type 0
+LastRecord base s n i k a = LastRecordBy size base s n i k a
 
 -- a record's name stands in the source, at its start, no two names overlap, and records start in the order in which they are made: line by
 -- line, and on one line step 4's before step 5's
