@@ -156,6 +156,22 @@ pub fn parse_immediate_u16(t: &[u8]) -> Immediate
     }
 }
 
+// An immediate of 32 bits.
+pub fn parse_immediate_u32(t: &[u8]) -> Immediate
+    ensures { λ r. ⌜ r ≡ immediateOf (immediate reading32 (now (t .entry))) ⌝ }
+{
+    if t.len() == 0 {
+        return Immediate::NotImmediate;
+    }
+    if t[0] != b'#' {
+        return Immediate::NotImmediate;
+    }
+    match parse_u32(&t[1..]) {
+        Number::Value(v) => Immediate::Value(v),
+        Number::Failed(f) => Immediate::Failed(f),
+    }
+}
+
 // Whether JMP takes its operand for a number, and not for a label.
 pub fn looks_numeric(t: &[u8]) -> bool
     ensures { λ r. ⌜ r ≡ (isSome (hexTail (now (t .entry))) || allDigits (now (t .entry))) ⌝ }
