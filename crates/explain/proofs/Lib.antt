@@ -1,5 +1,5 @@
 mod Fits
-mod OperandKinds
+mod Placed
 mod Trying
 mod Operations
 mod Lines

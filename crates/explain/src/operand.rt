@@ -1,6 +1,6 @@
 // An operand in a place of a form: whether it makes the word there, what is wrong with it if its kind is right, and its kind.
 ghost use mathlib.Core.Path.{_≡_};
-ghost use Rattle.rules.specs.Forms.{kindOf, kindNumber, kindFor};
+ghost use Rattle.rules.specs.Forms.{kindNumber, kindFor};
 ghost use Rattle.rules.specs.Number.{signedReading};
 ghost use Rattle.label.specs.Table.{tableOf, Held};
 ghost use Rattle.explain.specs.Near.{Near};
@@ -242,25 +242,6 @@ fn fit_in(source: &[u8], table: &[u32], labels: usize, address: u32, x: Operand,
 
 // ---- Kinds.
 
-// An operand's kind: `#`, Dn, An, (An) or other text, as numbers from 0.
-fn kind_of(s: &[u8]) -> u8
-    ensures { λ r. ⌜ r ≡ kindNumber (kindOf (now (s .entry))) ⌝ }
-{
-    if text::starts_with(s, b"#") {
-        return 0;
-    }
-    let Register::Other = opcode::register::parse_data_register(s) else {
-        return 1;
-    };
-    let Register::Other = opcode::register::parse_address_register(s) else {
-        return 2;
-    };
-    let Register::Other = opcode::register::parse_indirect_register(s) else {
-        return 3;
-    };
-    4
-}
-
 // The kind that stands in a place.
 fn kind_for(x: Operand) -> u8
     ensures { λ r. ⌜ r ≡ kindNumber (kindFor (operandOf x)) ⌝ }
@@ -294,7 +275,7 @@ pub fn place_of(
     let fault = fit.fault;
     Place {
         met: fit.met,
-        stands: kind_of(s) == kind_for(x),
+        stands: opcode::register::kind_of(s) == kind_for(x),
         fault,
     }
 }

@@ -1,3 +1,4 @@
 mod Registers
 mod Mnemonics
+mod OperandKinds
 pub mod Callers

@@ -4,6 +4,7 @@ ghost use mathlib.Core.Option.{some};
 ghost use mathlib.Core.List.{[], _∷_};
 ghost use Rattle.rules.specs.Text.{after};
 ghost use Rattle.rules.specs.Encode.{registerDigit, dataRegister, addressRegister, indirect};
+ghost use Rattle.rules.specs.Forms.{kindOf, kindNumber};
 ghost use Rattle.opcode.specs.Register.{registerOf};
 use numeral::digit::digit_value;
 
@@ -68,4 +69,23 @@ pub fn parse_indirect_register(t: &[u8]) -> Register
         return Register::Other;
     }
     from_digit(t[2])
+}
+
+// An operand's kind: `#`, Dn, An, (An) or other text, as numbers from 0.
+pub fn kind_of(s: &[u8]) -> u8
+    ensures { λ r. ⌜ r ≡ kindNumber (kindOf (now (s .entry))) ⌝ }
+{
+    if text::starts_with(s, b"#") {
+        return 0;
+    }
+    let Register::Other = parse_data_register(s) else {
+        return 1;
+    };
+    let Register::Other = parse_address_register(s) else {
+        return 2;
+    };
+    let Register::Other = parse_indirect_register(s) else {
+        return 3;
+    };
+    4
 }

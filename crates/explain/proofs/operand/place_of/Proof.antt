@@ -1,6 +1,6 @@
 -- `operand::place_of` puts the operand's fit and kind together. Assumes nothing.
 use borrow.Author.Needs.{needs}
-use Rattle.explain.proofs.OperandKinds.{placed}
+use Rattle.explain.proofs.Placed.{placed}
 use Rattle.explain.proofs.operand.place_of.Statement.{statement}
 use Rattle.explain.proofs.operand.place_of.Tie as tie
 

@@ -1,9 +1,9 @@
--- `operand::kind_of` asks for one kind after another. Assumes nothing.
+-- `register::kind_of` asks for one kind after another. Assumes nothing.
 use borrow.Author.Needs.{needs}
 use Rattle.rules.specs.Text.{bytes}
-use Rattle.explain.proofs.OperandKinds.{kind-hash, kind-dn, kind-an, kind-atAn, kind-text}
-use Rattle.explain.proofs.operand.kind_of.Statement.{statement}
-use Rattle.explain.proofs.operand.kind_of.Tie as tie
+use Rattle.opcode.proofs.OperandKinds.{kind-hash, kind-dn, kind-an, kind-atAn, kind-text}
+use Rattle.opcode.proofs.register.kind_of.Statement.{statement}
+use Rattle.opcode.proofs.register.kind_of.Tie as tie
 
 returns : tie.Need-returns
 unfolding bytes
