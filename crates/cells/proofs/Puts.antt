@@ -9,7 +9,7 @@ use lib.ListN.{length, drop, getD, length-append, List·getD-append}
 use lib.Seq.{drop-cons, getD-append-seam}
 use borrow.Author.Tests.{ltb-true, ltb-false}
 use Rattle.rules.specs.Text.{Text}
-use Rattle.rules.specs.Assemble.{Put}
+use Rattle.rules.specs.Assemble.{Sizes, Put}
 use Rattle.line.specs.Line.{taskAt}
 use Rattle.cells.specs.Cells.{afterBy, headCell, tailCell, keptAt, InCells, Fits}
 use Rattle.cells.specs.Puts.{addressAt, putAt, putsOf, Tells, LinesIn}
@@ -54,14 +54,14 @@ module _ (cells : List ℕ) (n : ℕ) (r : Kept) (room : InCells cells n) (fits 
   unfolding putsOf
   puts-more source base = more-same source (puts-same base _ cells source n same-before) (address-same base _ cells n same-before) (with-back cells n r room fits)
 
-  pub lines-more : (source : Text) → LinesIn source cells n → Tells source r → LinesIn source (withKept cells n r) (suc n)
-  lines-more source h t =
+  pub lines-more : (z : Sizes) (source : Text) → LinesIn z source cells n → Tells z source r → LinesIn z source (withKept cells n r) (suc n)
+  lines-more z source h t =
       record { room = omega (arith, with-length cells n (headCell r) (tailCell (r .task)), room .room); line = λ k l. go k l (ltb k n) refl }
     where
-      go : (k : ℕ) → k < suc n → (y : Bool) → ltb k n ≡ y → Tells source (keptAt (withKept cells n r) k)
+      go : (k : ℕ) → k < suc n → (y : Bool) → ltb k n ≡ y → Tells z source (keptAt (withKept cells n r) k)
       go k l true e = rw (same-before k (ltb-true _ _ e)) (h .line k (ltb-true _ _ e))
       go k l false e =
-          let z : n ≤ k = ltb-false k n e in
+          let d : n ≤ k = ltb-false k n e in
           let m : k ≡ n = omega arith in
           rw (m, with-back cells n r room fits) t
 

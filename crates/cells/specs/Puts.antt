@@ -4,7 +4,7 @@ use Prim.Native.Nat.{ℕ, zero, suc, _*_, _≤_, _<_}
 use mathlib.Core.List.{List, [], _∷_, _++_}
 use lib.ListN.{length}
 use Rattle.rules.specs.Text.{Text}
-use Rattle.rules.specs.Assemble.{Put}
+use Rattle.rules.specs.Assemble.{Sizes, Put}
 use Rattle.line.specs.Line.{taskAt, TaskIn}
 use Rattle.cells.specs.Cells.{afterBy, keptAt}
 use Rattle.cells.specs.Sizes.{sizeOf}
@@ -24,12 +24,12 @@ unfoldable pub putsOf : Text → ℕ → List ℕ → ℕ → List Put
 putsOf source base cells zero = []
 putsOf source base cells (suc n) = putsOf source base cells n ++ (putAt source base cells n ∷ [])
 
--- what is kept of a line is true of it: the places that it names lie in the source, and its size is its task's
-pub record Tells (source : Text) (k : Kept) : Type 0 where
+-- what is kept of a line is true of it: the places that it names lie in the source, and its size is its task's, by the sizes z
+pub record Tells (z : Sizes) (source : Text) (k : Kept) : Type 0 where
   pub within : TaskIn source (k .task)
-  pub sized : k .size ≡ sizeOf source (k .task)
+  pub sized : k .size ≡ sizeOf z source (k .task)
 
 -- n lines are kept
-pub record LinesIn (source : Text) (cells : List ℕ) (n : ℕ) : Type 0 where
+pub record LinesIn (z : Sizes) (source : Text) (cells : List ℕ) (n : ℕ) : Type 0 where
   pub room : 2 * n ≤ length cells
-  pub line : (k : ℕ) → k < n → Tells source (keptAt cells k)
+  pub line : (k : ℕ) → k < n → Tells z source (keptAt cells k)
