@@ -11,6 +11,7 @@ use lib.Dec.{ltb}
 use lib.ListN.{length, getD, getElem?, length-append, length-map, length-take, length-drop}
 use Rattle.rules.specs.Limits.{maxSource}
 use Rattle.rules.specs.Text.{Text, cutAt}
+use Rattle.rules.specs.Line.{size}
 use Rattle.rules.specs.Encode.{mnemonics}
 use Rattle.rules.specs.Answer.{andThen}
 use Rattle.rules.specs.Assemble.{Put}
@@ -43,7 +44,7 @@ module _ {source : Text} {table cells : List ℕ} {pass : Pass} (h : Holds sourc
   pub after-low : (j : ℕ) → j < pass .lines → afterBy (pass .base) (addressAt (pass .base) cells j) (keptAt cells j) < 2 ^ 32
   after-low j l =
       let b = bounded h .puts j l in
-      rw (after-kept source (pass .base) (addressAt (pass .base) cells j) (keptAt cells j) (h .lines .line j l .sized)) (omega (arith, b .after))
+      rw (after-kept size source (pass .base) (addressAt (pass .base) cells j) (keptAt cells j) (h .lines .line j l .sized)) (omega (arith, b .after))
 
   pub walks : (k : ℕ) → k ≤ pass .lines → Walks cells (pass .base) k
   walks k l = record { room = omega (arith, h .lines .room); low = λ j m. after-low j (omega arith) }

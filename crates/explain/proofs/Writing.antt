@@ -8,6 +8,7 @@ use lib.ListN.{length, getD, drop, set, replicate, length-append, length-drop, l
 use lib.Seq.{set-at, drop-cons}
 use Rattle.rules.specs.Limits.{maxLines}
 use Rattle.rules.specs.Text.{Text, cutAt}
+use Rattle.rules.specs.Line.{size}
 use Rattle.rules.specs.Answer.{andThen}
 use Rattle.rules.specs.Assemble.{over}
 use Rattle.requests.specs.Explain.{explainAllBy, explainAll}
@@ -110,7 +111,7 @@ pub write-needs : {source : Text} {base : ℕ} {table : List ℕ} {r : Entered} 
     → (p : Pass) → r ≡ Done p → (old : List ℕ) → length old ≡ maxLines → WriteNeeds source table′ cells′ p old
 write-needs {source} {table′ = table′} {cells′} g p e old l =
     let h = enter-holds g p e in
-    let b = within (p .base) source (passIn source table′ cells′ p) (h .passed) in
+    let b = within size (p .base) source (passIn source table′ cells′ p) (h .passed) in
     let m : length cells′ ≡ 2 * maxLines = g .lines .long ∙ length-replicate {A = ℕ} (2 * maxLines) 0 in
     record { holds = h; room = omega (arith, h .lines .room); end-room = omega (arith, b .few) }
 

@@ -1,4 +1,4 @@
--- What an accepted pass says: the source and the base are within the limits, and the addresses of its labels and lines, and those
+-- What an accepted pass says, by whatever sizes: the source and the base are within the limits, and the addresses of its labels and lines, and those
 -- after its lines, lie below 2^30. Assumes nothing.
 use mathlib.Core.Path.{_≡_, refl, sym, _∙_}
 use mathlib.Core.Bool.{Bool, true, false, false≢true}
@@ -11,10 +11,10 @@ use lib.ListN.{length, getD}
 use borrow.Author.Tests.{ltb-true, ltb-false, leb-false}
 use Rattle.rules.specs.Limits.{maxSource, maxLines, addressLimit}
 use Rattle.rules.specs.Text.{Text, cutAt}
-use Rattle.rules.specs.Line.{SourceLine, Name, linesOf, lineOf, size}
+use Rattle.rules.specs.Line.{SourceLine, Name, linesOf, lineOf}
 use Rattle.rules.specs.Label.{Table, find, recorded, hasRoom, labelOf}
 use Rattle.rules.specs.Answer.{Answer, accepted, refuseIf, refuseAt}
-use Rattle.rules.specs.Assemble.{Pass, Put, addressAfter, firstPassBy, firstPass, firstHigh, checks, passAtBy, passAt}
+use Rattle.rules.specs.Assemble.{Sizes, Pass, Put, addressAfter, firstPassBy, firstHigh, checks, passAtBy}
 use Rattle.label.specs.Table.{AllBelow, no-label}
 use Rattle.label.proofs.Rows.{below-recorded}
 use Rattle.first.specs.Stopped.{recordSome, only, before, orNothing, stoppedAt}
@@ -32,16 +32,16 @@ unfolding refuseAt
 refuse-at none n a e = refl
 refuse-at (some k) n a e = absurd (false≢true cc)
 
-pub record InLimits (base : ℕ) (s : Text) (p : Pass) : Type 0 where
+pub record InLimits (z : Sizes) (base : ℕ) (s : Text) (p : Pass) : Type 0 where
   pub short : length s ≤ maxSource
   pub few : length (cutAt 10 s) ≤ maxLines
   pub low : base < addressLimit
-  pub passed : firstPass base base [] (linesOf s) ≡ accepted p
-  pub stops : stoppedAt base s ≡ p
+  pub passed : firstPassBy z base base [] (linesOf s) ≡ accepted p
+  pub stops : stoppedAt z base s ≡ p
 
-pub within : (base : ℕ) (s : Text) (p : Pass) → passAt base s ≡ accepted p → InLimits base s p
+pub within : (z : Sizes) (base : ℕ) (s : Text) (p : Pass) → passAtBy z base s ≡ accepted p → InLimits z base s p
 unfolding passAtBy checks refuseIf refuseAt stoppedAt orNothing
-within base s p e =
+within z base s p e =
     let one = refuse-if (ltb maxSource (length s)) _ _ _ e in
     let e₁ = rw one at e in
     let two = refuse-at (firstHigh 0 s) _ _ e₁ in
@@ -55,7 +55,7 @@ within base s p e =
       few = ltb-false maxLines (length (cutAt 10 s)) three;
       low = leb-false addressLimit base four;
       passed = e₄;
-      stops = rw (one, two, three, four) (stop-accepted base base [] (linesOf s) p e₄);
+      stops = rw (one, two, three, four) (stop-accepted z base base [] (linesOf s) p e₄);
     }
 
 -- ---- labels
@@ -70,40 +70,40 @@ module _ (l : SourceLine) (a : ℕ) (h : a < addressLimit) where
       go false e ih = rw (some-full l a n ns t e) b
 
 -- ---- lines
-pub record LowPut (base : ℕ) (u : Put) : Type 0 where
+pub record LowPut (z : Sizes) (base : ℕ) (u : Put) : Type 0 where
   pub here : u .address < addressLimit
-  pub after : addressAfter size base (u .address) (u .task) < addressLimit
+  pub after : addressAfter z base (u .address) (u .task) < addressLimit
 
 -- every label and every line of a pass
-pub record Low (base : ℕ) (p : Pass) : Type 0 where
+pub record Low (z : Sizes) (base : ℕ) (p : Pass) : Type 0 where
   pub labels : AllBelow addressLimit (p .labels)
-  pub puts : (k : ℕ) (d : Put) → k < length (p .puts) → LowPut base (getD (p .puts) k d)
+  pub puts : (k : ℕ) (d : Put) → k < length (p .puts) → LowPut z base (getD (p .puts) k d)
 
-low-only : (base : ℕ) (t : Table) (p : Pass) → accepted (only t) ≡ accepted p → AllBelow addressLimit t → Low base p
-low-only base t p e b = rw (← accepted-is e) (record { labels = b; puts = λ k d l. absurd (omega arith) })
+low-only : (z : Sizes) (base : ℕ) (t : Table) (p : Pass) → accepted (only t) ≡ accepted p → AllBelow addressLimit t → Low z base p
+low-only z base t p e b = rw (← accepted-is e) (record { labels = b; puts = λ k d l. absurd (omega arith) })
 
-low-before : (base : ℕ) (u : Put) (q : Pass) → LowPut base u → Low base q → Low base (before u q)
+low-before : (z : Sizes) (base : ℕ) (u : Put) (q : Pass) → LowPut z base u → Low z base q → Low z base (before u q)
 unfolding before
-low-before base u q h w = record { labels = w .labels; puts = go }
+low-before z base u q h w = record { labels = w .labels; puts = go }
   where
-    go : (k : ℕ) (d : Put) → k < length (u ∷ q .puts) → LowPut base (getD (u ∷ q .puts) k d)
+    go : (k : ℕ) (d : Put) → k < length (u ∷ q .puts) → LowPut z base (getD (u ∷ q .puts) k d)
     go zero d l = h
     go (suc k) d l = w .puts k d (omega arith)
 
-low-from : (base a : ℕ) (t : Table) (ls : List SourceLine) (p : Pass) → a < addressLimit → AllBelow addressLimit t → firstPass base a t ls ≡ accepted p → Low base p
+low-from : (z : Sizes) (base a : ℕ) (t : Table) (ls : List SourceLine) (p : Pass) → a < addressLimit → AllBelow addressLimit t → firstPassBy z base a t ls ≡ accepted p → Low z base p
 unfolding firstPassBy
-low-from base a t [] p h b e = low-only base t p e b
-low-from base a t (l ∷ ls) p h b e = go (way base a t l) (λ a′ t′ q. low-from base a′ t′ ls q)
+low-from z base a t [] p h b e = low-only z base t p e b
+low-from z base a t (l ∷ ls) p h b e = go (way z base a t l) (λ a′ t′ q. low-from z base a′ t′ ls q)
   where
-    go : Way base a t l → ((a′ : ℕ) (t′ : Table) (q : Pass) → a′ < addressLimit → AllBelow addressLimit t′ → firstPass base a′ t′ ls ≡ accepted q → Low base q) → Low base p
-    go (halts n) ih = low-only base t p (sym (pass-halts base a t l ls n) ∙ e) b
-    go (fills n r) ih = let c = sym (pass-full base a t l ls n r) ∙ e in absurd (false≢true cc)
-    go (leaves n t′ r f) ih = let c = sym (pass-out base a t l ls n t′ r f) ∙ e in absurd (false≢true cc)
+    go : Way z base a t l → ((a′ : ℕ) (t′ : Table) (q : Pass) → a′ < addressLimit → AllBelow addressLimit t′ → firstPassBy z base a′ t′ ls ≡ accepted q → Low z base q) → Low z base p
+    go (halts n) ih = low-only z base t p (sym (pass-halts z base a t l ls n) ∙ e) b
+    go (fills n r) ih = let c = sym (pass-full z base a t l ls n r) ∙ e in absurd (false≢true cc)
+    go (leaves n t′ r f) ih = let c = sym (pass-out z base a t l ls n t′ r f) ∙ e in absurd (false≢true cc)
     go (passes n t′ r f) ih =
-        let i = taken base a t l ls p e n t′ r f in
-        let w = ltb-true (addressAfter size base a (asked l)) addressLimit f in
+        let i = taken z base a t l ls p e n t′ r f in
+        let w = ltb-true (addressAfter z base a (asked l)) addressLimit f in
         let b′ = rw (record-some l a _ t t′ r) at (some-below l a h (lineOf (l .text) .names) t b) in
-        rw (i .whole) (low-before base (record { address = a; task = asked l }) (i .rest) (record { here = h; after = w }) (ih _ t′ (i .rest) w b′ (i .passed)))
+        rw (i .whole) (low-before z base (record { address = a; task = asked l }) (i .rest) (record { here = h; after = w }) (ih _ t′ (i .rest) w b′ (i .passed)))
 
-pub low : (base : ℕ) (s : Text) (p : Pass) → passAt base s ≡ accepted p → Low base p
-low base s p e = let w = within base s p e in low-from base base [] (linesOf s) p (w .low) no-label (w .passed)
+pub low : (z : Sizes) (base : ℕ) (s : Text) (p : Pass) → passAtBy z base s ≡ accepted p → Low z base p
+low z base s p e = let w = within z base s p e in low-from z base base [] (linesOf s) p (w .low) no-label (w .passed)

@@ -10,28 +10,28 @@ use Rattle.rules.specs.Limits.{maxSource, addressLimit}
 use Rattle.rules.specs.Text.{Text}
 use Rattle.rules.specs.Line.{linesOf}
 use Rattle.rules.specs.Answer.{Answer, accepted, refused, refuseIf}
-use Rattle.rules.specs.Assemble.{Pass as Ruled, dataPlaces, firstPass, checks, passAtBy, passAt}
+use Rattle.rules.specs.Assemble.{Sizes, Pass as Ruled, dataPlaces, firstPassBy, checks, passAtBy}
 use Rattle.label.specs.Table.{tableOf, AllBelow}
 use Rattle.cells.specs.Puts.{putAt}
 use Rattle.cells.proofs.Puts.{puts-length, put-at}
 use Rattle.first.specs.Stopped.{stopped, orNothing, stoppedAt}
-use Rattle.first.specs.Pass.{entered, passIn, HoldsLabels, HoldsLines, FirstPassGives, EnterGives, Holds}
+use Rattle.first.specs.Pass.{entered, passIn, HoldsLabels, HoldsLines, FirstPassGives, EnterGivesBy, HoldsBy}
 use Rattle.first.specs.declared.Pass.{Pass}
 use Rattle.first.specs.declared.Entered.{Entered}
 use Rattle.first.specs.declared.Entered.the-variants.{Done, Refused}
 use Rattle.first.proofs.Bounds.{within, LowPut, low}
 
 -- ---- `first_pass` where refusals 1 to 4 do not come is `enter`
-module _ (source : Text) (base : ℕ) (clear : (a : Answer Ruled) → checks source a ≡ a) (h : base < addressLimit) where
-  pass-clear : passAt base source ≡ firstPass base base [] (linesOf source)
+module _ (z : Sizes) (source : Text) (base : ℕ) (clear : (a : Answer Ruled) → checks source a ≡ a) (h : base < addressLimit) where
+  pass-clear : passAtBy z base source ≡ firstPassBy z base base [] (linesOf source)
   unfolding passAtBy refuseIf
   pass-clear = clear _ ∙ rw (lt-leb addressLimit base h)
 
-  stop-clear : stoppedAt base source ≡ stopped base base [] (linesOf source)
+  stop-clear : stoppedAt z base source ≡ stopped z base base [] (linesOf source)
   unfolding stoppedAt orNothing refuseIf
   stop-clear = rw (clear, lt-leb addressLimit base h)
 
-  pub first-enters : {table cells : List ℕ} {r : Entered} {table′ cells′ : List ℕ} → FirstPassGives source base table cells r table′ cells′ → EnterGives source base table cells r table′ cells′
+  pub first-enters : {table cells : List ℕ} {r : Entered} {table′ cells′ : List ℕ} → FirstPassGives z source base table cells r table′ cells′ → EnterGivesBy z source base table cells r table′ cells′
   first-enters g = record { answered = rw pass-clear (g .answered); labels = rw stop-clear (g .labels); lines = rw stop-clear (g .lines) }
 
 -- ---- by the answer
@@ -51,24 +51,24 @@ unfolding entered
 entered-done base r (accepted q) e = record { pass = q; is = refl; counts = cc }
 entered-done base r (refused n k) e = absurd (false≢true cc)
 
-module _ {source : Text} {base : ℕ} {table cells : List ℕ} {r : Entered} {table′ cells′ : List ℕ} (g : EnterGives source base table cells r table′ cells′) where
-  pub enter-refused : (n k : ℕ) → r ≡ Refused n k → passAt base source ≡ refused n k
-  enter-refused n k e = entered-refused base n k (passAt base source) (sym (g .answered) ∙ e)
+module _ {z : Sizes} {source : Text} {base : ℕ} {table cells : List ℕ} {r : Entered} {table′ cells′ : List ℕ} (g : EnterGivesBy z source base table cells r table′ cells′) where
+  pub enter-refused : (n k : ℕ) → r ≡ Refused n k → passAtBy z base source ≡ refused n k
+  enter-refused n k e = entered-refused base n k (passAtBy z base source) (sym (g .answered) ∙ e)
 
   module _ (p : Pass) (e : r ≡ Done p) where
-    counted : Counted base (passAt base source) p
-    counted = entered-done base p (passAt base source) (sym (g .answered) ∙ e)
+    counted : Counted base (passAtBy z base source) p
+    counted = entered-done base p (passAtBy z base source) (sym (g .answered) ∙ e)
 
     pub enter-base : p .base ≡ base
     enter-base = ap (λ (x : Pass). x .base) (counted .counts)
 
-    pub enter-holds : Holds source table′ cells′ p
+    pub enter-holds : HoldsBy z source table′ cells′ p
     unfolding passIn
     enter-holds =
         let c = counted in
-        let s = within base source (c .pass) (c .is) .stops in
+        let s = within z base source (c .pass) (c .is) .stops in
         let labels : HoldsLabels source (c .pass .labels) table table′ = rw s at (g .labels) in
-        let lines : HoldsLines source base (c .pass .puts) cells cells′ = rw s at (g .lines) in
+        let lines : HoldsLines z source base (c .pass .puts) cells cells′ = rw s at (g .lines) in
         rw (c .counts)
         (record {
           passed = c .is ∙ rw (labels .rows, lines .puts);
@@ -78,17 +78,17 @@ module _ {source : Text} {base : ℕ} {table cells : List ℕ} {r : Entered} {ta
         })
 
 -- ---- the bounds of what the arrays hold
-pub record Bounded (source : Text) (table cells : List ℕ) (r : Pass) : Type 0 where
+pub record Bounded (z : Sizes) (source : Text) (table cells : List ℕ) (r : Pass) : Type 0 where
   pub short : length source ≤ maxSource
   pub base : r .base < addressLimit
   pub labels : AllBelow addressLimit (tableOf source table (r .labels))
-  pub puts : (k : ℕ) → k < r .lines → LowPut (r .base) (putAt source (r .base) cells k)
+  pub puts : (k : ℕ) → k < r .lines → LowPut z (r .base) (putAt source (r .base) cells k)
 
-pub bounded : {source : Text} {table cells : List ℕ} {r : Pass} → Holds source table cells r → Bounded source table cells r
+pub bounded : {z : Sizes} {source : Text} {table cells : List ℕ} {r : Pass} → HoldsBy z source table cells r → Bounded z source table cells r
 unfolding passIn
-bounded {source} {table} {cells} {r} h =
-    let w = within (r .base) source (passIn source table cells r) (h .passed) in
-    let b = low (r .base) source (passIn source table cells r) (h .passed) in
+bounded {z} {source} {table} {cells} {r} h =
+    let w = within z (r .base) source (passIn source table cells r) (h .passed) in
+    let b = low z (r .base) source (passIn source table cells r) (h .passed) in
     record {
       short = w .short;
       base = w .low;

@@ -11,10 +11,10 @@ use lib.Dec.{ltb}
 use lib.ListN.{length, length-append, length-map, length-drop}
 use Rattle.rules.specs.Limits.{addressLimit, maxLines}
 use Rattle.rules.specs.Text.{Text}
-use Rattle.rules.specs.Line.{SourceLine, Name, Task as SaidTask, skipped, end, org, noOrg, labelOnly, instruction, value, space, Line as Said, lineOf, size}
+use Rattle.rules.specs.Line.{SourceLine, Name, Task as SaidTask, skipped, end, org, noOrg, labelOnly, instruction, value, space, Line as Said, lineOf}
 use Rattle.rules.specs.Label.{Table}
 use Rattle.rules.specs.Answer.{Answer, accepted, refused, andThen}
-use Rattle.rules.specs.Assemble.{Pass as Ruled, Put, Place, addressAfter, isEnd, putting, firstPassBy, firstPass, placesAt, dataContents, dataPlaces}
+use Rattle.rules.specs.Assemble.{Sizes, Pass as Ruled, Put, Place, addressAfter, isEnd, putting, firstPassBy, placesAt, dataContents, dataPlaces}
 use Rattle.rules.proofs.Standing.{at-within}
 use Rattle.rules.proofs.Names.{Rising, over, next as behind, names-rise}
 use Rattle.text.specs.declared.Span.{Span}
@@ -33,7 +33,7 @@ use Rattle.line.specs.declared.Line.{Line}
 use Rattle.line.specs.Line.{namesFor, namesAt, taskAt, nameFrom, TaskIn, ReadLineGives}
 use Rattle.cells.specs.declared.Kept.{Kept}
 use Rattle.cells.specs.Cells.{dataWords, afterBy, headCell, tailCell, InCells, Fits}
-use Rattle.cells.specs.Sizes.{sizeOf}
+use Rattle.cells.specs.Sizes.{sizeOf, Small}
 use Rattle.cells.specs.Puts.{putsOf}
 use Rattle.cells.proofs.Cells.{with-length, with-past, withKept}
 use Rattle.cells.proofs.Puts.{address-more, puts-more, lines-more, puts-length}
@@ -108,36 +108,36 @@ on-line source i k n (behind {m = m} h a r) =
     and-name (number-same source i (m .start) (omega (arith, at-within a, line-length source i)) ∙ n) (on-line source i k n r)
 
 -- ---- where the pass stops
-module _ (source : Text) (base : ℕ) (table cells : List ℕ) (p : Progress) where
+module _ (z : Sizes) (source : Text) (base : ℕ) (table cells : List ℕ) (p : Progress) where
   abbrev labels : Table
   labels = tableOf source table (p .labels)
 
   abbrev puts : List Put
   puts = putsOf source base cells (p .lines)
 
-  stopping : (x : Answer Ruled) (t : Table) (table′ : List ℕ) → firstPass base (p .address) labels (linesLeft source p) ≡ x
-      → stopped base (p .address) labels (linesLeft source p) ≡ only t → HoldsLabels source t table table′ → p .labels ≤ length t
-      → Stopping source base table cells p (answerAfter puts x) table′ cells
+  stopping : (x : Answer Ruled) (t : Table) (table′ : List ℕ) → firstPassBy z base (p .address) labels (linesLeft source p) ≡ x
+      → stopped z base (p .address) labels (linesLeft source p) ≡ only t → HoldsLabels source t table table′ → p .labels ≤ length t
+      → Stopping z source base table cells p (answerAfter puts x) table′ cells
   unfolding afterPuts
   stopping x t table′ e f h g = record { answer = ap (answerAfter puts) e; labels = rw f h; longer = rw f g; puts = rw f (append-nil puts); same = refl }
 
   -- at its end
-  ending : Stands source base table cells p → firstPass base (p .address) labels (linesLeft source p) ≡ accepted (only labels)
-      → stopped base (p .address) labels (linesLeft source p) ≡ only labels → Stopping source base table cells p (accepted (passSoFar source base table cells p)) table cells
+  ending : Stands z source base table cells p → firstPassBy z base (p .address) labels (linesLeft source p) ≡ accepted (only labels)
+      → stopped z base (p .address) labels (linesLeft source p) ≡ only labels → Stopping z source base table cells p (accepted (passSoFar source base table cells p)) table cells
   unfolding answerAfter
   ending s e f =
       rw (ap accepted (after-only puts labels))
       at (stopping (accepted (only labels)) labels table e f (holds-same source table (p .labels) (s .held)) (omega (arith, table-length source table (p .labels))))
 
-  pub ends-last : Stands source base table cells p → length source < p .at → Stopping source base table cells p (accepted (passSoFar source base table cells p)) table cells
+  pub ends-last : Stands z source base table cells p → length source < p .at → Stopping z source base table cells p (accepted (passSoFar source base table cells p)) table cells
   unfolding firstPassBy stopped
   ends-last s h = let n = lines-none source (suc (p .lines)) (p .at) h in ending s (rw n) (rw n)
 
-  pub values-most : Stands source base table cells p → p .values ≤ 2 * maxLines
+  pub values-most : Stands z source base table cells p → p .values ≤ 2 * maxLines
   values-most s = omega (arith, s .values, flat-most puts, puts-length source base cells (p .lines), s .few)
 
   -- ---- the line, and the rest
-  module _ (needs : PassLineNeeds source base table cells p) (l : Line) (r : ReadLineGives source (p .at) l) where
+  module _ (needs : PassLineNeeds z source base table cells p) (l : Line) (r : ReadLineGives source (p .at) l) where
     abbrev this : SourceLine
     this = lineHere source p
 
@@ -157,17 +157,17 @@ module _ (source : Text) (base : ℕ) (table cells : List ℕ) (p : Progress) wh
     number = needs .stands .number (needs .inside)
 
     -- END
-    pub ends-here : isEnd (taskAt source (l .task)) ≡ true → Stopping source base table cells p (accepted (passSoFar source base table cells p)) table cells
+    pub ends-here : isEnd (taskAt source (l .task)) ≡ true → Stopping z source base table cells p (accepted (passSoFar source base table cells p)) table cells
     ends-here e =
         let h : isEnd (asked this) ≡ true = rw task-said at e in
-        ending (needs .stands) (rw left (pass-halts base (p .address) labels this rest h)) (rw left (stop-halts base (p .address) labels this rest h))
+        ending (needs .stands) (rw left (pass-halts z base (p .address) labels this rest h)) (rw left (stop-halts z base (p .address) labels this rest h))
 
     -- the line has its cells, and its task can be kept
     pub in-cells : InCells cells (p .lines)
     in-cells = record { room = omega (arith, ap length left, needs .stands .room) }
 
-    pub fits : (m : ℕ) → m ≡ sizeOf source (l .task) → Fits (record { task = l .task; size = m })
-    fits m e = task-fits source (record { task = l .task; size = m }) (needs .stands .short) (r .task-in) e
+    pub fits : Small z → (m : ℕ) → m ≡ sizeOf z source (l .task) → Fits (record { task = l .task; size = m })
+    fits w m e = task-fits w source (record { task = l .task; size = m }) (needs .stands .short) (r .task-in) e
 
     pub naming : RecordNamesNeeds source table (p .labels) (l .names)
     naming =
@@ -200,13 +200,13 @@ module _ (source : Text) (base : ℕ) (table cells : List ℕ) (p : Progress) wh
       longer = omega (arith, some-longer this (p .address) (lineOf (this .text) .names) labels, table-length source table (p .labels))
 
       -- no room for a label
-      pub stops-full : answer ≡ Full → Stopping source base table cells p (refused 6 (suc (p .lines))) table′ cells
+      pub stops-full : answer ≡ Full → Stopping z source base table cells p (refused 6 (suc (p .lines))) table′ cells
       unfolding answerAfter
       stops-full e =
           let o = recorded-full (labelled (p .address) labels this) (sym e ∙ answered) in
-          stopping (refused 6 (suc (p .lines))) now table′ (rw left (pass-full base (p .address) labels this rest goes o)) (rw left (stop-full base (p .address) labels this rest goes o)) stored longer
+          stopping (refused 6 (suc (p .lines))) now table′ (rw left (pass-full z base (p .address) labels this rest goes o)) (rw left (stop-full z base (p .address) labels this rest goes o)) stored longer
 
-      module _ (n : ℕ) (e : answer ≡ Count n) (m : ℕ) (sized : m ≡ sizeOf source (l .task)) (later : ℕ)
+      module _ (n : ℕ) (e : answer ≡ Count n) (m : ℕ) (sized : m ≡ sizeOf z source (l .task)) (later : ℕ)
           (says-later : later ≡ afterBy base (p .address) (record { task = l .task; size = m })) where
         abbrev keeps : Kept
         keeps = record { task = l .task; size = m }
@@ -214,35 +214,35 @@ module _ (source : Text) (base : ℕ) (table cells : List ℕ) (p : Progress) wh
         all-recorded : (labelled (p .address) labels this ≡ some now) × (n ≡ length now)
         all-recorded =
             let k = recorded-count (labelled (p .address) labels this) n (sym e ∙ answered) in
-            let z = record-some this (p .address) (lineOf (this .text) .names) labels (k .0) (k .1) in
-            (k .1 ∙ ap some (sym z), k .2 ∙ ap length (sym z))
+            let t = record-some this (p .address) (lineOf (this .text) .names) labels (k .0) (k .1) in
+            (k .1 ∙ ap some (sym t), k .2 ∙ ap length (sym t))
 
-        later-is : later ≡ addressAfter size base (p .address) (asked this)
-        later-is = says-later ∙ after-kept source base (p .address) keeps sized ∙ ap (addressAfter size base (p .address)) task-said
+        later-is : later ≡ addressAfter z base (p .address) (asked this)
+        later-is = says-later ∙ after-kept z source base (p .address) keeps sized ∙ ap (addressAfter z base (p .address)) task-said
 
         -- the address is too high
-        pub stops-out : addressLimit ≤ later → Stopping source base table cells p (refused 5 (suc (p .lines))) table′ cells
+        pub stops-out : addressLimit ≤ later → Stopping z source base table cells p (refused 5 (suc (p .lines))) table′ cells
         unfolding answerAfter
         stops-out h =
-            let f = le-ltb (addressAfter size base (p .address) (asked this)) addressLimit (rw later-is at h) in
+            let f = le-ltb (addressAfter z base (p .address) (asked this)) addressLimit (rw later-is at h) in
             stopping (refused 5 (suc (p .lines))) now table′
-            (rw left (pass-out base (p .address) labels this rest goes now (all-recorded .0) f))
-            (rw left (stop-out base (p .address) labels this rest goes now (all-recorded .0) f))
+            (rw left (pass-out z base (p .address) labels this rest goes now (all-recorded .0) f))
+            (rw left (stop-out z base (p .address) labels this rest goes now (all-recorded .0) f))
             stored longer
 
-        fits-kept : Fits keeps
-        fits-kept = fits m sized
-
         -- the line is taken
-        module _ (h : later < addressLimit) where
+        module _ (w : Small z) (h : later < addressLimit) where
+          fits-kept : Fits keeps
+          fits-kept = fits w m sized
+
           abbrev put : Put
           put = record { address = p .address; task = asked this }
 
           abbrev cells′ : List ℕ
           cells′ = withKept cells (p .lines) keeps
 
-          in-limit : ltb (addressAfter size base (p .address) (asked this)) addressLimit ≡ true
-          in-limit = lt-ltb (addressAfter size base (p .address) (asked this)) addressLimit (rw later-is at h)
+          in-limit : ltb (addressAfter z base (p .address) (asked this)) addressLimit ≡ true
+          in-limit = lt-ltb (addressAfter z base (p .address) (asked this)) addressLimit (rw later-is at h)
 
           puts-now : putsOf source base cells′ (suc (p .lines)) ≡ puts ++ (put ∷ [])
           puts-now = rw (← needs .stands .address, task-said) at (puts-more cells (p .lines) keeps in-cells fits-kept source base)
@@ -264,12 +264,12 @@ module _ (source : Text) (base : ℕ) (table cells : List ℕ) (p : Progress) wh
               let w = rw task-said at (data-places source (p .address) (l .task)) in
               rw (puts-now, flat-more dataPlaces puts put) (omega (arith, needs .stands .values, w))
 
-          stands-there : Stands source base table′ cells′ there
+          stands-there : Stands z source base table′ cells′ there
           stands-there =
               record {
                 short = needs .stands .short;
                 held = rw (all-recorded .1) (stored .held);
-                kept = lines-more cells (p .lines) keeps in-cells fits-kept source (needs .stands .kept) (record { within = r .task-in; sized = sized });
+                kept = lines-more cells (p .lines) keeps in-cells fits-kept z source (needs .stands .kept) (record { within = r .task-in; sized = sized });
                 address = says-later ∙ rw (needs .stands .address) (sym (address-more cells (p .lines) keeps in-cells fits-kept base));
                 number = λ h. number-next source (p .at) (omega (arith, length-drop (p .at) source)) ∙ ap suc number;
                 values = values-now;
@@ -278,12 +278,12 @@ module _ (source : Text) (base : ℕ) (table cells : List ℕ) (p : Progress) wh
                 room = omega (arith, ap length left, needs .stands .room, with-length cells (p .lines) (headCell keeps) (tailCell (l .task)));
               }
 
-          going : Going source base table cells p there table′ cells′
+          going : Going z source base table cells p there table′ cells′
           going =
               record {
                 stands = stands-there;
-                answer = rw (left, pass-more base (p .address) labels this rest goes now (all-recorded .0) in-limit, answer-more puts put, ← later-is, ← puts-now, ← held-now);
-                stop = rw (left, stop-more base (p .address) labels this rest goes now (all-recorded .0) in-limit, after-before puts put, ← later-is, ← puts-now, ← held-now);
+                answer = rw (left, pass-more z base (p .address) labels this rest goes now (all-recorded .0) in-limit, answer-more puts put, ← later-is, ← puts-now, ← held-now);
+                stop = rw (left, stop-more z base (p .address) labels this rest goes now (all-recorded .0) in-limit, after-before puts put, ← later-is, ← puts-now, ← held-now);
                 starts = refl;
                 lines = refl;
                 labels = rw held-now (all-recorded .0);
@@ -292,6 +292,6 @@ module _ (source : Text) (base : ℕ) (table cells : List ℕ) (p : Progress) wh
               }
 
           -- as the code says it
-          pub goes-on : (next w : ℕ) (after : List ℕ) → next ≡ suc (lineEnd source (p .at)) → w ≡ dataWords (l .task) → after ≡ cells′
-              → Going source base table cells p (record { at = next; address = later; labels = n; values = p .values + w; lines = p .lines + 1 }) table′ after
-          goes-on next w after x y z = rw (x, y, z, add-one (p .lines)) going
+          pub goes-on : (next more : ℕ) (after : List ℕ) → next ≡ suc (lineEnd source (p .at)) → more ≡ dataWords (l .task) → after ≡ cells′
+              → Going z source base table cells p (record { at = next; address = later; labels = n; values = p .values + more; lines = p .lines + 1 }) table′ after
+          goes-on next more after d e f = rw (d, e, f, add-one (p .lines)) going

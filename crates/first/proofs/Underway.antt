@@ -8,7 +8,7 @@ use lib.ListN.{length}
 use Rattle.rules.specs.Text.{Text}
 use Rattle.rules.specs.Line.{linesOf, lineOf}
 use Rattle.rules.specs.Answer.{Answer, accepted, refused}
-use Rattle.rules.specs.Assemble.{Pass as Ruled, firstPass}
+use Rattle.rules.specs.Assemble.{Sizes, Pass as Ruled, firstPassBy}
 use Rattle.text.specs.Breaks.{breaks}
 use Rattle.outline.specs.Lines.{lineFrom}
 use Rattle.outline.proofs.Lines.{lines-all, lines-count}
@@ -28,10 +28,10 @@ use Rattle.first.proofs.Naming.{record-some, some-longer, room-less, pa
 use Rattle.first.proofs.Passing.{ends-last}
 
 -- what is done and what is left come to the whole pass, and after what is done the arrays are as they were lent
-pub record Underway (source : Text) (base : ℕ) (table₀ cells₀ table cells : List ℕ) (p : Progress) : Type 0 where
-  pub stands : Stands source base table cells p
-  pub answer : firstPass base base [] (linesOf source) ≡ answerFrom source base table cells p
-  pub stop : stopped base base [] (linesOf source) ≡ stopFrom source base table cells p
+pub record Underway (z : Sizes) (source : Text) (base : ℕ) (table₀ cells₀ table cells : List ℕ) (p : Progress) : Type 0 where
+  pub stands : Stands z source base table cells p
+  pub answer : firstPassBy z base base [] (linesOf source) ≡ answerFrom z source base table cells p
+  pub stop : stopped z base base [] (linesOf source) ≡ stopFrom z source base table cells p
   pub table-past : Unchanged (cellOf (p .labels)) table₀ table
   pub cells-past : Unchanged (2 * p .lines) cells₀ cells
 
@@ -43,8 +43,8 @@ unfolding answerAfter afterPuts
 answer-whole (accepted q) = refl
 answer-whole (refused n k) = refl
 
-module _ (source : Text) (base : ℕ) (table₀ cells₀ : List ℕ) where
-  pub begins : FirstPassNeeds source base table₀ cells₀ → Underway source base table₀ cells₀ table₀ cells₀ (record { at = 0; address = base; labels = 0; values = 0; lines = 0 })
+module _ (z : Sizes) (source : Text) (base : ℕ) (table₀ cells₀ : List ℕ) where
+  pub begins : FirstPassNeeds source base table₀ cells₀ → Underway z source base table₀ cells₀ table₀ cells₀ (record { at = 0; address = base; labels = 0; values = 0; lines = 0 })
   unfolding putsOf addressAt flatMap afterPuts breaks
   begins n =
       let all = lines-all source in
@@ -67,15 +67,15 @@ module _ (source : Text) (base : ℕ) (table₀ cells₀ : List ℕ) where
         cells-past = record { long = refl; past = refl };
       }
 
-  module _ (table cells : List ℕ) (p : Progress) (u : Underway source base table₀ cells₀ table cells p) where
-    labels-grow : (q : Progress) (table′ cells′ : List ℕ) → Going source base table cells p q table′ cells′ → p .labels ≤ q .labels
+  module _ (table cells : List ℕ) (p : Progress) (u : Underway z source base table₀ cells₀ table cells p) where
+    labels-grow : (q : Progress) (table′ cells′ : List ℕ) → Going z source base table cells p q table′ cells′ → p .labels ≤ q .labels
     labels-grow q table′ cells′ g =
         let ns = lineOf (lineFrom source (p .at)) .names in
         let t = tableOf source table (p .labels) in
         let e = record-some (lineHere source p) (p .address) ns t (tableOf source table′ (q .labels)) (g .labels) in
         omega (arith, some-longer (lineHere source p) (p .address) ns t, ap length e, table-length source table (p .labels), table-length source table′ (q .labels))
 
-    goes-on : (q : Progress) (table′ cells′ : List ℕ) → Going source base table cells p q table′ cells′ → Underway source base table₀ cells₀ table′ cells′ q
+    goes-on : (q : Progress) (table′ cells′ : List ℕ) → Going z source base table cells p q table′ cells′ → Underway z source base table₀ cells₀ table′ cells′ q
     goes-on q table′ cells′ g =
         record {
           stands = g .stands;
@@ -85,13 +85,13 @@ module _ (source : Text) (base : ℕ) (table₀ cells₀ : List ℕ) where
           cells-past = unchanged-more (2 * p .lines) (2 * q .lines) cells₀ cells cells′ (omega (arith, g .lines)) (u .cells-past) (g .cells-past);
         }
 
-    lines-held : HoldsLines source base (putsOf source base cells (p .lines)) cells₀ cells
+    lines-held : HoldsLines z source base (putsOf source base cells (p .lines)) cells₀ cells
     lines-held =
         let n = puts-length source base cells (p .lines) in
         record { puts = rw n; kept = rw n (u .stands .kept); long = u .cells-past .long; past = rw n (u .cells-past .past) }
 
-    stops : (x : Answer Ruled) (r : Entered) (table′ cells′ : List ℕ) → Stopping source base table cells p x table′ cells′ → r ≡ entered base x
-        → FirstPassGives source base table₀ cells₀ r table′ cells′
+    stops : (x : Answer Ruled) (r : Entered) (table′ cells′ : List ℕ) → Stopping z source base table cells p x table′ cells′ → r ≡ entered base x
+        → FirstPassGives z source base table₀ cells₀ r table′ cells′
     stops x r table′ cells′ k e =
         record {
           answered = e ∙ ap (entered base) (sym (u .answer ∙ k .answer));
@@ -104,23 +104,23 @@ module _ (source : Text) (base : ℕ) (table₀ cells₀ : List ℕ) where
     done = rw (table-length source table (p .labels), puts-length source base cells (p .lines), u .stands .values)
 
     -- no line is left
-    pub at-last : length source < p .at → FirstPassGives source base table₀ cells₀ (doneAt base p) table cells
-    at-last h = stops _ (doneAt base p) table cells (ends-last source base table cells p (u .stands) h) done
+    pub at-last : length source < p .at → FirstPassGives z source base table₀ cells₀ (doneAt base p) table cells
+    at-last h = stops _ (doneAt base p) table cells (ends-last z source base table cells p (u .stands) h) done
 
     -- by what a line came to
-    module _ (x : Pace) (table′ cells′ : List ℕ) (d : Paced source base table cells p x table′ cells′) where
-      going : (q : Progress) → x ≡ On q → Going source base table cells p q table′ cells′
+    module _ (x : Pace) (table′ cells′ : List ℕ) (d : Paced z source base table cells p x table′ cells′) where
+      going : (q : Progress) → x ≡ On q → Going z source base table cells p q table′ cells′
       going q e = rw e at d
 
-      pub on-goes : (q : Progress) → x ≡ On q → Underway source base table₀ cells₀ table′ cells′ q
+      pub on-goes : (q : Progress) → x ≡ On q → Underway z source base table₀ cells₀ table′ cells′ q
       on-goes q e = goes-on q table′ cells′ (going q e)
 
       pub on-less : (q : Progress) → x ≡ On q → p .at ≤ length source → suc (length source) - q .at < suc (length source) - p .at
       on-less q e h = omega (arith, going q e .starts)
 
-      pub on-end : x ≡ End → FirstPassGives source base table₀ cells₀ (doneAt base p) table′ cells′
+      pub on-end : x ≡ End → FirstPassGives z source base table₀ cells₀ (doneAt base p) table′ cells′
       on-end e = stops _ (doneAt base p) table′ cells′ (rw e at d) done
 
-      pub on-refused : (n : ℕ) → x ≡ Refuses n → FirstPassGives source base table₀ cells₀ (Refused n (p .lines + 1)) table′ cells′
+      pub on-refused : (n : ℕ) → x ≡ Refuses n → FirstPassGives z source base table₀ cells₀ (Refused n (p .lines + 1)) table′ cells′
       unfolding entered
       on-refused n e = stops (refused n (suc (p .lines))) (Refused n (p .lines + 1)) table′ cells′ (rw e at d) (rw (add-one (p .lines)))

@@ -1,4 +1,4 @@
--- The first pass underway: where it stands, what is left of it, and what one line leaves. Assumes nothing.
+-- The first pass underway, by the sizes z: where it stands, what is left of it, and what one line leaves. Assumes nothing.
 use mathlib.Core.Path.{_≡_}
 use Prim.Native.Nat.{ℕ, suc, _+_, _*_, _≤_}
 use mathlib.Core.Bool.{false}
@@ -10,7 +10,7 @@ use Rattle.rules.specs.Text.{Text}
 use Rattle.rules.specs.Line.{SourceLine, lineOf}
 use Rattle.rules.specs.Label.{recordAll}
 use Rattle.rules.specs.Answer.{Answer, accepted, refused}
-use Rattle.rules.specs.Assemble.{Pass as Ruled, Put, isEnd, dataPlaces, firstPass}
+use Rattle.rules.specs.Assemble.{Sizes, Pass as Ruled, Put, isEnd, dataPlaces, firstPassBy}
 use Rattle.text.specs.Breaks.{lineNumber}
 use Rattle.outline.specs.Lines.{lineEnd, lineFrom, linesFrom}
 use Rattle.label.specs.Table.{cellOf, tableOf, Held}
@@ -45,20 +45,20 @@ abbrev pub passSoFar : Text → ℕ → List ℕ → List ℕ → Progress → R
 passSoFar source base table cells p = record { labels = tableOf source table (p .labels); puts = putsOf source base cells (p .lines) }
 
 -- what the whole pass comes to, and how far it goes: what is done, and then the lines that are left
-abbrev pub answerFrom : Text → ℕ → List ℕ → List ℕ → Progress → Answer Ruled
-answerFrom source base table cells p =
-    answerAfter (putsOf source base cells (p .lines)) (firstPass base (p .address) (tableOf source table (p .labels)) (linesLeft source p))
+abbrev pub answerFrom : Sizes → Text → ℕ → List ℕ → List ℕ → Progress → Answer Ruled
+answerFrom z source base table cells p =
+    answerAfter (putsOf source base cells (p .lines)) (firstPassBy z base (p .address) (tableOf source table (p .labels)) (linesLeft source p))
 
-abbrev pub stopFrom : Text → ℕ → List ℕ → List ℕ → Progress → Ruled
-stopFrom source base table cells p =
-    afterPuts (putsOf source base cells (p .lines)) (stopped base (p .address) (tableOf source table (p .labels)) (linesLeft source p))
+abbrev pub stopFrom : Sizes → Text → ℕ → List ℕ → List ℕ → Progress → Ruled
+stopFrom z source base table cells p =
+    afterPuts (putsOf source base cells (p .lines)) (stopped z base (p .address) (tableOf source table (p .labels)) (linesLeft source p))
 
 -- the arrays hold what is done, and have room for what is left: two labels and one line a line; the line ahead has the number after the
 -- lines done
-pub record Stands (source : Text) (base : ℕ) (table cells : List ℕ) (p : Progress) : Type 0 where
+pub record Stands (z : Sizes) (source : Text) (base : ℕ) (table cells : List ℕ) (p : Progress) : Type 0 where
   pub short : length source ≤ maxSource
   pub held : Held source table (p .labels)
-  pub kept : LinesIn source cells (p .lines)
+  pub kept : LinesIn z source cells (p .lines)
   pub address : p .address ≡ addressAt base cells (p .lines)
   pub number : p .at ≤ length source → lineNumber source (p .at) ≡ suc (p .lines)
   pub values : p .values ≡ length (flatMap dataPlaces (putsOf source base cells (p .lines)))
@@ -72,10 +72,10 @@ pub record Unchanged (n : ℕ) (xs ys : List ℕ) : Type 0 where
   pub past : drop n ys ≡ drop n xs
 
 -- one line on: its labels are recorded, and the whole comes to the same
-pub record Going (source : Text) (base : ℕ) (table cells : List ℕ) (p q : Progress) (table′ cells′ : List ℕ) : Type 0 where
-  pub stands : Stands source base table′ cells′ q
-  pub answer : answerFrom source base table cells p ≡ answerFrom source base table′ cells′ q
-  pub stop : stopFrom source base table cells p ≡ stopFrom source base table′ cells′ q
+pub record Going (z : Sizes) (source : Text) (base : ℕ) (table cells : List ℕ) (p q : Progress) (table′ cells′ : List ℕ) : Type 0 where
+  pub stands : Stands z source base table′ cells′ q
+  pub answer : answerFrom z source base table cells p ≡ answerFrom z source base table′ cells′ q
+  pub stop : stopFrom z source base table cells p ≡ stopFrom z source base table′ cells′ q
   pub starts : q .at ≡ suc (lineEnd source (p .at))
   pub lines : q .lines ≡ suc (p .lines)
   pub labels : recordAll (lineHere source p) (p .address) (lineOf (lineFrom source (p .at)) .names) (tableOf source table (p .labels)) ≡ some (tableOf source table′ (q .labels))
@@ -83,26 +83,26 @@ pub record Going (source : Text) (base : ℕ) (table cells : List ℕ) (p q : Pr
   pub cells-past : Unchanged (2 * q .lines) cells cells′
 
 -- the pass stops: the whole comes to x, and no further line is kept
-pub record Stopping (source : Text) (base : ℕ) (table cells : List ℕ) (p : Progress) (x : Answer Ruled) (table′ cells′ : List ℕ) : Type 0 where
-  pub answer : answerFrom source base table cells p ≡ x
-  pub labels : HoldsLabels source (stopFrom source base table cells p .labels) table table′
-  pub longer : p .labels ≤ length (stopFrom source base table cells p .labels)
-  pub puts : stopFrom source base table cells p .puts ≡ putsOf source base cells (p .lines)
+pub record Stopping (z : Sizes) (source : Text) (base : ℕ) (table cells : List ℕ) (p : Progress) (x : Answer Ruled) (table′ cells′ : List ℕ) : Type 0 where
+  pub answer : answerFrom z source base table cells p ≡ x
+  pub labels : HoldsLabels source (stopFrom z source base table cells p .labels) table table′
+  pub longer : p .labels ≤ length (stopFrom z source base table cells p .labels)
+  pub puts : stopFrom z source base table cells p .puts ≡ putsOf source base cells (p .lines)
   pub same : cells′ ≡ cells
 
-abbrev pub Paced : Text → ℕ → List ℕ → List ℕ → Progress → Pace → List ℕ → List ℕ → Type 0
-Paced source base table cells p (On q) table′ cells′ = Going source base table cells p q table′ cells′
-Paced source base table cells p End table′ cells′ = Stopping source base table cells p (accepted (passSoFar source base table cells p)) table′ cells′
-Paced source base table cells p (Refused n) table′ cells′ = Stopping source base table cells p (refused n (suc (p .lines))) table′ cells′
+abbrev pub Paced : Sizes → Text → ℕ → List ℕ → List ℕ → Progress → Pace → List ℕ → List ℕ → Type 0
+Paced z source base table cells p (On q) table′ cells′ = Going z source base table cells p q table′ cells′
+Paced z source base table cells p End table′ cells′ = Stopping z source base table cells p (accepted (passSoFar source base table cells p)) table′ cells′
+Paced z source base table cells p (Refused n) table′ cells′ = Stopping z source base table cells p (refused n (suc (p .lines))) table′ cells′
 
 -- a line is left
-pub record PassLineNeeds (source : Text) (base : ℕ) (table cells : List ℕ) (p : Progress) : Type 0 where
-  pub stands : Stands source base table cells p
+pub record PassLineNeeds (z : Sizes) (source : Text) (base : ℕ) (table cells : List ℕ) (p : Progress) : Type 0 where
+  pub stands : Stands z source base table cells p
   pub inside : p .at ≤ length source
 
 -- it is this line, with the next one at `next`, and does not end the pass
-pub record TakeLineNeeds (source : Text) (base : ℕ) (table cells : List ℕ) (p : Progress) (l : Line) (next : ℕ) : Type 0 where
-  pub needs : PassLineNeeds source base table cells p
+pub record TakeLineNeeds (z : Sizes) (source : Text) (base : ℕ) (table cells : List ℕ) (p : Progress) (l : Line) (next : ℕ) : Type 0 where
+  pub needs : PassLineNeeds z source base table cells p
   pub reads : ReadLineGives source (p .at) l
   pub goes-on : isEnd (taskAt source (l .task)) ≡ false
   pub ends : next ≡ suc (lineEnd source (p .at))

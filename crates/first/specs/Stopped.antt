@@ -1,4 +1,4 @@
--- What the first pass has recorded and kept when it stops, at its end or at a refusal. Assumes nothing.
+-- What the first pass, by the sizes z, has recorded and kept when it stops, at its end or at a refusal. Assumes nothing.
 use Prim.Native.Nat.{ℕ}
 use mathlib.Core.Bool.{true, false}
 use mathlib.Core.List.{List, [], _∷_}
@@ -8,7 +8,7 @@ use Rattle.rules.specs.Text.{Text}
 use Rattle.rules.specs.Line.{SourceLine, linesOf, Name, lineOf}
 use Rattle.rules.specs.Label.{Table, find, recorded, hasRoom, labelOf}
 use Rattle.rules.specs.Answer.{Answer, accepted, refused, refuseIf}
-use Rattle.rules.specs.Assemble.{Pass, Put, halt, full, next, step, checks}
+use Rattle.rules.specs.Assemble.{Sizes, Pass, Put, halt, full, next, stepBy, checks}
 
 -- labels recorded in order, up to the first for which there is no room
 unfoldable pub recordSome : SourceLine → ℕ → List Name → Table → Table
@@ -23,14 +23,14 @@ unfoldable pub before : Put → Pass → Pass
 before p q = record { labels = q .labels; puts = p ∷ q .puts }
 
 -- the labels recorded, and the lines taken, when the pass over these lines stops
-unfoldable pub stopped : ℕ → ℕ → Table → List SourceLine → Pass
-stopped base a t [] = only t
-stopped base a t (l ∷ ls) =
-    elim (step base a t l (lineOf (l .text))) [
+unfoldable pub stopped : Sizes → ℕ → ℕ → Table → List SourceLine → Pass
+stopped z base a t [] = only t
+stopped z base a t (l ∷ ls) =
+    elim (stepBy z base a t l (lineOf (l .text))) [
       | halt ↦ only t
       | full ↦ only (recordSome l a (lineOf (l .text) .names) t)
       | next a′ t′ ↦ elim (ltb a′ addressLimit) [
-        | true ↦ before (record { address = a; task = lineOf (l .text) .task }) (stopped base a′ t′ ls)
+        | true ↦ before (record { address = a; task = lineOf (l .text) .task }) (stopped z base a′ t′ ls)
         | false ↦ only t′
       ]
     ]
@@ -40,5 +40,5 @@ unfoldable pub orNothing : Answer Pass → Pass
 orNothing (accepted p) = p
 orNothing (refused n p) = only []
 
-unfoldable pub stoppedAt : ℕ → Text → Pass
-stoppedAt base s = orNothing (checks s (refuseIf (leb addressLimit base) 4 0 (accepted (stopped base base [] (linesOf s)))))
+unfoldable pub stoppedAt : Sizes → ℕ → Text → Pass
+stoppedAt z base s = orNothing (checks s (refuseIf (leb addressLimit base) 4 0 (accepted (stopped z base base [] (linesOf s)))))

@@ -6,6 +6,7 @@ use line::Line;
 use line::Names;
 use line::Task;
 ghost use mathlib.Core.Path.{_≡_};
+ghost use Rattle.rules.specs.Line.{size};
 ghost use Rattle.line.specs.Line.{TaskIn};
 ghost use Rattle.cells.specs.Sizes.{sizeOf};
 ghost use Rattle.first.specs.Pass.{Lent, FirstPassNeeds, FirstPassGives, EnterGives};
@@ -32,7 +33,7 @@ pub enum Entered {
 // By how much a task advances the address.
 fn size_of(source: &[u8], task: Task) -> u32
     requires { ⌜ TaskIn (now source) task ⌝ }
-    ensures { λ r. ⌜ r ≡ sizeOf (now (source .entry)) task ⌝ }
+    ensures { λ r. ⌜ r ≡ sizeOf size (now (source .entry)) task ⌝ }
 {
     match task {
         Task::Instruction(span) => {
@@ -104,8 +105,8 @@ fn take_line(
     line: Line,
     next: usize,
 ) -> Pace
-    requires { ⌜ TakeLineNeeds (now source) base (now table) (now cells) p line next ⌝ }
-    ensures { λ r. ⌜ Paced (now (source .entry)) base (now (table .entry)) (now (cells .entry)) p r (now (table .exit)) (now (cells .exit)) ⌝ }
+    requires { ⌜ TakeLineNeeds size (now source) base (now table) (now cells) p line next ⌝ }
+    ensures { λ r. ⌜ Paced size (now (source .entry)) base (now (table .entry)) (now (cells .entry)) p r (now (table .exit)) (now (cells .exit)) ⌝ }
 {
     let names = line.names;
     let task = line.task;
@@ -134,8 +135,8 @@ fn take_line(
 
 // The line that the pass stands before.
 fn pass_line(source: &[u8], base: u32, table: &mut [u32], cells: &mut [u32], p: Progress) -> Pace
-    requires { ⌜ PassLineNeeds (now source) base (now table) (now cells) p ⌝ }
-    ensures { λ r. ⌜ Paced (now (source .entry)) base (now (table .entry)) (now (cells .entry)) p r (now (table .exit)) (now (cells .exit)) ⌝ }
+    requires { ⌜ PassLineNeeds size (now source) base (now table) (now cells) p ⌝ }
+    ensures { λ r. ⌜ Paced size (now (source .entry)) base (now (table .entry)) (now (cells .entry)) p r (now (table .exit)) (now (cells .exit)) ⌝ }
 {
     let at = p.at;
     let o = outline::outline_line(source, at);
@@ -165,7 +166,7 @@ fn pass_of(base: u32, p: Progress) -> Entered
 // The first pass over a source that refusals 1 to 4 let pass; refusals 6 and 5 come by line.
 pub fn first_pass(source: &[u8], base: u32, table: &mut [u32], cells: &mut [u32]) -> Entered
     requires { ⌜ FirstPassNeeds (now source) base (now table) (now cells) ⌝ }
-    ensures { λ r. ⌜ FirstPassGives (now (source .entry)) base (now (table .entry)) (now (cells .entry)) r (now (table .exit)) (now (cells .exit)) ⌝ }
+    ensures { λ r. ⌜ FirstPassGives size (now (source .entry)) base (now (table .entry)) (now (cells .entry)) r (now (table .exit)) (now (cells .exit)) ⌝ }
 {
     let mut p = Progress {
         at: 0,

@@ -9,6 +9,7 @@ use lib.ListN.{length, take, drop, getD, set, drop-of-length-le}
 use lib.Seq.{drop-cons}
 use Rattle.rules.specs.Limits.{maxSource, maxLines}
 use Rattle.rules.specs.Text.{Text}
+use Rattle.rules.specs.Line.{size}
 use Rattle.rules.specs.Label.{Label}
 use Rattle.rules.specs.Answer.{accepted, andThen}
 use Rattle.rules.specs.Assemble.{over}
@@ -95,7 +96,7 @@ module _ {source : Text} {cells : List ℕ} {count : ℕ} (h : HoldsPass source 
   long = sorted .long ∙ table-length source cells count
 
   short : length source ≤ maxSource
-  short = within (h .base) source (h .pass) (h .passed) .short
+  short = within size (h .base) source (h .pass) (h .passed) .short
 
 -- ---- the loop over the rows
 -- what it keeps: the first k labels are written, and start before `from`; the others start there or later; and `line` is that of the place `at`

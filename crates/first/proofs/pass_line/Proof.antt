@@ -14,7 +14,7 @@ read-line-requires : tie.Need-read-line-requires
 read-line-requires c κs = ((c .outline-line) .ensures, (c .before .before .before .before .pre) .inside)
 
 returns : tie.Need-returns
-returns c = ends-here _ _ _ _ _ (c .before .before .before .before .before .before .before .pre) _ ((c .before .before .read-line) .ensures) (sym ((c .before .is-end) .ensures _) ∙ (c .if1) .taken)
+returns c = ends-here _ _ _ _ _ _ (c .before .before .before .before .before .before .before .pre) _ ((c .before .before .read-line) .ensures) (sym ((c .before .is-end) .ensures _) ∙ (c .if1) .taken)
 
 add-take-line : tie.Need-add-take-line
 add-take-line c = omega (arith, (c .before .before .before .before .before .outline-line) .ensures .ends, line-end-le ((c .before .before .before .before .before .before .before .before .before .args) .source .now) ((c .before .before .before .before .before .before .before .before .before .args) .p .at) ((c .before .before .before .before .before .before .before .before .before .pre) .inside), (c .before .before .before .before .before .before .before .before .before .pre) .stands .short)

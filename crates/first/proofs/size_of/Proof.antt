@@ -16,7 +16,7 @@ part-instruction-size-end : tie.Need-part-instruction-size-end
 part-instruction-size-end c = span-in (c .before .before .before .before .pre) ((c .before .task) .given .1) .inside
 
 returns : tie.Need-returns
-returns c = (c .instruction-size) .ensures ∙ ap (sizeOf _) (sym ((c .before .before .before .task) .given .1))
+returns c = (c .instruction-size) .ensures ∙ ap (sizeOf _ _) (sym ((c .before .before .before .task) .given .1))
 
 pub size-of-spec : {M : Type 1} → statement M
 size-of-spec =
