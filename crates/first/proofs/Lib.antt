@@ -1,3 +1,4 @@
+pub mod CallSizes
 pub mod Turns
 pub mod Naming
 pub mod Bounds

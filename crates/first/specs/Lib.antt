@@ -1,3 +1,4 @@
+pub mod Call
 pub mod Stopped
 pub mod Pass
 pub mod Names
