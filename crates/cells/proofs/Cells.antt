@@ -5,7 +5,7 @@ use Prim.Native.Nat.{ℕ, suc, _+_, _*_, _/_, _%_, _≤_, _<_}
 use native.Mathlib.Omega.{arith}
 use types.Run.{OneOf, miss}
 use denote.Enum.Declared.{tagOf}
-use lib.ListN.{length, set, drop, length-set}
+use lib.ListN.{length, set, drop, getD, length-set}
 use lib.Seq.{getD-set-same, getD-set-other, drop-set-lt}
 use Rattle.rules.specs.Limits.{maxSource}
 use Rattle.text.specs.declared.Span.{Span}
@@ -85,12 +85,14 @@ module _ (cells : List ℕ) (k head tail : ℕ) where
   pub with-past : drop (2 * suc k) (withLine cells k head tail) ≡ drop (2 * suc k) cells
   with-past = rw (drop-set-lt (2 * suc k) (set cells (2 * k) head) (2 * k + 1) tail (omega arith), drop-set-lt (2 * suc k) cells (2 * k) head (omega arith))
 
-  with-this : InCells cells k → keptAt (withLine cells k head tail) k ≡ keptBy head tail
-  with-this h =
+  -- read by whatever function of the two cells
+  pub with-this : {A : Type 0} (f : ℕ → ℕ → A) → InCells cells k → f (getD (withLine cells k head tail) (2 * k) 0) (getD (withLine cells k head tail) (2 * k + 1) 0) ≡ f head tail
+  with-this f h =
       rw (getD-set-same (set cells (2 * k) head) (2 * k + 1) tail 0 (rw length-set (omega arith)), getD-set-other (set cells (2 * k) head) (2 * k + 1) (2 * k) tail 0 (omega arith), getD-set-same cells (2 * k) head 0 (omega arith))
 
-  pub with-other : (j : ℕ) → (j ≡ k → ⊥) → keptAt (withLine cells k head tail) j ≡ keptAt cells j
-  with-other j h =
+  pub with-other : {A : Type 0} (f : ℕ → ℕ → A) (j : ℕ) → (j ≡ k → ⊥)
+      → f (getD (withLine cells k head tail) (2 * j) 0) (getD (withLine cells k head tail) (2 * j + 1) 0) ≡ f (getD cells (2 * j) 0) (getD cells (2 * j + 1) 0)
+  with-other f j h =
       rw (getD-set-other (set cells (2 * k) head) (2 * k + 1) (2 * j) tail 0 (omega arith), getD-set-other (set cells (2 * k) head) (2 * k + 1) (2 * j + 1) tail 0 (omega arith), getD-set-other cells (2 * k) (2 * j) head 0 (omega arith), getD-set-other cells (2 * k) (2 * j + 1) head 0 (omega arith))
 
 -- line k kept
@@ -98,4 +100,4 @@ abbrev pub withKept : List ℕ → ℕ → Kept → List ℕ
 withKept cells k r = withLine cells k (headCell r) (tailCell (r .task))
 
 pub with-back : (cells : List ℕ) (k : ℕ) (r : Kept) → InCells cells k → Fits r → keptAt (withKept cells k r) k ≡ r
-with-back cells k r h f = with-this cells k (headCell r) (tailCell (r .task)) h ∙ kept-back r f
+with-back cells k r h f = with-this cells k (headCell r) (tailCell (r .task)) keptBy h ∙ kept-back r f

@@ -11,7 +11,7 @@ use borrow.Author.Tests.{ltb-true, ltb-false}
 use Rattle.rules.specs.Text.{Text}
 use Rattle.rules.specs.Assemble.{Sizes, Put}
 use Rattle.line.specs.Line.{taskAt}
-use Rattle.cells.specs.Cells.{afterBy, headCell, tailCell, keptAt, InCells, Fits}
+use Rattle.cells.specs.Cells.{afterBy, headCell, tailCell, keptBy, keptAt, InCells, Fits}
 use Rattle.cells.specs.Puts.{addressAt, putAt, putsOf, Tells, LinesIn}
 use Rattle.cells.specs.declared.Kept.{Kept}
 use Rattle.cells.proofs.Cells.{with-length, with-other, withKept, with-back}
@@ -44,7 +44,7 @@ module _ (base : ℕ) (c d : List ℕ) where
 -- ---- line n kept after the n lines before it
 module _ (cells : List ℕ) (n : ℕ) (r : Kept) (room : InCells cells n) (fits : Fits r) where
   same-before : SameLines (withKept cells n r) cells n
-  same-before j l = with-other cells n (headCell r) (tailCell (r .task)) j (λ e. omega arith)
+  same-before j l = with-other cells n (headCell r) (tailCell (r .task)) keptBy j (λ e. omega arith)
 
   pub address-more : (base : ℕ) → addressAt base (withKept cells n r) (suc n) ≡ afterBy base (addressAt base cells n) r
   unfolding addressAt
