@@ -8,8 +8,8 @@ use native.Mathlib.Numerals.{add-one}
 use native.Mathlib.Omega.{arith}
 use borrow.Author.Tests.{lt-ltb, le-ltb}
 use lib.Dec.{ltb}
-use lib.ListN.{length, length-append, length-map, length-drop}
-use Rattle.rules.specs.Limits.{addressLimit, maxLines}
+use lib.ListN.{length, length-append, length-map, length-take, length-drop}
+use Rattle.rules.specs.Limits.{maxSource, addressLimit, maxLines}
 use Rattle.rules.specs.Text.{Text}
 use Rattle.rules.specs.Line.{SourceLine, Name, Task as SaidTask, skipped, end, org, noOrg, labelOnly, instruction, value, space, Line as Said, lineOf}
 use Rattle.rules.specs.Label.{Table}
@@ -18,7 +18,7 @@ use Rattle.rules.specs.Assemble.{Sizes, Pass as Ruled, Put, Place, addressAfter
 use Rattle.rules.proofs.Standing.{at-within}
 use Rattle.rules.proofs.Names.{Rising, over, next as behind, names-rise}
 use Rattle.text.specs.declared.Span.{Span}
-use Rattle.text.specs.Spans.{SpanIn}
+use Rattle.text.specs.Spans.{spanText, SpanIn}
 use Rattle.text.specs.Breaks.{lineNumber}
 use Rattle.text.proofs.Breaks.{number-same, number-next}
 use Rattle.outline.specs.Lines.{lineEnd, lineFrom, linesFrom}
@@ -30,7 +30,7 @@ use Rattle.label.proofs.Table.{table-length}
 use Rattle.line.specs.declared.Task.{Task}
 use Rattle.line.specs.declared.Task.the-variants.{Instruction}
 use Rattle.line.specs.declared.Line.{Line}
-use Rattle.line.specs.Line.{namesFor, namesAt, taskAt, nameFrom, TaskIn, ReadLineGives}
+use Rattle.line.specs.Line.{namesFor, namesAt, taskAt, nameFrom, ReadLineGives}
 use Rattle.cells.specs.declared.Kept.{Kept}
 use Rattle.cells.specs.Cells.{dataWords, afterBy, headCell, tailCell, InCells, Fits}
 use Rattle.cells.specs.Sizes.{sizeOf, Small}
@@ -41,7 +41,7 @@ use Rattle.cells.proofs.Tasks.{data-places, after-kept, task-fits}
 use Rattle.first.specs.Stopped.{recordSome, only, before, stopped}
 use Rattle.first.specs.Pass.{HoldsLabels}
 use Rattle.first.specs.Names.{RecordNamesNeeds, recordedOf, OnLine, no-name, and-name, Named, RecordNamesGives}
-use Rattle.first.specs.Progress.{afterPuts, answerAfter, lineHere, linesLeft, passSoFar, Stands, Going, Stopping, PassLineNeeds}
+use Rattle.first.specs.Progress.{afterPuts, answerAfter, lineHere, linesLeft, passSoFar, Stands, Going, Stopping, PassLineNeeds, Readable}
 use Rattle.first.specs.declared.Progress.{Progress}
 use Rattle.first.proofs.Turns.{asked, labelled, pass-halts, stop-halts, pass-full, stop-full, pass-out, stop-out, pass-more, stop-more}
 use Rattle.first.proofs.Naming.{record-some, record-from, some-from, some-most, some-longer, room-less, room-same, holds-same, recorded-full, recorded-count}
@@ -88,9 +88,13 @@ pub words-most : {w : ℕ} (t : Task) → w ≡ dataWords t → w ≤ 2
 unfolding dataPlaces
 words-most t e = omega (arith, data-places [] 0 t, data-most 0 (taskAt [] t))
 
--- an instruction's text lies in the source
-pub span-in : {source : Text} {t : Task} {s : Span} → TaskIn source t → t ≡ Instruction s → SpanIn source s
-span-in h e = rw e at h
+-- an instruction's text lies in the source, and is no longer
+module _ {source : Text} {table : List ℕ} {labels : ℕ} {t : Task} {s : Span} (h : Readable source table labels t) (e : t ≡ Instruction s) where
+  pub span-in : SpanIn source s
+  span-in = rw e at (h .within)
+
+  pub text-short : length (spanText source s) ≤ maxSource
+  text-short = simp (length-take, length-drop) (omega (arith, h .short, span-in))
 
 -- a line has at most two labels
 names-most : (source : Text) (l : Line) → length (namesAt source (l .names)) ≤ 2
@@ -206,92 +210,95 @@ module _ (z : Sizes) (source : Text) (base : ℕ) (table cells : List ℕ) (p : 
           let o = recorded-full (labelled (p .address) labels this) (sym e ∙ answered) in
           stopping (refused 6 (suc (p .lines))) now table′ (rw left (pass-full z base (p .address) labels this rest goes o)) (rw left (stop-full z base (p .address) labels this rest goes o)) stored longer
 
-      module _ (n : ℕ) (e : answer ≡ Count n) (m : ℕ) (sized : m ≡ sizeOf z source (l .task)) (later : ℕ)
-          (says-later : later ≡ afterBy base (p .address) (record { task = l .task; size = m })) where
-        abbrev keeps : Kept
-        keeps = record { task = l .task; size = m }
-
+      module _ (n : ℕ) (e : answer ≡ Count n) where
         all-recorded : (labelled (p .address) labels this ≡ some now) × (n ≡ length now)
         all-recorded =
             let k = recorded-count (labelled (p .address) labels this) n (sym e ∙ answered) in
             let t = record-some this (p .address) (lineOf (this .text) .names) labels (k .0) (k .1) in
             (k .1 ∙ ap some (sym t), k .2 ∙ ap length (sym t))
 
-        later-is : later ≡ addressAfter z base (p .address) (asked this)
-        later-is = says-later ∙ after-kept z source base (p .address) keeps sized ∙ ap (addressAfter z base (p .address)) task-said
+        pub sizing : Readable source table′ n (l .task)
+        sizing = record { within = r .task-in; held = rw (all-recorded .1) (stored .held); short = needs .stands .short }
 
-        -- the address is too high
-        pub stops-out : addressLimit ≤ later → Stopping z source base table cells p (refused 5 (suc (p .lines))) table′ cells
-        unfolding answerAfter
-        stops-out h =
-            let f = le-ltb (addressAfter z base (p .address) (asked this)) addressLimit (rw later-is at h) in
-            stopping (refused 5 (suc (p .lines))) now table′
-            (rw left (pass-out z base (p .address) labels this rest goes now (all-recorded .0) f))
-            (rw left (stop-out z base (p .address) labels this rest goes now (all-recorded .0) f))
-            stored longer
+        module _ (m : ℕ) (sized : m ≡ sizeOf z source (l .task)) (later : ℕ) (says-later : later ≡ afterBy base (p .address) (record { task = l .task; size = m })) where
+          abbrev keeps : Kept
+          keeps = record { task = l .task; size = m }
 
-        -- the line is taken
-        module _ (w : Small z) (h : later < addressLimit) where
-          fits-kept : Fits keeps
-          fits-kept = fits w m sized
+          later-is : later ≡ addressAfter z base (p .address) (asked this)
+          later-is = says-later ∙ after-kept z source base (p .address) keeps sized ∙ ap (addressAfter z base (p .address)) task-said
 
-          abbrev put : Put
-          put = record { address = p .address; task = asked this }
+          -- the address is too high
+          pub stops-out : addressLimit ≤ later → Stopping z source base table cells p (refused 5 (suc (p .lines))) table′ cells
+          unfolding answerAfter
+          stops-out h =
+              let f = le-ltb (addressAfter z base (p .address) (asked this)) addressLimit (rw later-is at h) in
+              stopping (refused 5 (suc (p .lines))) now table′
+              (rw left (pass-out z base (p .address) labels this rest goes now (all-recorded .0) f))
+              (rw left (stop-out z base (p .address) labels this rest goes now (all-recorded .0) f))
+              stored longer
 
-          abbrev cells′ : List ℕ
-          cells′ = withKept cells (p .lines) keeps
+          -- the line is taken
+          module _ (w : Small z) (h : later < addressLimit) where
+            fits-kept : Fits keeps
+            fits-kept = fits w m sized
 
-          in-limit : ltb (addressAfter z base (p .address) (asked this)) addressLimit ≡ true
-          in-limit = lt-ltb (addressAfter z base (p .address) (asked this)) addressLimit (rw later-is at h)
+            abbrev put : Put
+            put = record { address = p .address; task = asked this }
 
-          puts-now : putsOf source base cells′ (suc (p .lines)) ≡ puts ++ (put ∷ [])
-          puts-now = rw (← needs .stands .address, task-said) at (puts-more cells (p .lines) keeps in-cells fits-kept source base)
+            abbrev cells′ : List ℕ
+            cells′ = withKept cells (p .lines) keeps
 
-          held-now : tableOf source table′ n ≡ now
-          held-now = ap (tableOf source table′) (all-recorded .1) ∙ stored .rows
+            in-limit : ltb (addressAfter z base (p .address) (asked this)) addressLimit ≡ true
+            in-limit = lt-ltb (addressAfter z base (p .address) (asked this)) addressLimit (rw later-is at h)
 
-          -- where the pass then stands
-          abbrev there : Progress
-          there = record { at = suc (lineEnd source (p .at)); address = later; labels = n; values = p .values + dataWords (l .task); lines = suc (p .lines) }
+            puts-now : putsOf source base cells′ (suc (p .lines)) ≡ puts ++ (put ∷ [])
+            puts-now = rw (← needs .stands .address, task-said) at (puts-more cells (p .lines) keeps in-cells fits-kept source base)
 
-          rows-now : n + 2 * length rest ≤ p .labels + 2 * length (linesLeft source p)
-          rows-now =
-              let c = rw (names-said, length-map) at (names-most source l) in
-              omega (arith, ap length left, all-recorded .1, some-most this (p .address) (lineOf (this .text) .names) labels, c, table-length source table (p .labels))
+            held-now : tableOf source table′ n ≡ now
+            held-now = ap (tableOf source table′) (all-recorded .1) ∙ stored .rows
 
-          values-now : p .values + dataWords (l .task) ≡ length (flatMap dataPlaces (putsOf source base cells′ (suc (p .lines))))
-          values-now =
-              let w = rw task-said at (data-places source (p .address) (l .task)) in
-              rw (puts-now, flat-more dataPlaces puts put) (omega (arith, needs .stands .values, w))
+            -- where the pass then stands
+            abbrev there : Progress
+            there = record { at = suc (lineEnd source (p .at)); address = later; labels = n; values = p .values + dataWords (l .task); lines = suc (p .lines) }
 
-          stands-there : Stands z source base table′ cells′ there
-          stands-there =
-              record {
-                short = needs .stands .short;
-                held = rw (all-recorded .1) (stored .held);
-                kept = lines-more cells (p .lines) keeps in-cells fits-kept z source (needs .stands .kept) (record { within = r .task-in; sized = sized });
-                address = says-later ∙ rw (needs .stands .address) (sym (address-more cells (p .lines) keeps in-cells fits-kept base));
-                number = λ h. number-next source (p .at) (omega (arith, length-drop (p .at) source)) ∙ ap suc number;
-                values = values-now;
-                rows = room-less (n + 2 * length rest) rows-now (room-same table′ (stored .long) (needs .stands .rows));
-                few = omega (arith, ap length left, needs .stands .few);
-                room = omega (arith, ap length left, needs .stands .room, with-length cells (p .lines) (headCell keeps) (tailCell (l .task)));
-              }
+            rows-now : n + 2 * length rest ≤ p .labels + 2 * length (linesLeft source p)
+            rows-now =
+                let c = rw (names-said, length-map) at (names-most source l) in
+                omega (arith, ap length left, all-recorded .1, some-most this (p .address) (lineOf (this .text) .names) labels, c, table-length source table (p .labels))
 
-          going : Going z source base table cells p there table′ cells′
-          going =
-              record {
-                stands = stands-there;
-                answer = rw (left, pass-more z base (p .address) labels this rest goes now (all-recorded .0) in-limit, answer-more puts put, ← later-is, ← puts-now, ← held-now);
-                stop = rw (left, stop-more z base (p .address) labels this rest goes now (all-recorded .0) in-limit, after-before puts put, ← later-is, ← puts-now, ← held-now);
-                starts = refl;
-                lines = refl;
-                labels = rw held-now (all-recorded .0);
-                table-past = rw (all-recorded .1) (record { long = stored .long; past = stored .past });
-                cells-past = record { long = with-length cells (p .lines) (headCell keeps) (tailCell (l .task)); past = with-past cells (p .lines) (headCell keeps) (tailCell (l .task)) };
-              }
+            values-now : p .values + dataWords (l .task) ≡ length (flatMap dataPlaces (putsOf source base cells′ (suc (p .lines))))
+            values-now =
+                let w = rw task-said at (data-places source (p .address) (l .task)) in
+                rw (puts-now, flat-more dataPlaces puts put) (omega (arith, needs .stands .values, w))
 
-          -- as the code says it
-          pub goes-on : (next more : ℕ) (after : List ℕ) → next ≡ suc (lineEnd source (p .at)) → more ≡ dataWords (l .task) → after ≡ cells′
-              → Going z source base table cells p (record { at = next; address = later; labels = n; values = p .values + more; lines = p .lines + 1 }) table′ after
-          goes-on next more after d e f = rw (d, e, f, add-one (p .lines)) going
+            stands-there : Stands z source base table′ cells′ there
+            stands-there =
+                record {
+                  short = needs .stands .short;
+                  held = rw (all-recorded .1) (stored .held);
+                  kept = lines-more cells (p .lines) keeps in-cells fits-kept z source (needs .stands .kept) (record { within = r .task-in; sized = sized });
+                  address = says-later ∙ rw (needs .stands .address) (sym (address-more cells (p .lines) keeps in-cells fits-kept base));
+                  number = λ h. number-next source (p .at) (omega (arith, length-drop (p .at) source)) ∙ ap suc number;
+                  values = values-now;
+                  rows = room-less (n + 2 * length rest) rows-now (room-same table′ (stored .long) (needs .stands .rows));
+                  few = omega (arith, ap length left, needs .stands .few);
+                  room = omega (arith, ap length left, needs .stands .room, with-length cells (p .lines) (headCell keeps) (tailCell (l .task)));
+                }
+
+            going : Going z source base table cells p there table′ cells′
+            going =
+                record {
+                  stands = stands-there;
+                  answer = rw (left, pass-more z base (p .address) labels this rest goes now (all-recorded .0) in-limit, answer-more puts put, ← later-is, ← puts-now, ← held-now);
+                  stop = rw (left, stop-more z base (p .address) labels this rest goes now (all-recorded .0) in-limit, after-before puts put, ← later-is, ← puts-now, ← held-now);
+                  starts = refl;
+                  lines = refl;
+                  labels = rw held-now (all-recorded .0);
+                  table-past = rw (all-recorded .1) (record { long = stored .long; past = stored .past });
+                  cells-past = record { long = with-length cells (p .lines) (headCell keeps) (tailCell (l .task)); past = with-past cells (p .lines) (headCell keeps) (tailCell (l .task)) };
+                }
+
+            -- as the code says it
+            pub goes-on : (next more : ℕ) (after : List ℕ) → next ≡ suc (lineEnd source (p .at)) → more ≡ dataWords (l .task) → after ≡ cells′
+                → Going z source base table cells p (record { at = next; address = later; labels = n; values = p .values + more; lines = p .lines + 1 }) table′ after
+            goes-on next more after d e f = rw (d, e, f, add-one (p .lines)) going

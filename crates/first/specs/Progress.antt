@@ -15,7 +15,8 @@ use Rattle.text.specs.Breaks.{lineNumber}
 use Rattle.outline.specs.Lines.{lineEnd, lineFrom, linesFrom}
 use Rattle.label.specs.Table.{cellOf, tableOf, Held}
 use Rattle.line.specs.declared.Line.{Line}
-use Rattle.line.specs.Line.{taskAt, ReadLineGives}
+use Rattle.line.specs.Line.{taskAt, TaskIn, ReadLineGives}
+use Rattle.line.specs.declared.Task.{Task}
 use Rattle.cells.specs.Puts.{addressAt, putsOf, LinesIn}
 use Rattle.first.specs.Stopped.{stopped}
 use Rattle.first.specs.Pass.{HoldsLabels, RoomFor}
@@ -106,6 +107,12 @@ pub record TakeLineNeeds (z : Sizes) (source : Text) (base : ℕ) (table cells :
   pub reads : ReadLineGives source (p .at) l
   pub goes-on : isEnd (taskAt source (l .task)) ≡ false
   pub ends : next ≡ suc (lineEnd source (p .at))
+
+-- a task of the source can be read, with the labels so far
+pub record Readable (source : Text) (table : List ℕ) (labels : ℕ) (task : Task) : Type 0 where
+  pub within : TaskIn source task
+  pub held : Held source table labels
+  pub short : length source ≤ maxSource
 
 -- the answer of a pass that is done
 abbrev pub doneAt : ℕ → Progress → Entered

@@ -1,4 +1,5 @@
 // The first pass: labels recorded, data words counted, lines kept, refusals 4, 6 and 5; and `enter`, which other calls go in by.
+// `manual` says whose sizes it goes by: the manual's of W-207, or else paper 01's.
 use answer::Answer;
 use cells::Kept;
 use label::Recorded;
@@ -6,12 +7,16 @@ use line::Line;
 use line::Names;
 use line::Task;
 ghost use mathlib.Core.Path.{_≡_};
-ghost use Rattle.rules.specs.Line.{size};
-ghost use Rattle.line.specs.Line.{TaskIn};
+ghost use Prim.Native.Nat.{_≤_};
+ghost use lib.ListN.{length};
+ghost use Rattle.rules.specs.Limits.{maxSource};
+ghost use Rattle.rules.specs.Line.{instructionOf};
+ghost use Rattle.label.specs.Table.{Held};
 ghost use Rattle.cells.specs.Sizes.{sizeOf};
+ghost use Rattle.first.specs.Call.{sizesBy};
 ghost use Rattle.first.specs.Pass.{Lent, FirstPassNeeds, FirstPassGives, EnterGives};
 ghost use Rattle.first.specs.Names.{RecordNamesNeeds, RecordNamesGives};
-ghost use Rattle.first.specs.Progress.{Paced, PassLineNeeds, TakeLineNeeds, doneAt};
+ghost use Rattle.first.specs.Progress.{Paced, PassLineNeeds, Readable, TakeLineNeeds, doneAt};
 
 // What the pass leaves, with the labels in the table and the lines in the cells: the base, how many labels are recorded, how
 // many data words there are, and how many lines are read.
@@ -30,16 +35,28 @@ pub enum Entered {
 
 // ---- One line.
 
+// By how much the instruction whose text is `t` advances the address. The manual's encoder says it of any address and labels.
+fn text_size(manual: bool, source: &[u8], table: &[u32], labels: usize, t: &[u8]) -> u32
+    requires { ⌜ Held (now source) (now table) labels × (length (now t) ≤ maxSource) ⌝ }
+    ensures { λ r. ⌜ r ≡ sizesBy manual (instructionOf (now (t .entry))) ⌝ }
+{
+    if manual {
+        let code = encode_manual::encode_manual(source, table, labels, 0, t);
+        return encode_manual::code_size(code);
+    }
+    instruction::instruction_size(t)
+}
+
 // By how much a task advances the address.
-fn size_of(source: &[u8], task: Task) -> u32
-    requires { ⌜ TaskIn (now source) task ⌝ }
-    ensures { λ r. ⌜ r ≡ sizeOf size (now (source .entry)) task ⌝ }
+fn size_of(manual: bool, source: &[u8], table: &[u32], labels: usize, task: Task) -> u32
+    requires { ⌜ Readable (now source) (now table) labels task ⌝ }
+    ensures { λ r. ⌜ r ≡ sizeOf (sizesBy manual) (now (source .entry)) task ⌝ }
 {
     match task {
         Task::Instruction(span) => {
             let a = span.start;
             let b = span.end;
-            instruction::instruction_size(&source[a..b])
+            text_size(manual, source, table, labels, &source[a..b])
         }
         Task::Value(n, _) => n,
         Task::Space(n) => n,
@@ -97,6 +114,7 @@ enum Pace {
 
 // A line that is not END, with the next one at `next`: 6 before 5.
 fn take_line(
+    manual: bool,
     source: &[u8],
     base: u32,
     table: &mut [u32],
@@ -105,8 +123,8 @@ fn take_line(
     line: Line,
     next: usize,
 ) -> Pace
-    requires { ⌜ TakeLineNeeds size (now source) base (now table) (now cells) p line next ⌝ }
-    ensures { λ r. ⌜ Paced size (now (source .entry)) base (now (table .entry)) (now (cells .entry)) p r (now (table .exit)) (now (cells .exit)) ⌝ }
+    requires { ⌜ TakeLineNeeds (sizesBy manual) (now source) base (now table) (now cells) p line next ⌝ }
+    ensures { λ r. ⌜ Paced (sizesBy manual) (now (source .entry)) base (now (table .entry)) (now (cells .entry)) p r (now (table .exit)) (now (cells .exit)) ⌝ }
 {
     let names = line.names;
     let task = line.task;
@@ -116,7 +134,7 @@ fn take_line(
     };
     let kept = Kept {
         task,
-        size: size_of(source, task),
+        size: size_of(manual, source, table, labels, task),
     };
     let after = cells::address_after(kept, base, address);
     if rules::ADDRESS_LIMIT as u64 <= after {
@@ -134,9 +152,16 @@ fn take_line(
 }
 
 // The line that the pass stands before.
-fn pass_line(source: &[u8], base: u32, table: &mut [u32], cells: &mut [u32], p: Progress) -> Pace
-    requires { ⌜ PassLineNeeds size (now source) base (now table) (now cells) p ⌝ }
-    ensures { λ r. ⌜ Paced size (now (source .entry)) base (now (table .entry)) (now (cells .entry)) p r (now (table .exit)) (now (cells .exit)) ⌝ }
+fn pass_line(
+    manual: bool,
+    source: &[u8],
+    base: u32,
+    table: &mut [u32],
+    cells: &mut [u32],
+    p: Progress,
+) -> Pace
+    requires { ⌜ PassLineNeeds (sizesBy manual) (now source) base (now table) (now cells) p ⌝ }
+    ensures { λ r. ⌜ Paced (sizesBy manual) (now (source .entry)) base (now (table .entry)) (now (cells .entry)) p r (now (table .exit)) (now (cells .exit)) ⌝ }
 {
     let at = p.at;
     let o = outline::outline_line(source, at);
@@ -146,7 +171,7 @@ fn pass_line(source: &[u8], base: u32, table: &mut [u32], cells: &mut [u32], p: 
     if line::is_end(task) {
         return Pace::End;
     }
-    take_line(source, base, table, cells, p, line, end + 1)
+    take_line(manual, source, base, table, cells, p, line, end + 1)
 }
 
 // ---- All lines.
@@ -164,9 +189,15 @@ fn pass_of(base: u32, p: Progress) -> Entered
 }
 
 // The first pass over a source that refusals 1 to 4 let pass; refusals 6 and 5 come by line.
-pub fn first_pass(source: &[u8], base: u32, table: &mut [u32], cells: &mut [u32]) -> Entered
+pub fn first_pass(
+    manual: bool,
+    source: &[u8],
+    base: u32,
+    table: &mut [u32],
+    cells: &mut [u32],
+) -> Entered
     requires { ⌜ FirstPassNeeds (now source) base (now table) (now cells) ⌝ }
-    ensures { λ r. ⌜ FirstPassGives size (now (source .entry)) base (now (table .entry)) (now (cells .entry)) r (now (table .exit)) (now (cells .exit)) ⌝ }
+    ensures { λ r. ⌜ FirstPassGives (sizesBy manual) (now (source .entry)) base (now (table .entry)) (now (cells .entry)) r (now (table .exit)) (now (cells .exit)) ⌝ }
 {
     let mut p = Progress {
         at: 0,
@@ -176,7 +207,7 @@ pub fn first_pass(source: &[u8], base: u32, table: &mut [u32], cells: &mut [u32]
         lines: 0,
     };
     while p.at <= source.len() {
-        match pass_line(source, base, table, cells, p) {
+        match pass_line(manual, source, base, table, cells, p) {
             Pace::On(q) => {
                 p = q;
             }
@@ -191,7 +222,7 @@ pub fn first_pass(source: &[u8], base: u32, table: &mut [u32], cells: &mut [u32]
     pass_of(base, p)
 }
 
-// Refusals 1 to 4, then the first pass: refusals 6 and 5, or what it leaves in the table and the cells.
+// Refusals 1 to 4, then the first pass by 01's sizes: refusals 6 and 5, or what it leaves in the table and the cells.
 pub fn enter(source: &[u8], base: u32, table: &mut [u32], cells: &mut [u32]) -> Entered
     requires { ⌜ Lent (now source) (now table) (now cells) ⌝ }
     ensures { λ r. ⌜ EnterGives (now (source .entry)) base (now (table .entry)) (now (cells .entry)) r (now (table .exit)) (now (cells .exit)) ⌝ }
@@ -202,5 +233,5 @@ pub fn enter(source: &[u8], base: u32, table: &mut [u32], cells: &mut [u32]) -> 
     if rules::ADDRESS_LIMIT <= base {
         return Entered::Refused(4, 0);
     }
-    first_pass(source, base, table, cells)
+    first_pass(false, source, base, table, cells)
 }

@@ -2,17 +2,17 @@
 use Prim.Native.Nat.{suc, _-_}
 use native.Mathlib.Omega.{arith}
 use lib.ListN.{length}
-use Rattle.rules.specs.Line.{size}
+use Rattle.first.specs.Call.{sizesBy}
 use Rattle.first.proofs.Underway.{Underway, begins, at-last, on-goes, on-less, on-end, on-refused}
 use borrow.Author.Needs.{needs}
 use Rattle.first.proofs.first_pass.Statement.{statement}
 use Rattle.first.proofs.first_pass.Tie as tie
 
 abbrev Inv-loop : tie.InvT-loop
-Inv-loop source base table₀ cells₀ p₀ table cells p = Underway size source base table₀ cells₀ table cells p
+Inv-loop manual source base table₀ cells₀ p₀ table cells p = Underway (sizesBy manual) source base table₀ cells₀ table cells p
 
 abbrev μ-loop : tie.MeasureT-loop
-μ-loop source base table₀ cells₀ p₀ table cells p = suc (length source) - p .at
+μ-loop manual source base table₀ cells₀ p₀ table cells p = suc (length source) - p .at
 
 loop-holds : tie.Need-loop-holds Inv-loop μ-loop
 loop-holds c = begins _ _ _ _ _ (c .before .before .before .pre)
@@ -29,8 +29,8 @@ loop-again c = on-goes _ _ _ _ _ _ _ _ ((c .before .before .before .before .befo
 returns : tie.Need-returns Inv-loop μ-loop
 returns c = rw ((c .pass-of) .ensures) (on-end _ _ _ _ _ _ _ _ ((c .before .before .before .before .before .before .before .before .before .before .before .before .loop) .inv) _ _ _ ((c .before .before .before .before .before .before .before .pass-line) .ensures) ((c .before .enum-told) .given .1))
 
-add-t15 : tie.Need-add-t15 Inv-loop μ-loop
-add-t15 c = omega (arith, (c .before .before .before .before .before .before .before .before .before .before .before .before .before .loop) .inv .stands .few)
+add-t16 : tie.Need-add-t16 Inv-loop μ-loop
+add-t16 c = omega (arith, (c .before .before .before .before .before .before .before .before .before .before .before .before .before .loop) .inv .stands .few)
 
 returns-2 : tie.Need-returns-2 Inv-loop μ-loop
 returns-2 c = on-refused _ _ _ _ _ _ _ _ ((c .before .before .before .before .before .before .before .before .before .before .before .before .before .loop) .inv) _ _ _ ((c .before .before .before .before .before .before .before .before .pass-line) .ensures) _ ((c .before .before .n) .given .1)
@@ -55,7 +55,7 @@ first-pass-spec =
     (λ c. search needs)
     returns
     (λ c. search needs)
-    add-t15
+    add-t16
     (λ c. search needs)
     (λ c. search needs)
     returns-2
