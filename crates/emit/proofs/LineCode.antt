@@ -13,7 +13,7 @@ use Rattle.rules.specs.Text.{Text}
 use Rattle.rules.specs.Line.{instructionOf}
 use Rattle.rules.specs.Label.{Table}
 use Rattle.rules.specs.Encode.{encode}
-use Rattle.rules.specs.Assemble.{Place, Slices, placesAt, dataContents, dataPlaces, codeContentsBy, codePlacesBy, codePlaces}
+use Rattle.rules.specs.Assemble.{Place, Slices, placesAt, dataContents, dataPlaces, Encoder, codeContentsBy, codePlacesBy}
 use Rattle.text.specs.declared.Span.{Span}
 use Rattle.text.specs.Spans.{spanText, SpanIn}
 use Rattle.line.specs.Line.{TaskIn}
@@ -21,6 +21,7 @@ use Rattle.line.specs.declared.Task.{Task}
 use Rattle.line.specs.declared.Task.the-variants.{Skipped, End, Org, NoOrg, LabelOnly, Instruction, Value, Space}
 use Rattle.line.proofs.Task.{the-type}
 use Rattle.cells.specs.Cells.{dataWords}
+use Rattle.first.specs.Call.{encoderBy}
 use Rattle.encode.specs.Code.{codeOf, placesOf, codeLength}
 use Rattle.encode.specs.Near.{Near}
 use Rattle.encode.specs.declared.Code.{Code}
@@ -56,21 +57,21 @@ abbrev pub NoInstruction : Task → Type 0
 NoInstruction task = OneOf (0 ∷ 1 ∷ 2 ∷ 3 ∷ 4 ∷ 6 ∷ 7 ∷ []) (tagOf the-type task)
 
 module _ (t : Table) (source : Text) (a : ℕ) where
-  pub no-instruction : (task : Task) → NoInstruction task → codePlaces t (putOf source a task) ≡ []
+  pub no-instruction : (e : Encoder) (task : Task) → NoInstruction task → codePlacesBy e t (putOf source a task) ≡ []
   unfolding codePlacesBy codeContentsBy placesAt
-  no-instruction Skipped h = refl
-  no-instruction End h = refl
-  no-instruction (Org v) h = refl
-  no-instruction NoOrg h = refl
-  no-instruction LabelOnly h = refl
-  no-instruction (Instruction s) h = absurd (miss (0 ∷ 1 ∷ 2 ∷ 3 ∷ 4 ∷ 6 ∷ 7 ∷ []) 5 tt h)
-  no-instruction (Value n v) h = refl
-  no-instruction (Space n) h = refl
+  no-instruction e Skipped h = refl
+  no-instruction e End h = refl
+  no-instruction e (Org v) h = refl
+  no-instruction e NoOrg h = refl
+  no-instruction e LabelOnly h = refl
+  no-instruction e (Instruction s) h = absurd (miss (0 ∷ 1 ∷ 2 ∷ 3 ∷ 4 ∷ 6 ∷ 7 ∷ []) 5 tt h)
+  no-instruction e (Value n v) h = refl
+  no-instruction e (Space n) h = refl
 
-  pub instruction-places : (task : Task) (s : Span) (r : Code) → task ≡ Instruction s → r ≡ codeOf (encode t a (instructionOf (spanText source s)))
-      → placesOf a r ≡ codePlaces t (putOf source a task)
+  pub instruction-places : {manual : Bool} → manual ≡ false → (task : Task) (s : Span) (r : Code) → task ≡ Instruction s
+      → r ≡ codeOf (encode t a (instructionOf (spanText source s))) → placesOf a r ≡ codePlacesBy (encoderBy manual) t (putOf source a task)
   unfolding codePlacesBy codeContentsBy
-  instruction-places task s r e f = rw (e, f) (encode-places t a (instructionOf (spanText source s)))
+  instruction-places m task s r e f = rw (m, e, f) (encode-places t a (instructionOf (spanText source s)))
 
 -- ---- an instruction's text
 module _ (source : Text) (task : Task) (s : Span) (e : task ≡ Instruction s) where
@@ -78,19 +79,19 @@ module _ (source : Text) (task : Task) (s : Span) (e : task ≡ Instruction s) w
   span-in h = rw e at h
 
   -- it can be encoded
-  pub instruction-near : {table : List ℕ} {labels : ℕ} {turn : Turn} {x : Slices} → EncodeTaskNeeds source table labels turn task x
+  pub instruction-near : {manual : Bool} {codes : List ℕ} {k : ℕ} {table : List ℕ} {labels : ℕ} {turn : Turn} {x : Slices} → EncodeTaskNeeds manual codes k source table labels turn task x
       → Near source table labels (turn .address) × (length (spanText source s) ≤ maxSource)
   instruction-near h =
       let i = span-in (h .within) in
       (h .near, simp (length-take, length-drop) (omega (arith, h .short, i)))
 
 -- ---- room for words, and words taken
-module _ (code d : Code) (e : code ≡ d) where
-  pub room-for : (n : ℕ) (x : Slices) → Room (n + codeLength code) x → Room (n + codeLength d) x
-  room-for n x h = rw e at h
+module _ {A : Type 0} {code d : A} (e : code ≡ d) where
+  pub room-for : (f : A → ℕ) (n : ℕ) (x : Slices) → Room (n + f code) x → Room (n + f d) x
+  room-for f n x h = rw e at h
 
-  pub taken-code : (n a : ℕ) (x : Slices) (r : ℕ) (x′ : Slices) → Taken true n (placesOf a d) x r x′ → Taken true n (placesOf a code) x r x′
-  taken-code n a x r x′ h = rw e h
+  pub taken-code : (f : A → List Place) (n : ℕ) (x : Slices) (r : ℕ) (x′ : Slices) → Taken true n (f d) x r x′ → Taken true n (f code) x r x′
+  taken-code f n x r x′ h = rw e h
 
 pub value-room : (task : Task) (n v : ℕ) (write : Bool) (m : ℕ) (x : Slices) → task ≡ Value n v → RoomIf write (m + dataWords task) x → RoomIf write (m + 2) x
 value-room task n v write m x e h = rw e at h

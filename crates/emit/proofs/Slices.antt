@@ -1,8 +1,7 @@
 -- Places put into the three slices: the laws of stores, for all three at once. Assumes nothing.
-use mathlib.Core.Path.{_≡_, refl, ap, _∙_}
-use mathlib.Core.List.{List, [], _∷_, _++_, map, map-append}
+use mathlib.Core.Path.{_≡_, refl, sym, ap, _∙_}
+use mathlib.Core.List.{List, [], _++_, map, map-append}
 use Prim.Native.Nat.{ℕ, _+_, _-_, _≤_}
-use native.Mathlib.Numerals.{add-one}
 use lib.ListN.{length, take, drop, length-map}
 use lib.Seq.{sets, length-sets}
 use borrow.Rule.Slice.PartMut.{putMid}
@@ -42,10 +41,9 @@ pub put-none : (n : ℕ) (x : Slices) → putFrom n [] x ≡ x
 unfolding putFrom
 put-none n x = refl
 
--- one place, then another
-pub put-two-places : (p q : Place) (n : ℕ) (x x₁ x₂ : Slices) → x₁ ≡ putFrom n (p ∷ []) x → x₂ ≡ putFrom (n + 1) (q ∷ []) x₁ → x₂ ≡ putFrom n (p ∷ q ∷ []) x
-unfolding putFrom
-put-two-places p q n x x₁ x₂ e f = f ∙ rw (e, add-one n)
+-- some places, then more
+pub put-both : (l k : List Place) (n : ℕ) (x x₁ x₂ : Slices) → x₁ ≡ putFrom n l x → x₂ ≡ putFrom (n + length l) k x₁ → x₂ ≡ putFrom n (l ++ k) x
+put-both l k n x x₁ x₂ e f = f ∙ rw e (sym (put-append l k n x))
 
 -- ---- the slices keep their lengths
 pub record SameLengths (x x′ : Slices) : Type 0 where

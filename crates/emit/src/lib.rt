@@ -1,20 +1,26 @@
 // The second pass: the words of the data and of the instructions, counted or written into three lent slices.
-// It goes by the lines that the first pass kept; only an instruction's text is read again.
+// It goes by the lines that the first pass kept; only an instruction's text is read again, in the manual's call by `codes`.
 use encode::Code;
+use encode_manual::ManualCode;
 use first::Pass;
 use line::Task;
 ghost use mathlib.Core.Path.{_≡_};
 ghost use mathlib.Core.Bool.{true, cond};
 ghost use mathlib.Core.List.{_∷_, []};
-ghost use Prim.Native.Nat.{_+_, _<_};
+ghost use Prim.Native.Nat.{_+_, _/_, _%_, _<_};
 ghost use lib.ListN.{length};
 ghost use Rattle.rules.specs.Limits.{addressLimit};
 ghost use Rattle.rules.specs.Text.{Text};
-ghost use Rattle.rules.specs.Assemble.{place, slices, holding, dataPlaces, codePlaces, secondPass};
+ghost use Rattle.rules.specs.Assemble.{place, slices, holding, dataPlaces, codePlacesBy, secondPassBy};
 ghost use Rattle.label.specs.Table.{tableOf};
+ghost use Rattle.first.specs.Call.{encoderBy};
 ghost use Rattle.first.specs.Pass.{passIn};
 ghost use Rattle.encode.specs.Code.{placesOf, codeLength};
+ghost use Rattle.encode_manual.specs.Code.{placesOf as manualPlaces};
+ghost use Rattle.emit.specs.Codes.{manualLength};
 ghost use Rattle.emit.specs.Emit.{wanted, putFrom, Room, RoomIf, Taken, firstWords, secondWords, putOf, TakeValueNeeds, EncodeTaskNeeds, EmitWordsNeeds};
+
+pub mod codes; // codes.rt: the codes of the manual's call, looked for a fault and kept
 
 // ---- Words put into the slices.
 
@@ -79,6 +85,60 @@ fn put_code(
         Code::Label(w, x) => {
             put_two(addresses, words, marks, n, address, w, x, 1);
             n + 2
+        }
+    }
+}
+
+// Three words of a line: the second and third are the halves of a long, each with its mark.
+fn put_three(
+    addresses: &mut [u32],
+    words: &mut [u16],
+    marks: &mut [u8],
+    n: usize,
+    address: u32,
+    word: u16,
+    long: u32,
+    high: u8,
+    low: u8,
+)
+    requires { ⌜ (address < addressLimit) × Room (n + 3) (slices (now addresses) (now words) (now marks)) ⌝ }
+    ensures { λ _. ⌜ slices (now (addresses .exit)) (now (words .exit)) (now (marks .exit)) ≡ putFrom n (place address word 0 ∷ place (address + 2) (long / 65536) high ∷ place (address + 4) (long % 65536) low ∷ []) (slices (now (addresses .entry)) (now (words .entry)) (now (marks .entry))) ⌝ }
+{
+    let second = opcode::word::high_word(long);
+    let third = opcode::word::low_word(long);
+    put_two(addresses, words, marks, n, address, word, second, high);
+    put(addresses, words, marks, n + 2, address + 4, third, low);
+}
+
+// The words of a code of the manual's call, from place n on; the place after them. A label's address has marks 2 and 3.
+fn put_manual(
+    addresses: &mut [u32],
+    words: &mut [u16],
+    marks: &mut [u8],
+    n: usize,
+    address: u32,
+    code: ManualCode,
+) -> usize
+    requires { ⌜ (address < addressLimit) × Room (n + manualLength code) (slices (now addresses) (now words) (now marks)) ⌝ }
+    ensures { λ r. ⌜ Taken true n (manualPlaces address code) (slices (now (addresses .entry)) (now (words .entry)) (now (marks .entry))) r (slices (now (addresses .exit)) (now (words .exit)) (now (marks .exit))) ⌝ }
+{
+    match code {
+        ManualCode::Fault(_, _) => n,
+        ManualCode::Word(w) => {
+            put(addresses, words, marks, n, address, w, 0);
+            n + 1
+        }
+        ManualCode::Value(w, v) => {
+            put_two(addresses, words, marks, n, address, w, v, 0);
+            n + 2
+        }
+        ManualCode::Long(w, v) => {
+            put_three(addresses, words, marks, n, address, w, v, 0, 0);
+            n + 3
+        }
+        ManualCode::Address(w, x) => {
+            put_three(addresses, words, marks, n, address, w, x, 2, 3);
+            n + 3
         }
     }
 }
@@ -170,8 +230,12 @@ fn take_value(
     )
 }
 
-// The words of a line's instruction, encoded from its text into the rest of the slices, after the data words; how many there are then.
+// The words of line k's instruction, encoded from its text, or as they are kept, into the rest of the slices, after the data
+// words; how many there are then.
 fn encode_task(
+    manual: bool,
+    codes: &[u32],
+    k: usize,
     source: &[u8],
     table: &[u32],
     labels: usize,
@@ -181,9 +245,13 @@ fn encode_task(
     words: &mut [u16],
     marks: &mut [u8],
 ) -> usize
-    requires { ⌜ EncodeTaskNeeds (now source) (now table) labels turn task (slices (now addresses) (now words) (now marks)) ⌝ }
-    ensures { λ r. ⌜ Taken (turn .write) (turn .words) (codePlaces (tableOf (now (source .entry)) (now (table .entry)) labels) (putOf (now (source .entry)) (turn .address) task)) (slices (now (addresses .entry)) (now (words .entry)) (now (marks .entry))) r (slices (now (addresses .exit)) (now (words .exit)) (now (marks .exit))) ⌝ }
+    requires { ⌜ EncodeTaskNeeds manual (now codes) k (now source) (now table) labels turn task (slices (now addresses) (now words) (now marks)) ⌝ }
+    ensures { λ r. ⌜ Taken (turn .write) (turn .words) (codePlacesBy (encoderBy manual) (tableOf (now (source .entry)) (now (table .entry)) labels) (putOf (now (source .entry)) (turn .address) task)) (slices (now (addresses .entry)) (now (words .entry)) (now (marks .entry))) r (slices (now (addresses .exit)) (now (words .exit)) (now (marks .exit))) ⌝ }
 {
+    if manual {
+        let kept = codes::kept_code(codes, k);
+        return put_manual(addresses, words, marks, turn.words, turn.address, kept);
+    }
     let Task::Instruction(span) = task else {
         return turn.words;
     };
@@ -213,20 +281,23 @@ fn rest_start(written: bool, values: usize) -> usize
     0
 }
 
-// How many words the list has. They are put into the slices if `write` says so.
+// How many words the list has. They are put into the slices if `write` says so; `manual` says whose they are, and the manual's
+// are always put, by the codes that `find_fault` kept.
 pub fn emit_words(
+    manual: bool,
     write: bool,
     source: &[u8],
     table: &[u32],
     cells: &[u32],
+    codes: &[u32],
     pass: Pass,
     addresses: &mut [u32],
     words: &mut [u16],
     marks: &mut [u8],
 ) -> usize
-    requires { ⌜ EmitWordsNeeds write (now source) (now table) (now cells) pass (slices (now addresses) (now words) (now marks)) ⌝ }
-    ensures { λ r. ⌜ r ≡ length (secondPass (passIn (now (source .entry)) (now (table .entry)) (now (cells .entry)) pass)) ⌝ }
-    ensures { λ _. ⌜ slices (now (addresses .exit)) (now (words .exit)) (now (marks .exit)) ≡ holding (wanted write (secondPass (passIn (now (source .entry)) (now (table .entry)) (now (cells .entry)) pass))) (slices (now (addresses .entry)) (now (words .entry)) (now (marks .entry))) ⌝ }
+    requires { ⌜ EmitWordsNeeds manual write (now source) (now table) (now cells) (now codes) pass (slices (now addresses) (now words) (now marks)) ⌝ }
+    ensures { λ r. ⌜ r ≡ length (secondPassBy (encoderBy manual) (passIn (now (source .entry)) (now (table .entry)) (now (cells .entry)) pass)) ⌝ }
+    ensures { λ _. ⌜ slices (now (addresses .exit)) (now (words .exit)) (now (marks .exit)) ≡ holding (wanted write (secondPassBy (encoderBy manual) (passIn (now (source .entry)) (now (table .entry)) (now (cells .entry)) pass))) (slices (now (addresses .entry)) (now (words .entry)) (now (marks .entry))) ⌝ }
 {
     let rest = rest_start(write, pass.values);
     let mut turn = Turn {
@@ -241,6 +312,9 @@ pub fn emit_words(
         let task = kept.task;
         let values = take_value(turn, task, addresses, words, marks);
         let n = encode_task(
+            manual,
+            codes,
+            k,
             source,
             table,
             pass.labels,

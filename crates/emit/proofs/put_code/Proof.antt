@@ -1,31 +1,32 @@
 -- `put_code` stores the words of each kind of code. Assumes nothing.
 use mathlib.Core.Bool.{true}
 use mathlib.Core.Path.{refl}
+use Rattle.encode.specs.Code.{placesOf, codeLength}
 use borrow.Author.Needs.{needs}
 use Rattle.emit.proofs.LineCode.{room-for, taken-code, taken-none}
 use Rattle.emit.proofs.put_code.Statement.{statement}
 use Rattle.emit.proofs.put_code.Tie as tie
 
 put-requires : tie.Need-put-requires
-put-requires c κs = room-for _ _ (c .before .before .before .before .code .given .1) _ _ (c .before .before .before .before .before .before .before .before .before .pre .1)
+put-requires c κs = room-for (c .before .before .before .before .code .given .1) codeLength _ _ (c .before .before .before .before .before .before .before .before .before .pre .1)
 
 put-two-requires : tie.Need-put-two-requires
-put-two-requires c κs = (c .before .before .before .before .before .before .before .before .before .pre .0, room-for _ _ (c .before .before .before .before .code2 .given .1) _ _ (c .before .before .before .before .before .before .before .before .before .pre .1))
+put-two-requires c κs = (c .before .before .before .before .before .before .before .before .before .pre .0, room-for (c .before .before .before .before .code2 .given .1) codeLength _ _ (c .before .before .before .before .before .before .before .before .before .pre .1))
 
 put-two-requires-2 : tie.Need-put-two-requires-2
-put-two-requires-2 c κs = (c .before .before .before .before .before .before .before .before .before .pre .0, room-for _ _ (c .before .before .before .before .code3 .given .1) _ _ (c .before .before .before .before .before .before .before .before .before .pre .1))
+put-two-requires-2 c κs = (c .before .before .before .before .before .before .before .before .before .pre .0, room-for (c .before .before .before .before .code3 .given .1) codeLength _ _ (c .before .before .before .before .before .before .before .before .before .pre .1))
 
 returns : tie.Need-returns
-returns c = taken-code _ _ (c .enum-told .given .1) _ _ _ _ _ (taken-none true _ _ _ refl)
+returns c = taken-code (c .enum-told .given .1) (placesOf (c .before .before .before .before .before .args .address)) _ _ _ _ (taken-none true _ _ _ refl)
 
 returns-2 : tie.Need-returns-2
-returns-2 c = taken-code _ _ (c .before .before .before .before .before .before .before .before .before .before .before .code .given .1) _ _ _ _ _ (record { count = refl; put = c .before .before .before .before .before .before .put .ensures })
+returns-2 c = taken-code (c .before .before .before .before .before .before .before .before .before .before .before .code .given .1) (placesOf (c .before .before .before .before .before .before .before .before .before .before .before .before .before .before .before .before .args .address)) _ _ _ _ (record { count = refl; put = c .before .before .before .before .before .before .put .ensures })
 
 returns-3 : tie.Need-returns-3
-returns-3 c = taken-code _ _ (c .before .before .before .before .before .before .before .before .before .before .before .code2 .given .1) _ _ _ _ _ (record { count = refl; put = c .before .before .before .before .before .before .put-two .ensures })
+returns-3 c = taken-code (c .before .before .before .before .before .before .before .before .before .before .before .code2 .given .1) (placesOf (c .before .before .before .before .before .before .before .before .before .before .before .before .before .before .before .before .args .address)) _ _ _ _ (record { count = refl; put = c .before .before .before .before .before .before .put-two .ensures })
 
 returns-4 : tie.Need-returns-4
-returns-4 c = taken-code _ _ (c .before .before .before .before .before .before .before .before .before .before .before .code3 .given .1) _ _ _ _ _ (record { count = refl; put = c .before .before .before .before .before .before .put-two2 .ensures })
+returns-4 c = taken-code (c .before .before .before .before .before .before .before .before .before .before .before .code3 .given .1) (placesOf (c .before .before .before .before .before .before .before .before .before .before .before .before .before .before .before .before .args .address)) _ _ _ _ (record { count = refl; put = c .before .before .before .before .before .before .put-two2 .ensures })
 
 pub put-code-spec : {M : Type 1} → statement M
 put-code-spec =
