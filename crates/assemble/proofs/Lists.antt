@@ -21,7 +21,7 @@ unfolding andThen writeList
 refusal list x n p e = rw e (record { answer = refl; slices = refl })
 
 module _ (l : List Place) (x : Slices) (n : ℕ) (e : n ≡ length l) where
-  refusal-7 : short x n ≡ true → Outcome (accepted l) x (Refused 7 n) x
+  pub refusal-7 : short x n ≡ true → Outcome (accepted l) x (Refused 7 n) x
   unfolding andThen room refuseIf writeList
   refusal-7 s = let t = rw e at s in record { answer = rw (t, e); slices = rw (t, writeList) }
 

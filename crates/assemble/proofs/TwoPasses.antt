@@ -1,31 +1,35 @@
--- From what the first pass left to the call's outcome. Assumes nothing.
-use mathlib.Core.Path.{_≡_, sym, _∙_}
-use mathlib.Core.List.{List}
-use Prim.Native.Nat.{ℕ, _*_, _≤_}
+-- From what the first pass left to the call's outcome, for 01's call and the manual's. Assumes nothing.
+use mathlib.Core.Path.{_≡_, refl, sym, ap, _∙_}
+use mathlib.Core.List.{List, []}
+use Prim.Native.Nat.{ℕ, _*_, _≤_, _<_}
+use native.Mathlib.Omega.{arith}
 use borrow.Author.Tests.{le-leb}
 use lib.ListN.{length}
 use Rattle.rules.specs.Limits.{maxLines, addressLimit}
 use Rattle.rules.specs.Text.{Text, cutAt}
-use Rattle.rules.specs.Line.{size}
+use Rattle.rules.specs.Line.{linesOf, size}
 use Rattle.rules.specs.Encode.{mnemonics, encode}
-use Rattle.rules.specs.Answer.{accepted, refused, refuseIf, andThen}
-use Rattle.rules.specs.Assemble.{Slices, checks, passAtBy, passAt, assembleBy, assemble, assembleAnswer, assembleSlices}
+use Rattle.rules.specs.Answer.{Answer as Ruled, accepted, refused, refuseIf, andThen}
+use Rattle.rules.specs.Assemble.{Sizes, Pass as Passed, Place, Slices, checks, firstPassBy, passAtBy, encoded, assembleBy, assemble, assembleAnswer, assembleSlices}
+use Rattle.requests.specs.ManualCall.{manualSize}
+use Rattle.requests.specs.ManualAssemble.{encodedManual, assembleManual, manualAnswer, manualSlices}
 use Rattle.promises.specs.Lawful.{RulesAreLawful}
 use Rattle.promises.specs.Longest.{AtMostALine, AtMostTwoALine}
 use Rattle.promises.proofs.Lawful.{rules-are-lawful}
 use Rattle.promises.proofs.Longest.{at-most-a-line, at-most-two-a-line}
 use Rattle.answer.specs.Answer.{answerOf}
 use Rattle.answer.specs.declared.Answer.{Answer}
-use Rattle.answer.specs.declared.Answer.the-variants.{Refused}
+use Rattle.answer.specs.declared.Answer.the-variants.{Accepted, Refused}
 use Rattle.source.specs.Clear.{Clear}
-use Rattle.source.proofs.Callers.{checks-clear, stopped}
-use Rattle.first.specs.Pass.{FirstPassNeeds, FirstPassGives, EnterGives, Holds}
+use Rattle.source.proofs.Callers.{checks-clear, cleared, stopped}
+use Rattle.first.specs.Pass.{passIn, Lent, FirstPassNeeds, FirstPassGives, EnterGivesBy, HoldsBy, Holds}
 use Rattle.first.specs.declared.Pass.{Pass}
 use Rattle.first.specs.declared.Entered.{Entered}
 use Rattle.first.specs.declared.Entered.the-variants.{Done}
 use Rattle.first.specs.declared.Entered.the-variants.{Refused as Refuses}
 use Rattle.first.proofs.Callers.{first-enters, enter-refused, enter-base, enter-holds}
-use Rattle.assemble.specs.Assembled.{Outcome, Starting, PassesInNeeds, SecondPassNeeds, listOf, Assembled}
+use Rattle.emit.specs.Codes.{FindFaultNeeds}
+use Rattle.assemble.specs.Assembled.{Outcome, Starting, StartGives, ManualPassesNeeds, SecondPassNeeds, listOf, Assembled, AssembledManual}
 use Rattle.assemble.proofs.Lists.{refusal}
 
 -- the list of a pass that the arrays hold
@@ -43,48 +47,83 @@ pub lines-few : {s : Text} {table cells : List ℕ} {p : Pass} {lines : ℕ} →
 unfolding AtMostALine RulesAreLawful
 lines-few {s} {p = p} n = rw (n .lines-are) (at-most-a-line size encode 2 (rules-are-lawful mnemonics) s (p .base) _ (holds-list (n .holds)) .1)
 
--- a refused pass is a refused call
-pass-refuses : (base : ℕ) (s : Text) (x : Slices) (n p : ℕ) → passAt base s ≡ refused n p → Outcome (assemble base s) x (Refused n p) x
-unfolding assembleBy andThen
-pass-refuses base s x n p e = refusal (assemble base s) x n p (rw e)
+-- ---- refusals 1 to 4
+module _ (s : Text) (base : ℕ) (r : Answer) (d : r ≡ answerOf (checks s (accepted (length (cutAt 10 s))))) where
+  pub start-refused : (n p : ℕ) → r ≡ Refused n p → StartGives s base r
+  start-refused n p e = rw e (λ a. stopped s n p (sym e ∙ d) _)
 
--- ---- by the first pass's answer
-pub first-needs : {s : Text} {base lines : ℕ} {table cells : List ℕ} → PassesInNeeds s base lines table cells → FirstPassNeeds s base table cells
-first-needs n =
-    record { short = n .starting .clear .short; few = n .starting .clear .few; low = n .starting .low; lent = n .lent }
+  module _ (lines : ℕ) (e : r ≡ Accepted lines) where
+    pub start-4 : addressLimit ≤ base → StartGives s base (Refused 4 0)
+    unfolding refuseIf
+    start-4 h = λ a. checks-clear s (cleared s lines (sym e ∙ d) .0) _ ∙ rw (le-leb addressLimit base h)
 
-module _ {s : Text} {base lines : ℕ} {table cells : List ℕ} {r : Entered} {table′ cells′ : List ℕ} (b : Starting s base lines) (g : FirstPassGives s base table cells r table′ cells′) where
-  entering : EnterGives s base table cells r table′ cells′
-  entering = first-enters s base (checks-clear s (b .clear)) (b .low) g
+    pub start-done : base < addressLimit → StartGives s base r
+    start-done h = let k = cleared s lines (sym e ∙ d) in rw e (record { clear = k .0; low = h; lines-are = k .1 })
 
-  -- refusals 5 and 6
-  pub pass-refused : (x : Slices) (n k : ℕ) → r ≡ Refuses n k → Outcome (assemble base s) x (Refused n k) x
-  pass-refused x n k e = pass-refuses base s x n k (enter-refused entering n k e)
+pub started : {s : Text} {base : ℕ} (r : Answer) → StartGives s base r → (lines : ℕ) → r ≡ Accepted lines → Starting s base lines
+started r g lines e = rw e at g
 
-  module _ (p : Pass) (e : r ≡ Done p) where
-    pub second-needs : SecondPassNeeds s table′ cells′ p lines
-    second-needs = record { holds = enter-holds entering p e; lines-are = b .lines-are }
+pub first-needs : {s : Text} {base lines : ℕ} {table cells : List ℕ} → Starting s base lines → Lent s table cells → FirstPassNeeds s base table cells
+first-needs b l = record { short = b .clear .short; few = b .clear .few; low = b .low; lent = l }
 
-    pub pass-done : (x y : Slices) (a : Answer) → Outcome (accepted (listOf s table′ cells′ p)) x a y → Outcome (assemble base s) x a y
-    pass-done x y a o =
-        let l : assemble base s ≡ accepted (listOf s table′ cells′ p) = rw (← enter-base entering p e) (holds-list (enter-holds entering p e)) in
-        rw l o
+-- ---- a call's list is made of its first pass
+pub record Made (z : Sizes) (f : Passed → Ruled (List Place)) (base : ℕ) (s : Text) (list : Ruled (List Place)) : Type 0 where
+  pub is : list ≡ andThen (passAtBy z base s) f
+
+pub ruled : (base : ℕ) (s : Text) → Made size (encoded encode) base s (assemble base s)
+unfolding assembleBy
+ruled base s = record { is = refl }
+
+pub manual : (base : ℕ) (s : Text) → Made manualSize encodedManual base s (assembleManual base s)
+unfolding assembleManual
+manual base s = record { is = refl }
+
+module _ {z : Sizes} {f : Passed → Ruled (List Place)} {base : ℕ} {s : Text} {list : Ruled (List Place)} (m : Made z f base s list) where
+  pass-refuses : (x : Slices) (n p : ℕ) → passAtBy z base s ≡ refused n p → Outcome list x (Refused n p) x
+  unfolding andThen
+  pass-refuses x n p e = refusal list x n p (m .is ∙ rw e)
+
+  -- by refusals 1 to 4
+  pub call-refused : (x : Slices) (r : Answer) → StartGives s base r → (n p : ℕ) → r ≡ Refused n p → Outcome list x r x
+  unfolding passAtBy
+  call-refused x r g n p e =
+      let h : StartGives s base (Refused n p) = rw e at g in
+      rw e (pass-refuses x n p (h (firstPassBy z base base [] (linesOf s))))
+
+  -- by the first pass's answer
+  module _ {lines : ℕ} {table cells : List ℕ} {r : Entered} {table′ cells′ : List ℕ} (b : Starting s base lines) (g : FirstPassGives z s base table cells r table′ cells′) where
+    entering : EnterGivesBy z s base table cells r table′ cells′
+    entering = first-enters z s base (checks-clear s (b .clear)) (b .low) g
+
+    -- refusals 5 and 6
+    pub pass-refused : (x : Slices) (n k : ℕ) → r ≡ Refuses n k → Outcome list x (Refused n k) x
+    pass-refused x n k e = pass-refuses x n k (enter-refused entering n k e)
+
+    module _ (p : Pass) (e : r ≡ Done p) where
+      pub pass-holds : HoldsBy z s table′ cells′ p
+      pass-holds = enter-holds entering p e
+
+      pub pass-done : (x y : Slices) (a : Answer) → Outcome (f (passIn s table′ cells′ p)) x a y → Outcome list x a y
+      unfolding andThen
+      pass-done x y a o =
+          let h : passAtBy z base s ≡ accepted (passIn s table′ cells′ p) = ap (λ b. passAtBy z b s) (sym (enter-base entering p e)) ∙ pass-holds .passed in
+          rw (m .is, h) o
+
+-- what 01's second pass needs, and the manual's
+module _ {s : Text} {base lines : ℕ} {table cells : List ℕ} {r : Entered} {table′ cells′ : List ℕ} where
+  pub second-needs : Starting s base lines → FirstPassGives size s base table cells r table′ cells′ → (p : Pass) → r ≡ Done p → SecondPassNeeds s table′ cells′ p lines
+  second-needs b g p e = record { holds = pass-holds (ruled base s) b g p e; lines-are = b .lines-are }
+
+  pub fault-needs : {codes : List ℕ} → Starting s base lines → length cells ≤ length codes → FirstPassGives manualSize s base table cells r table′ cells′ → (p : Pass) → r ≡ Done p → FindFaultNeeds s table′ cells′ codes p
+  fault-needs b l g p e =
+      let h = pass-holds (manual base s) b g p e in
+      record { holds = h; room = omega (arith, h .lines .room, g .lines .long) }
 
 -- ---- a call by its list
-by-outcome : (base : ℕ) (s : Text) (x y : Slices) (r : Answer) → Outcome (assemble base s) x r y → Assembled base s x r y
+pub by-outcome : (base : ℕ) (s : Text) (x y : Slices) (r : Answer) → Outcome (assemble base s) x r y → Assembled base s x r y
 unfolding assembleAnswer assembleSlices
 by-outcome base s x y r o = record { answer = o .answer; slices = o .slices }
 
-module _ (base : ℕ) (s : Text) (x : Slices) where
-  -- refusals 1 to 3
-  pub call-checked : (r : Answer) → r ≡ answerOf (checks s (accepted (length (cutAt 10 s)))) → (n p : ℕ) → r ≡ Refused n p → Assembled base s x r x
-  unfolding passAtBy
-  call-checked r e n p f = rw f (by-outcome base s x x _ (pass-refuses base s x n p (stopped s n p (sym f ∙ e) _)))
-
-  -- refusal 4
-  pub call-4 : Clear s → addressLimit ≤ base → Assembled base s x (Refused 4 0) x
-  unfolding passAtBy refuseIf
-  call-4 c h = by-outcome base s x x _ (pass-refuses base s x 4 0 (checks-clear s c _ ∙ rw (le-leb addressLimit base h)))
-
-  pub call-passes : (y : Slices) (r : Answer) → Outcome (assemble base s) x r y → Assembled base s x r y
-  call-passes y r o = by-outcome base s x y r o
+pub by-manual : (base : ℕ) (s : Text) (x y : Slices) (r : Answer) → Outcome (assembleManual base s) x r y → AssembledManual base s x r y
+unfolding manualAnswer manualSlices
+by-manual base s x y r o = record { answer = o .answer; slices = o .slices }

@@ -1,15 +1,18 @@
--- What an assembling call gives: its answer, and the three lent slices afterwards. Assumes nothing.
+-- What an assembling call, 01's or the manual's of W-207, gives: its answer, and the three lent slices afterwards. Assumes nothing.
 use mathlib.Core.Path.{_≡_}
-use Prim.Native.Nat.{ℕ, _<_}
+use Prim.Native.Nat.{ℕ, _≤_, _<_}
 use mathlib.Core.Bool.{Bool, true, false}
 use mathlib.Core.List.{List}
+use lib.Dec.{leb}
 use lib.ListN.{length}
 use Rattle.rules.specs.Limits.{addressLimit}
 use Rattle.rules.specs.Text.{Text, cutAt}
-use Rattle.rules.specs.Answer.{Answer as Ruled, andThen}
-use Rattle.rules.specs.Assemble.{Place, Slices, short, room, writeList, secondPass, assembleAnswer, assembleSlices}
+use Rattle.rules.specs.Answer.{Answer as Ruled, refused, refuseIf, andThen}
+use Rattle.rules.specs.Assemble.{Pass as Passed, Place, Slices, checks, short, room, writeList, secondPass, assembleAnswer, assembleSlices}
+use Rattle.requests.specs.ManualAssemble.{manualAnswer, manualSlices}
 use Rattle.answer.specs.Answer.{answerOf}
 use Rattle.answer.specs.declared.Answer.{Answer}
+use Rattle.answer.specs.declared.Answer.the-variants.{Accepted, Refused}
 use Rattle.source.specs.Clear.{Clear}
 use Rattle.first.specs.Pass.{passIn, Lent, Holds}
 use Rattle.first.specs.declared.Pass.{Pass}
@@ -31,6 +34,11 @@ pub record Starting (source : Text) (base lines : ℕ) : Type 0 where
   pub low : base < addressLimit
   pub lines-are : lines ≡ length (cutAt 10 source)
 
+-- refusals 1 to 4, whatever the first pass came to after them, or a source to start from
+abbrev pub StartGives : Text → ℕ → Answer → Type 0
+StartGives source base (Accepted lines) = Starting source base lines
+StartGives source base (Refused n p) = (a : Ruled Passed) → checks source (refuseIf (leb addressLimit base) 4 0 a) ≡ refused n p
+
 -- so many lines have room for their labels in the small table
 abbrev pub shortLines : ℕ
 shortLines = 32
@@ -39,6 +47,13 @@ shortLines = 32
 pub record PassesInNeeds (source : Text) (base lines : ℕ) (table cells : List ℕ) : Type 0 where
   pub starting : Starting source base lines
   pub lent : Lent source table cells
+
+-- and in the manual's call as many cells for codes
+pub record ManualPassesNeeds (source : Text) (base : ℕ) (table cells codes : List ℕ) : Type 0 where
+  pub lines : ℕ
+  pub starting : Starting source base lines
+  pub lent : Lent source table cells
+  pub room : length cells ≤ length codes
 
 -- what the second pass needs: what the first left, and how many lines there are
 pub record SecondPassNeeds (source : Text) (table cells : List ℕ) (pass : Pass) (lines : ℕ) : Type 0 where
@@ -56,6 +71,11 @@ fitBy false n = Fits
 
 abbrev pub fitOf : List Place → Slices → Fit
 fitOf l x = fitBy (short x (length l)) (length l)
+
+-- the contract of `assemble_manual`: by 02's W-207, the answer and every place of the slices
+pub record AssembledManual (base : ℕ) (source : Text) (x : Slices) (r : Answer) (y : Slices) : Type 0 where
+  pub answer : r ≡ answerOf (manualAnswer base source x)
+  pub slices : y ≡ manualSlices base source x
 
 -- the contract of `assemble`: by paper 01, the answer and every place of the slices
 pub record Assembled (base : ℕ) (source : Text) (x : Slices) (r : Answer) (y : Slices) : Type 0 where

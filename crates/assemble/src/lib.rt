@@ -1,4 +1,5 @@
-// The assembler: refusals 1 to 7, and the list of a source at a base in three lent slices.
+// The assembler: refusals 1 to 7, and the list of a source at a base in three lent slices; and the manual's call of W-207, with
+// refusals 14 and 15.
 use answer::Answer;
 use first::Entered;
 use first::Pass;
@@ -6,7 +7,9 @@ ghost use mathlib.Core.Path.{_≡_};
 ghost use Prim.Native.Nat.{_≤_};
 ghost use Rattle.rules.specs.Answer.{accepted};
 ghost use Rattle.rules.specs.Assemble.{slices, assemble as ruled};
-ghost use Rattle.assemble.specs.Assembled.{SecondPassNeeds, PassesInNeeds, listOf, fitOf, Outcome, Starting, shortLines, Assembled};
+ghost use Rattle.assemble.specs.Assembled.{SecondPassNeeds, PassesInNeeds, listOf, fitOf, Outcome, Starting, StartGives, shortLines, Assembled, AssembledManual};
+
+mod manual; // manual.rt: both passes of the manual's call
 
 // Whether the slices have room for the list: if not, how many places it has.
 enum Fit {
@@ -32,7 +35,18 @@ fn fit_list(
     if !answer::is_short(addresses, words, marks, 2 * lines) {
         return Fit::Fits;
     }
-    let count = emit::emit_words(false, source, table, cells, pass, addresses, words, marks);
+    let count = emit::emit_words(
+        false,
+        false,
+        source,
+        table,
+        cells,
+        cells,
+        pass,
+        addresses,
+        words,
+        marks,
+    );
     if answer::is_short(addresses, words, marks, count) {
         return Fit::Short(count);
     }
@@ -57,7 +71,18 @@ fn second_pass(
     if let Fit::Short(count) = room {
         return Answer::Refused(7, count);
     }
-    let count = emit::emit_words(true, source, table, cells, pass, addresses, words, marks);
+    let count = emit::emit_words(
+        false,
+        true,
+        source,
+        table,
+        cells,
+        cells,
+        pass,
+        addresses,
+        words,
+        marks,
+    );
     Answer::Accepted(count)
 }
 
@@ -75,7 +100,7 @@ fn passes_in(
     requires { ⌜ PassesInNeeds (now source) base lines (now table) (now cells) ⌝ }
     ensures { λ r. ⌜ Outcome (ruled base (now (source .entry))) (slices (now (addresses .entry)) (now (words .entry)) (now (marks .entry))) r (slices (now (addresses .exit)) (now (words .exit)) (now (marks .exit))) ⌝ }
 {
-    match first::first_pass(source, base, table, cells) {
+    match first::first_pass(false, source, base, table, cells) {
         Entered::Refused(n, p) => Answer::Refused(n, p),
         Entered::Done(pass) => {
             second_pass(source, table, cells, pass, lines, addresses, words, marks)
@@ -84,7 +109,7 @@ fn passes_in(
 }
 
 // The most lines whose labels, two a line, have room in a small table.
-const SHORT: usize = label::SMALL_LABELS / 2;
+pub const SHORT: usize = label::SMALL_LABELS / 2;
 
 // Both passes over a short source.
 fn short_passes(
@@ -156,6 +181,20 @@ fn passes(
     long_passes(source, base, lines, addresses, words, marks)
 }
 
+// Refusals 1 to 4, or how many lines the source has.
+fn start(source: &[u8], base: u32) -> Answer
+    ensures { λ r. ⌜ StartGives (now (source .entry)) base r ⌝ }
+{
+    let checked = source::check_source(source);
+    let Answer::Accepted(_) = checked else {
+        return checked;
+    };
+    if rules::ADDRESS_LIMIT <= base {
+        return Answer::Refused(4, 0);
+    }
+    checked
+}
+
 // Assembles a source at a base. Answers the list's count, with the list in the first places of the three slices, or
 // one of refusals 1 to 7, with nothing written.
 pub fn assemble(
@@ -167,12 +206,26 @@ pub fn assemble(
 ) -> Answer
     ensures { λ r. ⌜ Assembled base (now (source .entry)) (slices (now (addresses .entry)) (now (words .entry)) (now (marks .entry))) r (slices (now (addresses .exit)) (now (words .exit)) (now (marks .exit))) ⌝ }
 {
-    let checked = source::check_source(source);
-    let Answer::Accepted(lines) = checked else {
-        return checked;
+    let started = start(source, base);
+    let Answer::Accepted(lines) = started else {
+        return started;
     };
-    if rules::ADDRESS_LIMIT <= base {
-        return Answer::Refused(4, 0);
-    }
     passes(source, base, lines, addresses, words, marks)
+}
+
+// Assembles a source at a base by the manual's sizes and words: the same, with refusals 14 and 15, line by line, before 7.
+pub fn assemble_manual(
+    source: &[u8],
+    base: u32,
+    addresses: &mut [u32],
+    words: &mut [u16],
+    marks: &mut [u8],
+) -> Answer
+    ensures { λ r. ⌜ AssembledManual base (now (source .entry)) (slices (now (addresses .entry)) (now (words .entry)) (now (marks .entry))) r (slices (now (addresses .exit)) (now (words .exit)) (now (marks .exit))) ⌝ }
+{
+    let started = start(source, base);
+    let Answer::Accepted(lines) = started else {
+        return started;
+    };
+    manual::passes(source, base, lines, addresses, words, marks)
 }

@@ -128,12 +128,12 @@ fn put_manual(
             put(addresses, words, marks, n, address, w, 0);
             n + 1
         }
-        ManualCode::Value(w, v) => {
-            put_two(addresses, words, marks, n, address, w, v, 0);
+        ManualCode::Value(w, second) => {
+            put_two(addresses, words, marks, n, address, w, second, 0);
             n + 2
         }
-        ManualCode::Long(w, v) => {
-            put_three(addresses, words, marks, n, address, w, v, 0, 0);
+        ManualCode::Long(w, long) => {
+            put_three(addresses, words, marks, n, address, w, long, 0, 0);
             n + 3
         }
         ManualCode::Address(w, x) => {

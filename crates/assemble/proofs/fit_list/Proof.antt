@@ -17,7 +17,7 @@ returns c =
     (fits-surely (listOf (s .source .now) (s .table .now) (s .cells .now) (s .pass)) _ _ (list-few (c .before .before .before .before .before .before .before .before .before .before .before .pre)) (sym (c .before .is-short .ensures) ∙ is-not _ (c .if1 .taken)), refl)
 
 emit-words-requires : tie.Need-emit-words-requires
-emit-words-requires c κs = record { holds = c .before .before .before .before .before .before .before .before .before .before .before .before .before .before .pre .holds; room = λ e. never e }
+emit-words-requires c κs = record { holds = c .before .before .before .before .before .before .before .before .before .before .before .before .before .before .pre .holds; room = λ e. never e; kept = λ e. never e }
 
 returns-2 : tie.Need-returns-2
 returns-2 c =

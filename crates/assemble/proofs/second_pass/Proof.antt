@@ -2,7 +2,7 @@
 use mathlib.Core.Path.{ap, _∙_}
 use Rattle.rules.specs.Assemble.{short, holding}
 use Rattle.assemble.specs.Assembled.{listOf}
-use Rattle.assemble.proofs.Lists.{too-short, fits, listed, has-room}
+use Rattle.assemble.proofs.Lists.{too-short, fits, listed, has-room, never}
 use borrow.Author.Needs.{needs}
 use Rattle.assemble.proofs.second_pass.Statement.{statement}
 use Rattle.assemble.proofs.second_pass.Tie as tie
@@ -15,7 +15,7 @@ emit-words-requires c κs =
     let s = c .before .before .before .before .before .before .before .before .before .before .before .before .before .before .before .before .before .before .before .before .before .args in
     let l = listOf (s .source .now) (s .table .now) (s .cells .now) (s .pass) in
     let fit = c .before .before .before .before .before .before .before .before .before .before .before .fit-list in
-    record { holds = c .before .before .before .before .before .before .before .before .before .before .before .before .before .before .before .before .before .before .before .before .before .pre .holds; room = λ e. has-room _ _ (rw (fit .ensures .1) (fits l _ _ (fit .ensures .0) (c .before .before .before .enum-told .given .1))) }
+    record { holds = c .before .before .before .before .before .before .before .before .before .before .before .before .before .before .before .before .before .before .before .before .before .pre .holds; room = λ e. has-room _ _ (rw (fit .ensures .1) (fits l _ _ (fit .ensures .0) (c .before .before .before .enum-told .given .1))); kept = λ e. never e }
 
 returns-2 : tie.Need-returns-2
 returns-2 c =
