@@ -16,7 +16,7 @@ use Rattle.promises.specs.Stages.{Stage, all, byLine, RefusesExactly}
 use Rattle.promises.specs.Demand1.{IsLine, Reached, PassCondition, Shorter, SamePast}
 use Rattle.promises.specs.ManualFaults.{NoEncoding, OutOfRange}
 
--- the line after the first j ones is read at address a and is the instruction i; ls are all labels that the source records
+-- the line after the first j ones is read at address a and is the instruction i; ls are the labels that the source records (`FoundIsLast`)
 pub record Instructs (base : ℕ) (s : Text) (j a : ℕ) (i : Instruction) (ls : Table) : Type 0 where
   pub pass : Pass
   pub passed : passAtBy manualSize base s ≡ accepted pass
