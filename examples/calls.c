@@ -79,11 +79,41 @@ static void explain(void)
     }
 }
 
+static void assemble_manual(void)
+{
+    const char *script = "X: MOVE.L X,D2\nBRA X";
+    const uint16_t wanted_words[4] = {0x2439, 0x0001, 0x2340, 0x60F8};
+    const uint8_t wanted_marks[4] = {0, 2, 3, 0};
+    uint32_t addresses[4] = {0};
+    uint16_t words[4] = {0};
+    uint8_t marks[4] = {0};
+    size_t place;
+    uint8_t number = lagvettu_assemble_manual(bytes(script), strlen(script), 0x12340, addresses, 4, words, 4, marks, 4, &place);
+    expect(number == LAGVETTU_ACCEPTED && place == 4 && addresses[3] == 0x12346 && memcmp(words, wanted_words, sizeof words) == 0
+               && memcmp(marks, wanted_marks, sizeof marks) == 0, "lagvettu_assemble_manual");
+    number = lagvettu_assemble_manual(bytes("MOVE D0,D1"), 10, 0, addresses, 4, words, 4, marks, 4, &place);
+    expect(number == LAGVETTU_NO_ENCODING && place == 1 && words[0] == 0x2439, "lagvettu_assemble_manual, no encoding");
+    number = lagvettu_assemble_manual(bytes("BRA +128"), 8, 0, addresses, 4, words, 4, marks, 4, &place);
+    expect(number == LAGVETTU_OUT_OF_REACH && place == 1 && words[0] == 0x2439, "lagvettu_assemble_manual, out of reach");
+}
+
+static void move_pair(void)
+{
+    uint32_t addresses[2] = {2, 4};
+    uint16_t words[2] = {0x0001, 0xFFFF};
+    const uint8_t marks[2] = {2, 3};
+    size_t place;
+    uint8_t number = lagvettu_move(addresses, 2, words, 2, marks, 2, 2, 1, &place);
+    expect(number == LAGVETTU_ACCEPTED && place == 2 && words[0] == 0x0002 && words[1] == 0x0000, "lagvettu_move of a pair");
+}
+
 int main(void)
 {
     nearest();
     symbols();
     line_number();
     explain();
+    assemble_manual();
+    move_pair();
     return wrong;
 }

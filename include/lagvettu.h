@@ -13,7 +13,8 @@
  * An answer is a number: LAGVETTU_ACCEPTED, with the count in *place, or else a refusal of enum lagvettu_refusal, with its
  * place in *place. A refused call changes no slice. *place is written by each call.
  *
- * Paper 01's two calls are in liblagvettu.a, those of paper 02 in liblagvettu02.a: -llagvettu, -llagvettu02, or both.
+ * Paper 01's two calls are in liblagvettu.a, those of paper 02 in liblagvettu02.a, and lagvettu_assemble_manual in
+ * liblagvettu_manual.a: -llagvettu, -llagvettu02, -llagvettu_manual, any of them together.
  */
 #ifndef LAGVETTU_H
 #define LAGVETTU_H
@@ -47,7 +48,11 @@ enum lagvettu_refusal {
 
     /* From what is asked. */
     LAGVETTU_NO_LABEL_NEAR = 12,    /* no label at or below the address; place 0 */
-    LAGVETTU_NO_SUCH_LINE = 13      /* the line doesn't exist or is never read; place the line */
+    LAGVETTU_NO_SUCH_LINE = 13,     /* the line doesn't exist or is never read; place the line */
+
+    /* From the manual's own words: both with the line as place, from 1, the first line that has one of them. */
+    LAGVETTU_NO_ENCODING = 14,      /* an instruction with no encoding there */
+    LAGVETTU_OUT_OF_REACH = 15      /* one whose only fault is a displacement, of a recorded label or a signed number, out of range */
 };
 
 /* What the number of a line said. */
@@ -83,6 +88,9 @@ enum lagvettu_verdict {
 /* The most places that a list has: three slices of this length are never refused as too short. */
 #define LAGVETTU_MAX_PLACES 8192
 
+/* The same of a list by the manual's own words. */
+#define LAGVETTU_MAX_MANUAL_PLACES 12288
+
 /*
  * Assembles a source at a base, and puts the list into the first places of the three slices. A source is lines cut at
  * byte 10. Checks 1, 2, 3, 4, then line by line 6 before 5, then 7.
@@ -107,6 +115,22 @@ uint8_t lagvettu_move(uint32_t *addresses, size_t addresses_length,
                       size_t count,
                       int32_t distance,
                       size_t *place);
+
+/*
+ * Assembles a source at a base by the manual's own words (M68000PM/AD), for a real 68000: every instruction is the manual's, at the
+ * size that its form has, with a long immediate, an absolute address of 32 bits or DBRA's displacement in the words behind. A label's
+ * address takes two places, with marks 2 and 3; mark 1 never comes. An instruction that has no encoding there is refused, and none is
+ * left out in silence. Checks 1, 2, 3, 4, then line by line 6 before 5, then 14 and 15, the first line first, then 7.
+ *
+ *     "X: MOVE.L X,D2\nBRA X" at base $12340: words $2439, $0001, $2340, $60F8, marks 0, 2, 3, 0.
+ *     "MOVE D0,D1": refused 14 at 1 (it has no suffix).   "BRA +128": refused 15 at 1.
+ */
+uint8_t lagvettu_assemble_manual(const uint8_t *source, size_t source_length,
+                                 uint32_t base,
+                                 uint32_t *addresses, size_t addresses_length,
+                                 uint16_t *words, size_t words_length,
+                                 uint8_t *marks, size_t marks_length,
+                                 size_t *place);
 
 /*
  * Which label is an address near? Names the label whose address is greatest without passing it, in a source at a base; of
