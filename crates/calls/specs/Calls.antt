@@ -16,6 +16,7 @@ use Rattle.directive.specs.declared.LineNumber.the-variants.{Value, Failed, Not
 use Rattle.listing.specs.Listing.{decimal, refusedText}
 use Rattle.symtext.specs.Symlist.{symbolsText}
 use Rattle.whytext.specs.WhyLine.{lineText}
+use Rattle.mantext.specs.Manlist.{manualText}
 
 -- ---- texts
 
@@ -49,17 +50,18 @@ saidText (Failed x) = failureText x
 saidText Nothing = bytes "no number\n"
 
 -- 2 is W-201, x its base and y its address; 3 is W-202, x its base, as `symlist` prints it; 4 is W-204, s a line; 5 is W-205, x its base
--- and y its line, as `whyline` prints it; a call that is not known has no text
+-- and y its line, as `whyline` prints it; 6 is W-207, x its base, as `manlist` prints it; a call that is not known has no text
 unfoldable pub callText : ℕ → ℕ → ℕ → Text → Text
 callText call x y s =
     cond (eqb call 2) (answeredText nearestText (nearest x s y))
     (cond (eqb call 3) (symbolsText x s)
     (cond (eqb call 4) (saidText (lineNumberOf (lineReading s)))
-    (cond (eqb call 5) (lineText x y s) [])))
+    (cond (eqb call 5) (lineText x y s)
+    (cond (eqb call 6) (manualText x s) []))))
 
 -- the calls' numbers go on from the assembler's, which is 1, to the last one's
 abbrev lastCall : ℕ
-lastCall = 5
+lastCall = 6
 
 unfoldable pub isCall : ℕ → Bool
 isCall call = leb 2 call && leb call lastCall

@@ -4,6 +4,7 @@ use directive::line_number;
 use listing::writing::write_bytes;
 use listing::writing::write_decimal;
 use listing::writing::write_refused;
+use mantext::write_manual;
 use nearest::Nearest;
 use nearest::nearest_label;
 use numeral::Failure;
@@ -29,7 +30,7 @@ pub const ROOM: usize = station::TEXT;
 // The calls' numbers go on from the assembler's, which is 1.
 const FIRST: u8 = 2;
 
-const LAST: u8 = 5;
+const LAST: u8 = 6;
 
 // ---- Texts.
 
@@ -112,6 +113,7 @@ pub fn call_text(call: u8, x: u32, y: u32, source: &[u8], out: &mut [u8; ROOM]) 
         3 => write_symbols(source, x, out),
         4 => line_number_text(source, out),
         5 => write_line_verdict(source, x, y as usize, out),
+        6 => write_manual(source, x, out),
         _ => 0,
     }
 }

@@ -24,9 +24,13 @@ returns-4 c = rw (c .before .before .match .keys4) (c .write-line-verdict .ensur
 
 returns-5 : tie.Need-returns-5
 unfolding callText
-returns-5 c =
+returns-5 c = rw (c .before .before .match .keys5) (c .write-manual .ensures)
+
+returns-6 : tie.Need-returns-6
+unfolding callText
+returns-6 c =
     rw
-    (ne-eqb _ 2 (c .match .rest .0 .0 .0 .1), ne-eqb _ 3 (c .match .rest .0 .0 .1), ne-eqb _ 4 (c .match .rest .0 .1), ne-eqb _ 5 (c .match .rest .1))
+    (ne-eqb _ 2 (c .match .rest .0 .0 .0 .0 .1), ne-eqb _ 3 (c .match .rest .0 .0 .0 .1), ne-eqb _ 4 (c .match .rest .0 .0 .1), ne-eqb _ 5 (c .match .rest .0 .1), ne-eqb _ 6 (c .match .rest .1))
     (printed-none _)
 
 pub call-text-spec : {M : Type 1} → statement M
@@ -37,8 +41,10 @@ call-text-spec =
     (λ c κs. search needs)
     (λ c κs. search needs)
     (λ c κs. search needs)
+    (λ c κs. search needs)
     returns
     returns-2
     returns-3
     returns-4
-    returns-5)
+    returns-5
+    returns-6)
