@@ -1,4 +1,4 @@
-// Finds the Rust original and the two static libraries: ASSEMBLER_RS names the one, LAGVETTU_LIB the folder of the others.
+// Finds the Rust original and the static libraries: ASSEMBLER_RS names the one, LAGVETTU_LIB the folder of the others.
 use std::{env, fs, path::PathBuf};
 
 fn main() {
@@ -20,7 +20,7 @@ fn main() {
     let library = env::var("LAGVETTU_LIB")
         .map(PathBuf::from)
         .unwrap_or_else(|_| here.join("../target/staticlib"));
-    let archives = ["lagvettu", "lagvettu02"].map(|name| (name, library.join(format!("lib{name}.a"))));
+    let archives = ["lagvettu", "lagvettu02", "lagvettu_manual"].map(|name| (name, library.join(format!("lib{name}.a"))));
     if archives.iter().all(|(_, file)| file.exists()) {
         println!("cargo:rustc-link-search=native={}", library.display());
         println!("cargo:rustc-cfg=linked");

@@ -13,6 +13,18 @@ extern "C" {
         marks_len: usize,
         place: *mut usize,
     ) -> u8;
+    fn lagvettu_assemble_manual(
+        source: *const u8,
+        source_len: usize,
+        base: u32,
+        addresses: *mut u32,
+        addresses_len: usize,
+        words: *mut u16,
+        words_len: usize,
+        marks: *mut u8,
+        marks_len: usize,
+        place: *mut usize,
+    ) -> u8;
     fn lagvettu_move(
         addresses: *mut u32,
         addresses_len: usize,
@@ -74,10 +86,14 @@ impl Slices {
 /// An answer: 0 and the count, or a refusal's number and its place.
 pub type Answer = (u8, usize);
 
-pub fn assemble(source: &[u8], base: u32, x: &mut Slices) -> Answer {
+/// An assembling call of the C interface.
+type Assembling =
+    unsafe extern "C" fn(*const u8, usize, u32, *mut u32, usize, *mut u16, usize, *mut u8, usize, *mut usize) -> u8;
+
+fn assembled(call: Assembling, source: &[u8], base: u32, x: &mut Slices) -> Answer {
     let mut place = usize::MAX;
     let number = unsafe {
-        lagvettu_assemble(
+        call(
             source.as_ptr(),
             source.len(),
             base,
@@ -91,6 +107,16 @@ pub fn assemble(source: &[u8], base: u32, x: &mut Slices) -> Answer {
         )
     };
     (number, place)
+}
+
+/// Paper 01's call.
+pub fn assemble(source: &[u8], base: u32, x: &mut Slices) -> Answer {
+    assembled(lagvettu_assemble, source, base, x)
+}
+
+/// The manual's call.
+pub fn assemble_manual(source: &[u8], base: u32, x: &mut Slices) -> Answer {
+    assembled(lagvettu_assemble_manual, source, base, x)
 }
 
 pub fn relocate(x: &mut Slices, count: usize, distance: i32) -> Answer {

@@ -8,14 +8,19 @@
 //!   compare nearest N [SEED]        N random sources: the label nearest to an address against the original's label map
 //!   compare symbols N [SEED]        N random sources: the symbols with their lines against the original's label map
 //!   compare explain N [SEED]        N random sources: why each line has no word, against the original's list without that line
+//!   compare gas N [SEED]            N random scripts of the manual's call, and N of 01's listed forms, against GNU as and ld
 #[cfg(linked)]
 mod explain;
+#[cfg(linked)]
+mod gas;
 mod generate;
+mod gnu;
 mod heard;
 #[cfg(linked)]
 mod library;
 #[cfg(linked)]
 mod lists;
+mod manual;
 #[cfg(linked)]
 mod moves;
 #[cfg(linked)]
@@ -52,6 +57,8 @@ fn main() {
         Some("symbols") => symbols::compare(number(2, 100_000) as usize, number(3, 20261118)),
         #[cfg(linked)]
         Some("explain") => explain::compare(number(2, 100_000) as usize, number(3, 20261119)),
-        _ => eprintln!("usage: compare record FILE [COUNT] | lists N [SEED] | moves N [SEED] | nearest N [SEED] | symbols N [SEED] | explain N [SEED] | speed; all but record want the static library: see ./run"),
+        #[cfg(linked)]
+        Some("gas") => gas::compare(number(2, 1_000) as usize, number(3, 20261120)),
+        _ => eprintln!("usage: compare record FILE [COUNT] | lists N [SEED] | moves N [SEED] | nearest N [SEED] | symbols N [SEED] | explain N [SEED] | gas N [SEED] | speed; all but record want the static library: see ./run"),
     }
 }

@@ -1,8 +1,9 @@
-//! Recorded calls of paper 02, a function a request; W-205's are in verdicts.rs. Each answer is written out here from 02's words and
-//! READINGS.md's examples of them, or comes from the Rust original's own label map or list where that leaves no choice; none is made
-//! by the Rattle code.
+//! Recorded calls of paper 02, a function a request; W-205's are in verdicts.rs, W-207's in manual.rs. Each answer is written out here from 02's words and
+//! READINGS.md's examples of them, or comes from the Rust original's own label map or list where that leaves no choice, or from GNU as; none
+//! is made by the Rattle code.
 
 use crate::generate::{script, Random};
+use crate::manual::manual_lists;
 use crate::verdicts::verdicts;
 use crate::{oracle, record};
 use std::collections::HashMap;
@@ -26,6 +27,7 @@ pub fn calls() -> Vec<Call> {
     line_numbers(&mut out);
     verdicts(&mut out);
     digit_values(&mut out);
+    manual_lists(&mut out);
     out
 }
 

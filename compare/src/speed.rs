@@ -1,6 +1,6 @@
 //! Speed: the same inputs through the Rust original and through the static library, in one run. Each figure is the
 //! median of many repetitions, taken in turns; the ratio, the original's time over ours, is the median of its own.
-use crate::library::{assemble, relocate, Slices};
+use crate::library::{assemble, assemble_manual, relocate, Slices};
 use crate::{oracle, record};
 use std::hint::black_box;
 use std::time::Instant;
@@ -86,6 +86,24 @@ fn inputs() -> Vec<(&'static str, String)> {
     ]
 }
 
+/// Scripts that both assembling calls accept: every line of these forms has its suffix, and every branch reaches.
+fn manual_inputs() -> Vec<(&'static str, String)> {
+    let forms = [
+        "LIM: DC.L 4160", "GO: MOVEQ #3,D1", "        MOVE.L LIM,D2", "        MOVE.L D2,LIM", "        MOVE.L (A1),D2",
+        "        MOVE.L D2,(A1)", "        MOVE.W D1,D2", "        MOVE.L #900,D3", "        MOVEA.L #LIM,A1", "        MULS.W #5,D0",
+        "        MULS.W D1,D2", "        ADD.W D1,D2", "        SUB.W D1,D2", "        CMP.L #4160,D2", "        CMP.W D1,D2",
+        "        SUBQ.L #1,D1", "        ASL.L #2,D1", "        TST.L D2", "        NOP", "        JMP LIM", "        DBRA D1,-6",
+        "        BNE -6", "        BRA +4", "; a note", "        DS.W 1",
+    ]
+    .map(String::from);
+    vec![
+        ("bezel script", record::BEZEL.to_string()),
+        ("hinge script", include_str!("../../examples/hinge68000.s").to_string()),
+        ("40 lines, every form", filled("", &forms, 40)),
+        ("32 KB, every form", filled("", &forms, 4096)),
+    ]
+}
+
 /// So many calls on one input, and its name.
 pub fn calls(input: usize, count: u64) {
     let inputs = inputs();
@@ -122,7 +140,8 @@ fn plain_move(x: &mut Slices, count: usize, distance: i32) -> bool {
     true
 }
 
-pub fn table() {
+/// Paper 01's call against the original.
+fn rust_table() {
     println!("| input | Rust original | Lagvettu | times as fast |");
     println!("|---|---|---|---|");
     let mut x = Slices::old([8192; 3]);
@@ -135,7 +154,27 @@ pub fn table() {
         };
         row(name, medians(rust, ours));
     }
-    println!();
+}
+
+/// The manual's call against 01's on the same scripts.
+fn manual_table() {
+    println!("| input | 01's call | the manual's call | times 01's |");
+    println!("|---|---|---|---|");
+    let (mut x, mut y) = (Slices::old([8192; 3]), Slices::old([12_288; 3]));
+    for (name, s) in manual_inputs() {
+        assert!(assemble_manual(s.as_bytes(), 0, &mut y).0 == 0, "{name}");
+        let manual = || {
+            black_box(assemble_manual(black_box(s.as_bytes()), 0, &mut y));
+        };
+        let ruled = || {
+            black_box(assemble(black_box(s.as_bytes()), 0, &mut x));
+        };
+        let [manual, ruled, times] = medians(manual, ruled);
+        println!("| {name} | {:.2} µs | {:.2} µs | {times:.2} |", ruled / 1000.0, manual / 1000.0);
+    }
+}
+
+fn mover_table() {
     println!("| mover, places | plain Rust loop | Lagvettu | times as fast |");
     println!("|---|---|---|---|");
     for count in [9usize, 256, 8192] {
@@ -157,4 +196,12 @@ pub fn table() {
         let [rust, ours, ratio] = medians(plain, moved);
         println!("| {count} | {rust:.0} ns | {ours:.0} ns | {ratio:.2} |");
     }
+}
+
+pub fn table() {
+    rust_table();
+    println!();
+    manual_table();
+    println!();
+    mover_table();
 }
