@@ -22,6 +22,8 @@ pub record Samples : Type 0 where
   pub forth : manualWords (Bcc GE (pos 14)) ≡ 0x6C0E ∷ []
   pub plus : manualWords (Bcc PL (negsuc 1)) ≡ 0x6AFE ∷ []
   pub minus : manualWords (Bcc MI (pos 4)) ≡ 0x6B04 ∷ []
+  pub byZero : manualWords (Bcc NE (pos 0)) ≡ 0x6600 ∷ 0x0000 ∷ []
+  pub byMinusOne : manualWords (Bcc NE (negsuc 0)) ≡ 0x66FF ∷ 0xFFFF ∷ 0xFFFF ∷ []
   pub moveData : manualWords (MOVE long (immediate 0x89ABCDEF) (direct 1)) ≡ 0x223C ∷ 0x89AB ∷ 0xCDEF ∷ []
   pub loadLabel : manualWords (MOVE long (absolute 0x12340) (direct 2)) ≡ 0x2439 ∷ 0x0001 ∷ 0x2340 ∷ []
   pub storeLabel : manualWords (MOVE long (direct 3) (absolute 0x12340)) ≡ 0x23C3 ∷ 0x0001 ∷ 0x2340 ∷ []

@@ -178,10 +178,11 @@ listed (some x) = x ∷ []
 unfoldable pub displacements : Table → ℕ → Text → List ℤ
 displacements ls a s = listed (Option·map (λ t. subℕ t (a + 2)) (find s ls)) ++ listed (signedDigits s)
 
--- "The eleven branches use the byte form, and a displacement of 0 is out of range for them"; "DBRA has its 16-bit displacement"
+-- "The eleven branches use the byte form, and a displacement of 0 is out of range for them"; W-208: "−1 is out of range for the eleven
+-- branches"; "DBRA has its 16-bit displacement"
 unfoldable pub fits : Branching → ℤ → Bool
 fits (branch c) (pos n) = ltb 0 n && ltb n 128
-fits (branch c) (negsuc n) = ltb n 128
+fits (branch c) (negsuc n) = ltb 0 n && ltb n 128
 fits (loop r) (pos n) = ltb n 32768
 fits (loop r) (negsuc n) = ltb n 32768
 
