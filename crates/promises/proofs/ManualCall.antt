@@ -60,7 +60,8 @@ branched-length : (g : Branching) (d : ℤ) → fits g d ≡ true → length (ma
 unfolding manualWords extensions branched displacementWord fits
 branched-length (branch c) (pos zero) h = absurd (false≢true h)
 branched-length (branch c) (pos (suc n)) h = refl
-branched-length (branch c) (negsuc n) h = refl
+branched-length (branch c) (negsuc zero) h = absurd (false≢true h)
+branched-length (branch c) (negsuc (suc n)) h = refl
 branched-length (loop r) d h = refl
 
 form-size : (ls : Table) (a : ℕ) (g : Form) → All (λ cs. formSize (some g) ≡ 2 * length (placesAt a cs)) (formContents ls a g)

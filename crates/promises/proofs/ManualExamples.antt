@@ -13,8 +13,8 @@ use Rattle.rules.specs.Assemble.{addressAfter, isEnd, leaving, stepBy, putting,
 use Rattle.manual.specs.Manual.{join, byte, sixteenBits, moveSize, sizeField, opmode, mode, register, halves, extension, condition, quick, layout, displacementWord, extensions, operationWord, manualWords}
 use Rattle.requests.specs.ManualCall.{addressed, branched, heads, sameSuffix, headIn, otherText, number32, imm32, oneToEight, quickly, noOperand, registers, jumpTo, moveLong, formOf, form, asIfThere, formSize, signedDigits, listed, displacements, fits, firstThat, withAddress, formContents, rangeFault, formFault, manualSize, manualEncode, manualFault}
 use Rattle.requests.specs.ManualAssemble.{taskFault, faultless, encodedManual, assembleManual}
-use Rattle.promises.specs.ManualExamples.{suffixes, unencoded, ranges, lines, words, words01, ManualExamples}
+use Rattle.promises.specs.ManualExamples.{suffixes, unencoded, ranges, minusOne, lines, words, words01, ManualExamples}
 
 pub manual-examples : ManualExamples
-unfolding bind orElse flatMap bytes blank upper uppers leading trimStart keepEnd trimEnd trim onFirst cutWhere cutAt dropEmpty pieces joinMore joined inFront firstCut same starts contains after nth firstText otherTexts lastText digitValue digits someDigits ranged below within without unsignedReading signedReading hexTail byPrefix reading32 reading16 reading8 immediate valueOf imm8 imm16 numbered linesOf readingIn numberIn operandsOf instructionOf dataSize dataValue sized dataTask isDirective dataPieces nonempty dataLine isData restLine afterLabel labelLine orgTask trimmedLine lineOf find recorded hasRoom recordAll registerDigit dataRegister addressRegister closed indirectRegister two one allDigits isSome kindOf kindNumber sameKind refuseIf refuseAt andThen addressAfter isEnd leaving stepBy putting firstPassBy placesAt dataContents codeContentsBy dataPlaces codePlacesBy secondPassBy firstHigh checks passAtBy join byte sixteenBits moveSize sizeField opmode mode register halves extension condition quick layout displacementWord extensions operationWord manualWords addressed branched heads sameSuffix headIn otherText number32 imm32 oneToEight quickly noOperand registers jumpTo moveLong formOf form asIfThere formSize signedDigits listed displacements fits firstThat withAddress formContents rangeFault formFault manualSize manualEncode manualFault taskFault faultless encodedManual assembleManual suffixes unencoded ranges lines words words01
-manual-examples = record { of-suffixes = refl; of-unencoded = refl; of-ranges = refl; of-lines = refl; of-words = refl }
+unfolding bind orElse flatMap bytes blank upper uppers leading trimStart keepEnd trimEnd trim onFirst cutWhere cutAt dropEmpty pieces joinMore joined inFront firstCut same starts contains after nth firstText otherTexts lastText digitValue digits someDigits ranged below within without unsignedReading signedReading hexTail byPrefix reading32 reading16 reading8 immediate valueOf imm8 imm16 numbered linesOf readingIn numberIn operandsOf instructionOf dataSize dataValue sized dataTask isDirective dataPieces nonempty dataLine isData restLine afterLabel labelLine orgTask trimmedLine lineOf find recorded hasRoom recordAll registerDigit dataRegister addressRegister closed indirectRegister two one allDigits isSome kindOf kindNumber sameKind refuseIf refuseAt andThen addressAfter isEnd leaving stepBy putting firstPassBy placesAt dataContents codeContentsBy dataPlaces codePlacesBy secondPassBy firstHigh checks passAtBy join byte sixteenBits moveSize sizeField opmode mode register halves extension condition quick layout displacementWord extensions operationWord manualWords addressed branched heads sameSuffix headIn otherText number32 imm32 oneToEight quickly noOperand registers jumpTo moveLong formOf form asIfThere formSize signedDigits listed displacements fits firstThat withAddress formContents rangeFault formFault manualSize manualEncode manualFault taskFault faultless encodedManual assembleManual suffixes unencoded ranges minusOne lines words words01
+manual-examples = record { of-suffixes = refl; of-unencoded = refl; of-ranges = refl; of-minus-one = refl; of-lines = refl; of-words = refl }

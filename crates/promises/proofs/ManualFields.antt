@@ -47,7 +47,7 @@ held (tst h) = omega arith
 held (subq {k = k} e l u h) = omega (arith, quick-reads-back k l u .0)
 held (asl {k = k} e l u h) = omega (arith, quick-reads-back k l u .0)
 held nop = omega arith
-held (branch c {z = z} d h) = rw (no-word z h) (omega (arith, byte-fits z (displaced-byte d), condition-fits (conditionOf c)))
+held (branch c {z = z} d h k) = rw (no-word z h k) (omega (arith, byte-fits z (displaced-byte d), condition-fits (conditionOf c)))
 
 pub fields-hold : FieldsHold
 fields-hold ls a l i r = held (r .written)

@@ -70,6 +70,6 @@ every-form-has-a-line =
       subq = line (subq {s = bytes "#8"} refl (omega arith) (omega arith) (omega arith)) refl;
       asl = line (asl {s = bytes "#1"} refl (omega arith) (omega arith) (omega arith)) refl;
       nop = line nop refl;
-      branch = λ c. line (branch c (label x-in-reach) (λ e. apart cc)) (branch-lines c .0);
-      branchBack = λ c. line (branch c (signedNumber not-in-reach refl) (λ e. apart cc)) (branch-lines c .1);
+      branch = λ c. line (branch c (label x-in-reach) (λ e. apart cc) (λ e. apart cc)) (branch-lines c .0);
+      branchBack = λ c. line (branch c (signedNumber not-in-reach refl) (λ e. apart cc) (λ e. apart cc)) (branch-lines c .1);
     }

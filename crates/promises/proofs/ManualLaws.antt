@@ -1,6 +1,7 @@
 -- Registers as texts, immediates and displacements in their ranges, and signed bytes: what the manual's lines rest on. Assumes nothing.
 use Prim.Native.Nat.{ℕ, _%_, zero, suc, _+_, _-_, _≤_, _<_}
 use mathlib.Core.Path.{_≡_, refl, ap}
+use mathlib.Core.Logic.{_≢_}
 use mathlib.Core.Bool.{Bool, true, false, cond}
 use mathlib.Core.Option.{Option, none, some, bind, orElse}
 use mathlib.Core.List.{[]}
@@ -131,9 +132,10 @@ pub displaced-byte : {ls : Table} {a : ℕ} {s : Text} {z : ℤ} → Displaced l
 displaced-byte (label r) = r .near
 displaced-byte {s = s} (signedNumber away e) = all-some InByte (written-all InByte in-byte s) e
 
--- a branch of another displacement than 0 has no word after
-pub no-word : (z : ℤ) → (z ≡ pos 0 → ⊥) → displacementWord z ≡ []
+-- a branch of another displacement than 0 and -1 has no word after
+pub no-word : (z : ℤ) → z ≢ pos 0 → z ≢ negsuc 0 → displacementWord z ≡ []
 unfolding displacementWord
-no-word (pos zero) h = absurd (h refl)
-no-word (pos (suc n)) h = refl
-no-word (negsuc n) h = refl
+no-word (pos zero) h k = absurd (h refl)
+no-word (pos (suc n)) h k = refl
+no-word (negsuc zero) h k = absurd (k refl)
+no-word (negsuc (suc n)) h k = refl

@@ -49,8 +49,8 @@ encoded (tst {n} h) = simp operand (one-word (omega arith))
 encoded (subq {s} {k} {n} e l u h) = rw (e, data-register n h, quick-modulo k u) (one-word (omega arith))
 encoded (asl {s} {k} {n} e l u h) = rw (e, data-register n h, quick-modulo k u) (one-word (omega arith))
 encoded nop = refl
-encoded (branch c {s} {z} d h) =
-    rw (branch-operation c, displaced d, byte-modulo z (displaced-byte d), no-word z h) (one-word (omega arith))
+encoded (branch c {s} {z} d h k) =
+    rw (branch-operation c, displaced d, byte-modulo z (displaced-byte d), no-word z h k) (one-word (omega arith))
 
 -- cells that are no label's address get mark 0
 pub zero-places : (a : ℕ) (ws : List ℕ) → placesAt a (map literal ws) ≡ markedZero a ws

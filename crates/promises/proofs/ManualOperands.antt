@@ -28,7 +28,7 @@ use Rattle.promises.proofs.Decided.{Decided, yes, no, decided-yes, deci
 use Rattle.promises.proofs.Readings.{Told, good, wrong, digits-told, filled, readings-mean}
 use Rattle.promises.proofs.OperandKinds.{Dn-marked, An-marked, AtAn-marked, kind-is, of-kind}
 use Rattle.promises.proofs.OperandTests.{behind-hash}
-use Rattle.promises.proofs.ManualLaws.{digit, data-register, indirect-register, leads-back, leads-there}
+use Rattle.promises.proofs.ManualLaws.{digit, data-register, indirect-register, leads-back, leads-there, no-word}
 
 -- ---- registers: a reader of the texts T reads no other
 abbrev pub Numbered : (ℕ → Text) → Text → ℕ → Type 0
@@ -231,13 +231,14 @@ in-range (branch c) (pos zero) = no (λ r. r .1 refl)
 in-range (branch c) (pos (suc n)) = rw (lt-ltb 0 (suc n) (omega arith)) (go (ltb (suc n) 128) refl)
   where
     go : (x : Bool) → ltb (suc n) 128 ≡ x → Decided (InBranch (pos (suc n))) x
-    go true e = yes (ltb-true (suc n) 128 e, λ f. clash cc)
+    go true e = yes (ltb-true (suc n) 128 e, (λ f. clash cc), (λ f. clash cc))
     go false e = no (λ r. let l = ltb-false (suc n) 128 e in let k = r .0 in omega arith)
-in-range (branch c) (negsuc n) = go (ltb n 128) refl
+in-range (branch c) (negsuc zero) = no (λ r. r .2 refl)
+in-range (branch c) (negsuc (suc n)) = rw (lt-ltb 0 (suc n) (omega arith)) (go (ltb (suc n) 128) refl)
   where
-    go : (x : Bool) → ltb n 128 ≡ x → Decided (InBranch (negsuc n)) x
-    go true e = yes (ltb-true n 128 e, λ f. clash cc)
-    go false e = no (λ r. let l = ltb-false n 128 e in let k = r .0 in omega arith)
+    go : (x : Bool) → ltb (suc n) 128 ≡ x → Decided (InBranch (negsuc (suc n))) x
+    go true e = yes (ltb-true (suc n) 128 e, (λ f. clash cc), (λ f. clash cc))
+    go false e = no (λ r. let l = ltb-false (suc n) 128 e in let k = r .0 in omega arith)
 in-range (loop r) (pos n) = go (ltb n 32768) refl
   where
     go : (x : Bool) → ltb n 32768 ≡ x → Decided (InWord (pos n)) x
@@ -251,10 +252,7 @@ in-range (loop r) (negsuc n) = go (ltb n 32768) refl
 
 -- a branch in range has no word after it
 pub no-word-after : (d : ℤ) → InBranch d → displacementWord d ≡ []
-unfolding displacementWord
-no-word-after (pos zero) r = absurd (r .1 refl)
-no-word-after (pos (suc n)) r = refl
-no-word-after (negsuc n) r = refl
+no-word-after d r = no-word d (r .1) (r .2)
 
 -- ---- the displacements that a text gives are those of the list
 pub data Among (d : ℤ) : List ℤ → Type 0 where

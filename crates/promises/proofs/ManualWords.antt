@@ -238,7 +238,7 @@ held low nop = omega arith
 held low (jumpNumber {s = s} {v = v} j n e) = omega (arith, read-32 s v e)
 held low (jumpLabel {l = l} {x = x} j o n e) = omega (arith, low l x e)
 held low (dbra {d = d} h o k) = omega (arith, word-fits d (takes-in k))
-held low (branchTo c {d = d} o k) = rw (no-word-after d (takes-in k .0, takes-in k .1)) (omega (arith, byte-fits d (takes-in k .0), condition-fits c))
+held low (branchTo c {d = d} o k) = rw (no-word-after d (takes-in k)) (omega (arith, byte-fits d (takes-in k .0), condition-fits c))
 
 pub fields-hold-here : FieldsHoldHere
 unfolding FieldsHoldHere

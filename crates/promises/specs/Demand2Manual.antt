@@ -2,6 +2,7 @@
 -- is proved to be the manual's". The forms as lines are written, and the statement about lines. Assumes nothing.
 use Prim.Native.Nat.{ℕ, suc, _+_, _≤_, _<_, _^_}
 use mathlib.Core.Path.{_≡_}
+use mathlib.Core.Logic.{_≢_}
 use mathlib.Core.Option.{Option, none, some}
 use mathlib.Core.List.{List, [], _∷_, _++_, flatMap}
 use lib.ListN.{take, drop}
@@ -68,7 +69,8 @@ pub data Displaced (ls : Table) (a : ℕ) (s : Text) (z : ℤ) : Type 0 where
   label : InReach ls a s z → Displaced ls a s z
   signedNumber : ((y : ℤ) → InReach ls a s y → ⊥) → writtenSigned s ≡ some z → Displaced ls a s z
 
--- the listed forms: mnemonic, suffix and operands that are, at address a with the labels ls, an instruction of the manual
+-- the listed forms: mnemonic, suffix and operands that are, at address a with the labels ls, an instruction of the manual. W-208: "The set
+-- of branches proved equal to the manual loses the byte −1 as it already lacks 0."
 pub data Written (ls : Table) (a : ℕ) : Text → Option Text → List Text → Instruction → Type 0 where
   moveq : {s : Text} {z : ℤ} {n : ℕ} → imm8 s ≡ some z → n < 8
       → Written ls a (bytes "MOVEQ") none (s ∷ D n ∷ []) (MOVEQ z n)
@@ -89,7 +91,7 @@ pub data Written (ls : Table) (a : ℕ) : Text → Option Text → List Text →
   asl : {s : Text} {k n : ℕ} → imm8 s ≡ some (pos k) → 1 ≤ k → k ≤ 8 → n < 8
       → Written ls a (bytes "ASL") L (s ∷ D n ∷ []) (ASL long k n)
   nop : Written ls a (bytes "NOP") none [] NOP
-  branch : (c : Branch) {s : Text} {z : ℤ} → Displaced ls a s z → (z ≡ pos 0 → ⊥)
+  branch : (c : Branch) {s : Text} {z : ℤ} → Displaced ls a s z → z ≢ pos 0 → z ≢ negsuc 0
       → Written ls a (branchName c) none (s ∷ []) (Bcc (conditionOf c) z)
 
 -- the line l, at address a with the labels ls, is an instruction of the manual

@@ -1,4 +1,4 @@
--- 02's W-207 by example: sources of the manual's call with the refusal or the list that they have. Assumes nothing.
+-- 02's W-207 and W-208 by example: sources of the manual's call with the refusal or the list that they have. Assumes nothing.
 use Prim.Native.Nat.{ℕ}
 use mathlib.Core.Path.{_≡_}
 use mathlib.Core.List.{List, [], _∷_, map}
@@ -49,6 +49,14 @@ ranges =
     ∷ gives (bytes "BRA +127\nBRA -128") (place 0 0x607F 0 ∷ place 2 0x6080 0 ∷ [])
     ∷ gives (bytes "DBRA D7,-1\nDBRA D0,+0") (place 0 0x51CF 0 ∷ place 2 0xFFFF 0 ∷ place 4 0x51C8 0 ∷ place 6 0x0000 0 ∷ []) ∷ []
 
+-- W-208: -1 is out of range for a branch, of a label and as written, -2 is not; 01's fall-through; DBRA keeps -1
+unfoldable pub minusOne : List Example
+minusOne =
+    fails 15 1 (bytes "BRA X\nORG 1\nX:") ∷ fails 15 1 (bytes "BRA -1")
+    ∷ gives (bytes "X:BRA X\nBRA -2") (place 0 0x60FE 0 ∷ place 2 0x60FE 0 ∷ [])
+    ∷ gives (bytes "BRA -5\nORG 1\n-5:") (place 0 0x60FB 0 ∷ [])
+    ∷ gives (bytes "DBRA D0,X\nORG 1\nX:") (place 0 0x51C8 0 ∷ place 2 0xFFFF 0 ∷ []) ∷ []
+
 -- the size of FOO is 0, so at 2^30 − 1 it is 14 and not 5; ORG and DC without a number are silent; empties are removed before counting
 unfoldable pub lines : List Example
 lines =
@@ -90,5 +98,6 @@ pub record ManualExamples : Type 0 where
   pub of-suffixes : Hold suffixes
   pub of-unencoded : Hold unencoded
   pub of-ranges : Hold ranges
+  pub of-minus-one : Hold minusOne
   pub of-lines : Hold lines
   pub of-words : Hold (words ∷ words01 ∷ [])

@@ -5,7 +5,7 @@ use mathlib.Core.Path.{_≡_}
 use mathlib.Core.Logic.{_≢_}
 use mathlib.Core.Option.{Option, none, some}
 use mathlib.Core.List.{List, [], _∷_, map}
-use lib.IntN.{ℤ, pos, negℤ, _+ℤ_}
+use lib.IntN.{ℤ, pos, negsuc, negℤ, _+ℤ_}
 use Rattle.rules.specs.Text.{Text, bytes}
 use Rattle.rules.specs.Number.{read}
 use Rattle.rules.specs.Line.{Instruction as Said}
@@ -35,9 +35,9 @@ pub record Reaches (ls : Table) (a : ℕ) (s : Text) (d : ℤ) : Type 0 where
   pub found : find s ls ≡ some target
   pub leads : pos (a + 2) +ℤ d ≡ pos target
 
--- "The eleven branches use the byte form, and a displacement of 0 is out of range for them"; "DBRA has its 16-bit displacement"
+-- "The eleven branches use the byte form, and a displacement of 0 is out of range for them", by W-208 −1 too; "DBRA has its 16-bit displacement"
 abbrev pub InBranch : ℤ → Type 0
-InBranch d = InByte d × (d ≢ pos 0)
+InBranch d = InByte d × (d ≢ pos 0) × (d ≢ negsuc 0)
 
 -- the displacement that is taken, R being in range: the recorded label's, if it is in range, else the signed number's, if it is
 pub data Takes (ls : Table) (a : ℕ) (R : ℤ → Type 0) (s : Text) (d : ℤ) : Type 0 where
