@@ -157,13 +157,15 @@ module _ (ls : Table) (a : ℕ) (s : Text) where
     unfolding fits byte sixteenBits
     byte-in (pos zero) h = absurd (false≢true h)
     byte-in (pos (suc n)) h = let l = ltb-true (suc n) 128 (rw (lt-ltb 0 (suc n) (omega arith)) at h) in omega arith
-    byte-in (negsuc n) h = let l = ltb-true n 128 h in omega arith
+    byte-in (negsuc zero) h = absurd (false≢true h)
+    byte-in (negsuc (suc n)) h = let l = ltb-true (suc n) 128 (rw (lt-ltb 0 (suc n) (omega arith)) at h) in omega arith
 
     no-word-after : (z : ℤ) → fits (branch c) z ≡ true → displacementWord z ≡ []
     unfolding fits displacementWord
     no-word-after (pos zero) h = absurd (false≢true h)
     no-word-after (pos (suc n)) h = refl
-    no-word-after (negsuc n) h = refl
+    no-word-after (negsuc zero) h = absurd (false≢true h)
+    no-word-after (negsuc (suc n)) h = refl
 
     pub branch-fits : {w v : ℕ} → x ≡ D.Value w → v ≡ 0x6000 + 256 * condition c + w % 256 → Codes ls a (some (displaced (branch c) s)) (Word v)
     unfolding formFault formContents bind branched manualWords extensions

@@ -1,6 +1,7 @@
 -- Whether a displacement fits, as the code tests it, and a displacement as written: a sign and digits of any length. Assumes nothing.
 use Prim.Native.Nat.{ℕ, zero, suc, _+_, _*_, _-_, _<_, _≤_}
 use mathlib.Core.Path.{_≡_, refl, sym, ap, _∙_}
+use mathlib.Core.Logic.{_≢_}
 use mathlib.Core.Bool.{Bool, true, false, false≢true, not, _||_, cond}
 use mathlib.Core.Option.{Option, none, some, Option·map}
 use mathlib.Core.List.{List, [], _∷_}
@@ -30,6 +31,10 @@ pub byte-zero : (z : ℤ) → z ≡ pos 0 → false ≡ fits (branch T) z
 unfolding fits
 byte-zero z e = rw e
 
+pub byte-minus-one : (z : ℤ) → z ≡ negsuc 0 → false ≡ fits (branch T) z
+unfolding fits
+byte-minus-one z e = rw e
+
 -- below, above and inside a bound
 module _ (b : ℕ) where
   under : (z : ℤ) → ltZ z (negsuc b) ≡ true → b < mag z
@@ -47,7 +52,7 @@ module _ (b : ℕ) where
 byte-far : (z : ℤ) → 127 < mag z → false ≡ fits (branch T) z
 unfolding fits
 byte-far (pos n) h = rw (le-ltb n 128 h, lt-ltb 0 n (omega arith))
-byte-far (negsuc n) h = rw (le-ltb n 128 h)
+byte-far (negsuc n) h = rw (le-ltb n 128 h, lt-ltb 0 n (omega arith))
 
 word-far : (z : ℤ) → 32767 < mag z → false ≡ fits (loop 0) z
 unfolding fits
@@ -60,11 +65,12 @@ byte-under z e = byte-far z (under 127 z e)
 pub byte-over : (z : ℤ) → ltZ (pos 127) z ≡ true → false ≡ fits (branch T) z
 byte-over z e = byte-far z (over 127 z e)
 
-pub byte-inside : (z : ℤ) → (z ≡ pos 0 → ⊥) → ltZ z (negsuc 127) ≡ false → ltZ (pos 127) z ≡ false → true ≡ fits (branch T) z
+pub byte-inside : (z : ℤ) → z ≢ pos 0 → z ≢ negsuc 0 → ltZ z (negsuc 127) ≡ false → ltZ (pos 127) z ≡ false → true ≡ fits (branch T) z
 unfolding fits
-byte-inside (pos zero) d e f = absurd (d refl)
-byte-inside (pos (suc n)) d e f = let l = inside 127 (pos (suc n)) e f in rw (lt-ltb 0 (suc n) (omega arith), lt-ltb (suc n) 128 (omega arith))
-byte-inside (negsuc n) d e f = let l = inside 127 (negsuc n) e f in rw (lt-ltb n 128 (omega arith))
+byte-inside (pos zero) d g e f = absurd (d refl)
+byte-inside (pos (suc n)) d g e f = let l = inside 127 (pos (suc n)) e f in rw (lt-ltb 0 (suc n) (omega arith), lt-ltb (suc n) 128 (omega arith))
+byte-inside (negsuc zero) d g e f = absurd (g refl)
+byte-inside (negsuc (suc n)) d g e f = let l = inside 127 (negsuc (suc n)) e f in rw (lt-ltb 0 (suc n) (omega arith), lt-ltb (suc n) 128 (omega arith))
 
 pub word-under : (z : ℤ) → ltZ z (negsuc 32767) ≡ true → false ≡ fits (loop 0) z
 word-under z e = word-far z (under 32767 z e)
@@ -82,7 +88,8 @@ pub fits-word : (b : Bool) (z : ℤ) → fits (branchingBy b) z ≡ true → mag
 unfolding fits
 fits-word true (pos zero) h = omega arith
 fits-word true (pos (suc n)) h = let l = ltb-true (suc n) 128 (rw (lt-ltb 0 (suc n) (omega arith)) at h) in omega arith
-fits-word true (negsuc n) h = let l = ltb-true n 128 h in omega arith
+fits-word true (negsuc zero) h = omega arith
+fits-word true (negsuc (suc n)) h = let l = ltb-true (suc n) 128 (rw (lt-ltb 0 (suc n) (omega arith)) at h) in omega arith
 fits-word false (pos n) h = ltb-true n 32768 h
 fits-word false (negsuc n) h = ltb-true n 32768 h
 

@@ -31,7 +31,7 @@ fn distance(label: u32, address: u32) -> i64
     label as i64 - (address as i64 + 2)
 }
 
-// Whether a displacement fits: in a byte, which 0 does not, or in a word.
+// Whether a displacement fits: in a byte, which neither 0 nor -1 does, or in a word.
 fn is_near(d: i64, byte: bool) -> bool
     ensures { λ r. ⌜ r ≡ fits (branchingBy byte) d ⌝ }
 {
@@ -46,6 +46,9 @@ fn fits_byte(d: i64) -> bool
     ensures { λ r. ⌜ r ≡ fits (branch T) d ⌝ }
 {
     if d == 0 {
+        return false;
+    }
+    if d == -1 {
         return false;
     }
     if d < -128 {
