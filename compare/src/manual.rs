@@ -80,6 +80,10 @@ const LISTS: &[(&str, &str)] = &[
     ("BRA +5\n+5:NOP", "6005 4E71"),
     ("-2: NOP\nORG 1000\nDBRA D0,-2", "4E71 @3E8 51C8 FC16"),
     ("-2: NOP\nORG 40000\nDBRA D0,-2", "4E71 @9C40 51C8 FFFE"),
+    // 02, W-208: −1 is out of range for a branch, as 0 is, so here too 01's fall-through; DBRA keeps it; −2 stays.
+    ("BRA +5\nORG 1\n+5:", "6005"),
+    ("DBRA D0,X\nORG 1\nX:", "51C8 FFFF"),
+    ("X: BRA X\nBNE -2", "60FE 66FE"),
     // READINGS: empties are removed before counting.
     ("NOP ,\nBRA -2,", "4E71 60FE"),
     // READINGS: data lines are 01's; ORG and DC without a readable number stay silent; data words come first.
@@ -111,6 +115,9 @@ const REFUSED: &[(&str, u8, usize)] = &[
     ("BRA +128", 15, 1), ("BRA +0", 15, 1), ("BRA -129", 15, 1), ("BRA +99999999999", 15, 1), ("DBRA D0,+32768", 15, 1), ("DBRA D0,-32769", 15, 1),
     ("BRA +", 14, 1), ("BRA +1x", 14, 1), ("BRA -$10", 14, 1), ("BRA +5x", 14, 1), ("BRA 5", 14, 1),
     ("+5x:NOP\nORG 1000\nBRA +5x", 15, 3), ("BRA x\nx:", 15, 1), ("x:\nORG 1000\nBRA x", 15, 3), ("BRA x\nORG 130\nx:", 15, 1),
+    // 02, W-208: "In the manual's call −1 is out of range for the eleven branches."
+    ("BRA -1", 15, 1), ("BCC -1", 15, 1), ("BCS -1", 15, 1), ("BNE -1", 15, 1), ("BEQ -1", 15, 1), ("BPL -1", 15, 1), ("BMI -1", 15, 1),
+    ("BGE -1", 15, 1), ("BLT -1", 15, 1), ("BGT -1", 15, 1), ("BLE -1", 15, 1), ("BRA X\nORG 1\nX:", 15, 1), ("BRA -001", 15, 1),
     // READINGS: 15 needs the only fault.
     ("BRA.S far\nORG 1000\nfar:NOP", 14, 1), ("BRA far,x\nORG 1000\nfar:NOP", 14, 1), ("DBRA A0,far\nORG 40000\nfar:NOP", 14, 1),
     ("BRA far", 14, 1), ("MOVE.L far,D0", 14, 1), ("JMP far", 14, 1), ("DBRA D0,far\nORG 40000\nfar:", 15, 1),
