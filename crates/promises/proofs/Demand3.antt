@@ -70,10 +70,10 @@ zero-or-one (suc zero) h u v c = (λ f. refl, λ e. v (λ e. omega arith) (λ e.
 zero-or-one (suc (suc m)) h u v c = absurd (omega arith)
 
 -- what the moves ask of a list that fits
-sixteen : (l : List Place) → All Fit l → All Sixteen l
+pub sixteen : (l : List Place) → All Fit l → All Sixteen l
 sixteen l h = all-by Fit Sixteen (λ p f. f .reduced) l h
 
-low : (l : List Place) → All Fit l → All Low l
+pub low : (l : List Place) → All Fit l → All Low l
 low l h = all-by Fit Low (λ p f. f .bound) l h
 
 module _ {z : Sizes} {e : Encoder} {most : ℕ} (law : Lawful z e most) where

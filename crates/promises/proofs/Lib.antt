@@ -76,3 +76,4 @@ pub mod ManualFaults
 pub mod ManualRefusals
 pub mod ManualLists
 pub mod ManualExamples
+pub mod Lands

@@ -15,7 +15,7 @@ use Rattle.rules.specs.Number.{digitValue, within, immediate, imm8, imm16, modu
 use Rattle.rules.specs.Label.{Table, find}
 use Rattle.rules.specs.Encode.{registerDigit, dataRegister, closed, indirect, reach, displacement, writtenSigned}
 use Rattle.rules.proofs.Readings.{All, all-some, within-all, written-all, imm8-all}
-use Rattle.manual.specs.Manual.{InByte, byte, signOf, quick, quickOf, displacementWord}
+use Rattle.manual.specs.Manual.{InByte, byte, signBy, signOf, quick, quickOf, displacementWord}
 use Rattle.promises.specs.Demand2Manual.{D, atA, InReach, Displaced, label, signedNumber, BytesReadBack, QuickReadsBack}
 
 -- a digit byte reads as its digit
@@ -61,7 +61,7 @@ byte-modulo (pos n) h = omega arith
 byte-modulo (negsuc n) h = omega arith
 
 pub bytes-read-back : BytesReadBack
-unfolding byte signOf
+unfolding byte signOf signBy
 bytes-read-back (pos n) h = (omega arith, rw (lt-ltb n 128 h))
 bytes-read-back (negsuc n) h = (omega arith, rw (le-ltb (255 - n) 128 (omega arith), lt-ltb (255 - n) 256 (omega arith)) (ap negsuc (omega arith)))
 

@@ -10,7 +10,7 @@ use borrow.Author.Tests.{leb-false}
 use lib.ListN.{take, drop}
 use Rattle.rules.specs.Limits.{addressLimit}
 use Rattle.rules.specs.Text.{Text, same}
-use Rattle.rules.specs.Line.{SourceLine, Name, linesOf, end, instruction, lineOf, size}
+use Rattle.rules.specs.Line.{SourceLine, Name, linesOf, end, Instruction as Said, instruction, lineOf, size}
 use Rattle.rules.specs.Label.{Label, Table, find, recorded, hasRoom, labelOf, recordAll}
 use Rattle.rules.specs.Encode.{Content, literal, address, longAddress, encode}
 use Rattle.rules.specs.Answer.{Answer, accepted, andThen}
@@ -42,7 +42,7 @@ module _ (z : Sizes) (e : Encoder) (base : ℕ) (s : Text) (p : Pass) (h : passA
       let k = not-refused _ 4 0 _ p (checks-passed s _ p h .1) in
       (k .1, leb-false addressLimit base (k .0))
 
-  cut : {j a : ℕ} {ns : List Text} (l : Text) → Reached z base s j a ns → IsLine s j l → lineOf l .task ≢ end
+  pub cut : {j a : ℕ} {ns : List Text} (l : Text) → Reached z base s j a ns → IsLine s j l → lineOf l .task ≢ end
       → secondPassBy e p ≡ wordsBefore e p j ++ (codePlacesBy e (p .labels) (record { address = a; task = lineOf l .task }) ++ wordsAfter e p j)
   unfolding secondPassBy wordsBefore wordsAfter flatMap
   cut {j} {a} l r i k =
@@ -135,6 +135,16 @@ has-words (emits {cs}) e = (cs, refl)
 has-words no-encoding e = clash cc
 has-words out-of-range e = clash cc
 
+pub line-encoded : (base : ℕ) (s : Text) (p : Pass) (l : List Place) → passAtBy manualSize base s ≡ accepted p → assembleManual base s ≡ accepted l
+    → {j a : ℕ} {ns : List Text} (line : Text) (i : Said) → Reached manualSize base s j a ns → IsLine s j line → lineOf line .task ≡ instruction i
+    → (cs : List Content) × (manualEncode (p .labels) a i ≡ some cs)
+unfolding WordsOrFault assembleManual andThen taskFault
+line-encoded base s p l h g {j} {a} line i r e k =
+    let go-on : lineOf line .task ≢ end = λ u. let v = sym k ∙ u in clash cc in
+    let puts = rw k at (put-at manualSize base s p (passed manualSize manualEncode base s p h .0) line r e go-on) in
+    let plain = plain-pass p l (rw h at g) .1 in
+    has-words (words-or-fault (p .labels) a i) (no-fault-at (p .labels) 1 (p .puts) (record { address = a; task = instruction i }) (take j (p .puts)) (drop (suc j) (p .puts)) puts plain)
+
 -- places are their words and marks, from the address on
 places-marked : (a : ℕ) (cs : List Content) → placesAt a cs ≡ marked a (map (λ p. p .word) (placesAt a cs)) (map (λ p. p .mark) (placesAt a cs))
 unfolding placesAt marked
@@ -146,15 +156,13 @@ places-marked a (longAddress x ∷ cs) =
     rw (e, ← places-marked (a + 4) cs)
 
 pub lists-are-manual : ListsAreManual
-unfolding ListsAreManual WordsAreTheManuals WordsOrFault assembleManual andThen taskFault codePlacesBy codeContentsBy
+unfolding ListsAreManual WordsAreTheManuals assembleManual andThen codePlacesBy codeContentsBy
 lists-are-manual base s p l h g j a ns line i r e k =
     let go-on : lineOf line .task ≢ end = λ u. let v = sym k ∙ u in clash cc in
     let f : encodedManual p ≡ accepted l = rw h at g in
-    let plain = plain-pass p l f in
-    let puts = rw k at (put-at manualSize base s p (passed manualSize manualEncode base s p h .0) line r e go-on) in
-    let w = has-words (words-or-fault (p .labels) a i) (no-fault-at (p .labels) 1 (p .puts) (record { address = a; task = instruction i }) (take j (p .puts)) (drop (suc j) (p .puts)) puts (plain .1)) in
+    let w = line-encoded base s p l h g line i r e k in
     let m = words-are-the-manuals (p .labels) a i (w .0) (low-addresses manualSize base s p h) (w .1) in
-    stands (w .0) (w .1) m f (sym (plain .0) ∙ cut manualSize manualEncode base s p h line r e go-on)
+    stands (w .0) (w .1) m f (sym (plain-pass p l f .0) ∙ cut manualSize manualEncode base s p h line r e go-on)
   where
     words : (cs : List Content) → manualEncode (p .labels) a i ≡ some cs → codePlacesBy manualEncode (p .labels) (record { address = a; task = lineOf line .task }) ≡ placesAt a cs
     words cs c = rw (k, c)

@@ -22,3 +22,4 @@ pub mod ManualDemand3
 pub mod ManualRefusals
 pub mod ManualLists
 pub mod ManualExamples
+pub mod Lands
