@@ -285,8 +285,9 @@ unfolding ManualBranchesLand FoundIsLast
 manual-branches-land base s p l h f j a i o t d m q =
     let found = found-is-last manualSize base s p h o t .1 (m .last) in
     let has = line-encoded base s p l h f (m .line) i (m .reached) (m .is) (m .asks) in
-    landed lawful base s p l h (plain base s l f) ByByte byte-follows _ [] (branch-leads (condition (q .condition)) a t d (condition-fits (q .condition)) (q .near .0) (m .leads)) m
-    (branch-code (p .labels) a o t d found (m .leads) i (q .condition) (q .others) (q .named) (q .operands) (q .near) (has .1))
+    let near : InBranch d = q .near in
+    landed lawful base s p l h (plain base s l f) ByByte byte-follows _ [] (branch-leads (condition (q .condition)) a t d (condition-fits (q .condition)) (near .0) (m .leads)) m
+    (branch-code (p .labels) a o t d found (m .leads) i (q .condition) (q .others) (q .named) (q .operands) near (has .1))
 
 pub loops-land : LoopsLand
 unfolding LoopsLand FoundIsLast

@@ -77,3 +77,4 @@ pub mod ManualRefusals
 pub mod ManualLists
 pub mod ManualExamples
 pub mod Lands
+pub mod LandsExamples

@@ -111,13 +111,13 @@ LoopsLand = LandFor manualSize manualEncode assembleManual Loops ByWord
 abbrev pub back : Condition → Text
 back c = bytes "X:" ++ (branchNamed c ++ bytes " X")
 
-abbrev backSaid : Condition → Instruction
+abbrev pub backSaid : Condition → Instruction
 backSaid c = record { mnemonic = branchNamed c; suffix = none; operands = bytes "X" ∷ [] }
 
 abbrev pub loop : Text
 loop = bytes "X:DBRA D0,X"
 
-abbrev loopSaid : Instruction
+abbrev pub loopSaid : Instruction
 loopSaid = record { mnemonic = bytes "DBRA"; suffix = none; operands = bytes "D0" ∷ bytes "X" ∷ [] }
 
 -- a source is accepted by a call
