@@ -13,11 +13,11 @@ use mir.Val.{SFits, Fits, toZ, ofZ}
 use mir.Facts.{toZ-ofZ, toZ-pos}
 use borrow.Author.Tests.{lt-ltb, le-ltb, ltb-true, ltb-false}
 use Rattle.rules.specs.Number.{within, modulo}
-use Rattle.numeral.specs.Number.{signReading}
+use Rattle.manual.specs.Manual.{signBy, signOf}
 
 -- the byte of a number within -128 to 127, read with its sign, is the number
-pub sign-reading : (z : ℤ) → mag z < 128 → signReading (modulo 256 z) ≡ z
-unfolding signReading modulo
+pub sign-reading : (z : ℤ) → mag z < 128 → signOf (modulo 256 z) ≡ z
+unfolding signOf signBy modulo
 sign-reading (pos n) h = rw (lt-ltb (n % 256) 128 (omega arith)) (ap pos (omega arith))
 sign-reading (negsuc n) h =
     rw (le-ltb (256 - suc (n % 256)) 128 (omega arith), lt-ltb (256 - suc (n % 256)) 256 (omega arith)) (ap negsuc (omega arith))

@@ -4,7 +4,7 @@ use mathlib.Core.Option.{Option, none, some}
 use mathlib.Core.Bool.{Bool, true, _&&_, cond}
 use mathlib.Core.List.{[], _∷_}
 use lib.Dec.{ltb}
-use lib.IntN.{ℤ, pos, subℕ}
+use lib.IntN.{ℤ}
 use lib.ListN.{length}
 use Rattle.rules.specs.Text.{Text}
 use Rattle.rules.specs.Number.{digitValue, Failure as Fault, noDigits, badDigit, outOfRange, Reading, read, failed, without, hexTail}
@@ -74,7 +74,3 @@ plusLength s = length s - length (without 43 s)
 -- the length of a prefix: what the text has more than what follows the prefix, 0 where there is none
 unfoldable pub prefixLength : Text → ℕ
 prefixLength s = elim (hexTail s) [ none ↦ 0 | some t ↦ length s - length t ]
-
--- a byte read with its sign: as it is below 128, else less 256
-unfoldable pub signReading : ℕ → ℤ
-signReading b = cond (ltb b 128) (pos b) (subℕ b 256)
