@@ -8,6 +8,7 @@
 //!   compare nearest N [SEED]        N random sources: the label nearest to an address against the original's label map
 //!   compare symbols N [SEED]        N random sources: the symbols with their lines against the original's label map
 //!   compare explain N [SEED]        N random sources: why each line has no word, against the original's list without that line
+//!   compare lands N [SEED]          N random sources: each branch word to a label in reach leads there, also after moves
 //!   compare gas N [SEED]            N random scripts of the manual's call, and N of 01's listed forms, against GNU as and ld
 #[cfg(linked)]
 mod explain;
@@ -16,6 +17,8 @@ mod gas;
 mod generate;
 mod gnu;
 mod heard;
+#[cfg(linked)]
+mod lands;
 #[cfg(linked)]
 mod library;
 #[cfg(linked)]
@@ -58,7 +61,9 @@ fn main() {
         #[cfg(linked)]
         Some("explain") => explain::compare(number(2, 100_000) as usize, number(3, 20261119)),
         #[cfg(linked)]
+        Some("lands") => lands::compare(number(2, 100_000) as usize, number(3, 20261121)),
+        #[cfg(linked)]
         Some("gas") => gas::compare(number(2, 1_000) as usize, number(3, 20261120)),
-        _ => eprintln!("usage: compare record FILE [COUNT] | lists N [SEED] | moves N [SEED] | nearest N [SEED] | symbols N [SEED] | explain N [SEED] | gas N [SEED] | speed; all but record want the static library: see ./run"),
+        _ => eprintln!("usage: compare record FILE [COUNT] | lists N [SEED] | moves N [SEED] | nearest N [SEED] | symbols N [SEED] | explain N [SEED] | gas N [SEED] | lands N [SEED] | speed; all but record want the static library: see ./run"),
     }
 }

@@ -59,21 +59,41 @@ impl Read {
         out.join("\n")
     }
 
-    /// Whether the list loses words with a line silenced. None if anything changes but words at that line's address.
-    fn loses_words(&self, k: usize, names: &HashMap<String, u32>) -> Option<bool> {
+    /// A line, the address at which it is read, and the address of a label.
+    pub fn line(&self, k: usize) -> &str {
+        &self.lines[k]
+    }
+
+    pub fn address(&self, k: usize) -> u32 {
+        self.after[k - 1]
+    }
+
+    pub fn label(&self, name: &str) -> Option<u32> {
+        self.labels.get(name).copied()
+    }
+
+    /// Where the words stand in the list that it loses with a line silenced, and how many. None if anything changes but words at that
+    /// line's address.
+    fn lost_words(&self, k: usize, names: &HashMap<String, u32>) -> Option<(usize, usize)> {
         let (list, labels) = shown(&self.silenced(k, names));
         let lost = self.list.len().checked_sub(list.len())?;
         let before = self.list.iter().zip(&list).take_while(|(a, b)| a == b).count();
         let address = self.after[k - 1];
         let own = |i: usize| self.list[i..i + lost].iter().zip([address, address + 2]).all(|(word, a)| word.0 == a);
-        let only_own = (0..=before).any(|i| own(i) && self.list[i + lost..] == list[i..]);
-        (labels == self.labels && lost <= 2 && only_own).then_some(lost > 0)
+        let place = (0..=before).find(|&i| own(i) && self.list[i + lost..] == list[i..])?;
+        (labels == self.labels && lost <= 2).then_some((place, lost))
+    }
+
+    /// The place in the list of the first word of a line that has one.
+    pub fn place(&self, k: usize) -> Option<usize> {
+        let (place, lost) = self.lost_words(k, &heard::alone(&self.lines[k]).0)?;
+        (lost > 0).then_some(place)
     }
 
     /// What W-205 says of a line that is read, its place in PHRASES; None if the line cannot be silenced.
     pub fn verdict(&self, k: usize) -> Option<u8> {
         let (names, instruction) = heard::alone(&self.lines[k]);
-        Some(match (self.loses_words(k, &names)?, instruction) {
+        Some(match (self.lost_words(k, &names)?.1 > 0, instruction) {
             (true, _) => 0,
             (false, None) => 1,
             (false, Some(instruction)) => first_reason(&instruction, self.after[k - 1], &self.labels),
