@@ -1,3 +1,4 @@
 pub mod Places
 pub mod FormVerdicts
 pub mod Answers
+pub mod Mnemonics

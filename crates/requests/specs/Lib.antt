@@ -1,5 +1,6 @@
 pub mod Nearest
 pub mod Symbols
 pub mod Explain
+pub mod Branches
 pub mod ManualCall
 pub mod ManualAssemble
