@@ -78,3 +78,10 @@ pub mod ManualLists
 pub mod ManualExamples
 pub mod Lands
 pub mod LandsExamples
+pub mod BranchRows
+pub mod BranchNames
+pub mod Branches
+pub mod BranchFront
+pub mod BranchEleven
+pub mod BranchCalls
+pub mod BranchCases

@@ -23,3 +23,6 @@ pub mod ManualRefusals
 pub mod ManualLists
 pub mod ManualExamples
 pub mod Lands
+pub mod Branches
+pub mod BranchCalls
+pub mod BranchCases
