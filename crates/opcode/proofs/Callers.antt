@@ -112,11 +112,11 @@ pub named : (o : Option Ruled) {v : Operation} → operationOf o ≡ v → o ≡
 named o e = sym (ruled-of o) ∙ ap ruled e
 
 -- what holds of every operation of a list holds of the one that is found
-abbrev every : (Ruled → Bool) → List Mnemonic → Bool
+abbrev pub every : (Ruled → Bool) → List Mnemonic → Bool
 every f [] = true
 every f (n ∷ ns) = cond (f (n .operation)) (every f ns) false
 
-found : (f : Ruled → Bool) (ns : List Mnemonic) (m : Text) (o : Ruled) → every f ns ≡ true → operationIn ns m ≡ some o → f o ≡ true
+pub found : (f : Ruled → Bool) (ns : List Mnemonic) (m : Text) (o : Ruled) → every f ns ≡ true → operationIn ns m ≡ some o → f o ≡ true
 unfolding operationIn
 found f [] m o a e = let z : _≡_ {A = ℕ} 0 1 = cc in absurd (omega arith)
 found f (n ∷ ns) m o a e = go (f (n .operation)) refl a (same m (n .name)) e (found f ns m o)
@@ -130,7 +130,7 @@ found f (n ∷ ns) m o a e = go (f (n .operation)) refl a (same m (n .name)) e (
     go false p a y e r = let z : _≡_ {A = ℕ} 0 1 = cc in absurd (omega arith)
 
 -- a branch's condition is below 16
-abbrev conditionBelow16 : Ruled → Bool
+abbrev pub conditionBelow16 : Ruled → Bool
 conditionBelow16 o =
     elim o [
       | branch c ↦ ltb c 16

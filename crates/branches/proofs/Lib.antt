@@ -1,0 +1,3 @@
+pub mod Others
+pub mod Laws
+pub mod Under
