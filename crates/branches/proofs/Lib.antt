@@ -1,3 +1,4 @@
 pub mod Others
 pub mod Laws
 pub mod Under
+pub mod Callers

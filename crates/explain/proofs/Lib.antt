@@ -4,3 +4,4 @@ mod Trying
 mod Operations
 mod Lines
 mod Writing
+pub mod Tabled

@@ -13,9 +13,10 @@ use Rattle.rules.specs.Limits.{maxSource}
 use Rattle.rules.specs.Text.{Text, cutAt}
 use Rattle.rules.specs.Line.{size}
 use Rattle.rules.specs.Encode.{mnemonics}
+use Rattle.rules.specs.Encode.{Mnemonic}
 use Rattle.rules.specs.Answer.{andThen}
 use Rattle.rules.specs.Assemble.{Put}
-use Rattle.requests.specs.Explain.{because, notInstruction, whyTask, verdicts, verdictAt, toldLine, explainAllBy, explainBy, explain}
+use Rattle.requests.specs.Explain.{because, notInstruction, whyTask, verdicts, verdictAt, toldLine, explainAllBy, explainBy}
 use Rattle.requests.specs.Explain.{Verdict as Said}
 use Rattle.label.specs.Table.{tableOf}
 use Rattle.text.specs.declared.Span.{Span}
@@ -104,37 +105,37 @@ past-end [] j h = refl
 past-end (x ∷ xs) zero h = absurd (omega arith)
 past-end (x ∷ xs) (suc j) h = past-end xs j (omega arith)
 
-module _ (source : Text) (table cells : List ℕ) (pass : Pass) where
+module _ (names : List Mnemonic) (source : Text) (table cells : List ℕ) (pass : Pass) where
   -- the last one, where END is read
   abbrev pub ending : List Said
   ending = cond (ltb (pass .lines) (length (cutAt 10 source))) (because notInstruction ∷ []) []
 
   abbrev pub all : List Said
-  all = verdicts mnemonics source (passIn source table cells pass)
+  all = verdicts names source (passIn source table cells pass)
 
-  pub verdicts-are : all ≡ verdictsTo source table cells pass (pass .lines) ++ ending
+  pub verdicts-are : all ≡ verdictsTo names source table cells pass (pass .lines) ++ ending
   unfolding verdicts passIn
   verdicts-are = rw (puts-length source (pass .base) cells (pass .lines))
 
-  pub kept-count : (k : ℕ) → length (verdictsTo source table cells pass k) ≡ k
+  pub kept-count : (k : ℕ) → length (verdictsTo names source table cells pass k) ≡ k
   kept-count k = length-map (putsOf source (pass .base) cells k) _ ∙ puts-length source (pass .base) cells k
 
-  pub with-end : pass .lines < length (cutAt 10 source) → all ≡ verdictsTo source table cells pass (pass .lines) ++ (because notInstruction ∷ [])
+  pub with-end : pass .lines < length (cutAt 10 source) → all ≡ verdictsTo names source table cells pass (pass .lines) ++ (because notInstruction ∷ [])
   with-end h = verdicts-are ∙ rw (lt-ltb (pass .lines) (length (cutAt 10 source)) h)
 
-  pub without-end : length (cutAt 10 source) ≤ pass .lines → all ≡ verdictsTo source table cells pass (pass .lines) ++ []
+  pub without-end : length (cutAt 10 source) ≤ pass .lines → all ≡ verdictsTo names source table cells pass (pass .lines) ++ []
   without-end h = verdicts-are ∙ rw (le-ltb (pass .lines) (length (cutAt 10 source)) h)
 
 -- ---- one line among them
-module _ {source : Text} {table cells : List ℕ} {pass : Pass} (h : Holds source table cells pass) where
+module _ (names : List Mnemonic) {source : Text} {table cells : List ℕ} {pass : Pass} (h : Holds source table cells pass) where
   abbrev said : List Said
-  said = all source table cells pass
+  said = all names source table cells pass
 
-  explained : (line : ℕ) → explain (pass .base) source line ≡ toldLine line (verdictAt line said)
+  explained : (line : ℕ) → explainBy names (pass .base) source line ≡ toldLine line (verdictAt line said)
   unfolding explainBy explainAllBy andThen
   explained line = rw (h .passed)
 
-  pub told-none : (line : ℕ) → line ≡ 0 → Refused 13 line ≡ explainedOf (explain (pass .base) source line)
+  pub told-none : (line : ℕ) → line ≡ 0 → Refused 13 line ≡ explainedOf (explainBy names (pass .base) source line)
   unfolding toldLine verdictAt
   told-none line e = rw (explained line, e)
 
@@ -142,52 +143,52 @@ module _ {source : Text} {table cells : List ℕ} {pass : Pass} (h : Holds sourc
     from-one : suc (line - 1) ≡ line
     from-one = omega arith
 
-    told-at : (o : Option Said) → getElem? said (line - 1) ≡ o → explain (pass .base) source line ≡ toldLine line o
+    told-at : (o : Option Said) → getElem? said (line - 1) ≡ o → explainBy names (pass .base) source line ≡ toldLine line o
     unfolding verdictAt
     told-at o q = explained line ∙ ap (toldLine line) (ap (λ (n : ℕ). verdictAt n said) (sym from-one) ∙ q)
 
     pub told-kept : line - 1 < pass .lines → {r : Verdict}
-        → r ≡ verdictOn (tableOf source table (pass .labels)) source (addressAt (pass .base) cells (line - 1)) (keptAt cells (line - 1) .task)
-        → Line r ≡ explainedOf (explain (pass .base) source line)
+        → r ≡ verdictOn names (tableOf source table (pass .labels)) source (addressAt (pass .base) cells (line - 1)) (keptAt cells (line - 1) .task)
+        → Line r ≡ explainedOf (explainBy names (pass .base) source line)
     unfolding toldLine
     told-kept l q =
         let u : Put = putAt source (pass .base) cells (line - 1) in
-        let f : Put → Said = λ (v : Put). whyTask mnemonics (tableOf source table (pass .labels)) (v .address) (v .task) in
-        let g = mapped-at f (putsOf source (pass .base) cells (pass .lines)) (ending source table cells pass) (line - 1) u (rw puts-length l) in
-        rw (told-at _ (ap (λ (vs : List Said). getElem? vs (line - 1)) (verdicts-are source table cells pass) ∙ g), put-at source (pass .base) cells (pass .lines) (line - 1) u l) (ap Line q)
+        let f : Put → Said = λ (v : Put). whyTask names (tableOf source table (pass .labels)) (v .address) (v .task) in
+        let g = mapped-at f (putsOf source (pass .base) cells (pass .lines)) (ending names source table cells pass) (line - 1) u (rw puts-length l) in
+        rw (told-at _ (ap (λ (vs : List Said). getElem? vs (line - 1)) (verdicts-are names source table cells pass) ∙ g), put-at source (pass .base) cells (pass .lines) (line - 1) u l) (ap Line q)
 
-    pub told-past : pass .lines < line - 1 → Refused 13 line ≡ explainedOf (explain (pass .base) source line)
+    pub told-past : pass .lines < line - 1 → Refused 13 line ≡ explainedOf (explainBy names (pass .base) source line)
     unfolding toldLine
     told-past l = rw (told-at none (go (ltb (pass .lines) (length (cutAt 10 source))) refl))
       where
         go : (y : Bool) → ltb (pass .lines) (length (cutAt 10 source)) ≡ y → getElem? said (line - 1) ≡ none
         go true k =
-            let short : length (verdictsTo source table cells pass (pass .lines) ++ (because notInstruction ∷ [])) ≤ line - 1 = rw (length-append, kept-count source table cells pass (pass .lines)) (omega arith) in
-            rw (verdicts-are source table cells pass, k) (past-end (verdictsTo source table cells pass (pass .lines) ++ (because notInstruction ∷ [])) (line - 1) short)
+            let short : length (verdictsTo names source table cells pass (pass .lines) ++ (because notInstruction ∷ [])) ≤ line - 1 = rw (length-append, kept-count names source table cells pass (pass .lines)) (omega arith) in
+            rw (verdicts-are names source table cells pass, k) (past-end (verdictsTo names source table cells pass (pass .lines) ++ (because notInstruction ∷ [])) (line - 1) short)
         go false k =
-            let short : length (verdictsTo source table cells pass (pass .lines) ++ []) ≤ line - 1 = rw (length-append, kept-count source table cells pass (pass .lines)) (omega arith) in
-            rw (verdicts-are source table cells pass, k) (past-end (verdictsTo source table cells pass (pass .lines) ++ []) (line - 1) short)
+            let short : length (verdictsTo names source table cells pass (pass .lines) ++ []) ≤ line - 1 = rw (length-append, kept-count names source table cells pass (pass .lines)) (omega arith) in
+            rw (verdicts-are names source table cells pass, k) (past-end (verdictsTo names source table cells pass (pass .lines) ++ []) (line - 1) short)
 
     module _ (m : pass .lines ≤ line - 1) (l : line - 1 ≤ pass .lines) {n : ℕ} (q : n ≡ length (cutAt 10 source)) where
       -- what follows the kept lines
-      told-next : (es : List Said) → said ≡ verdictsTo source table cells pass (pass .lines) ++ es → explain (pass .base) source line ≡ toldLine line (getElem? es 0)
+      told-next : (es : List Said) → said ≡ verdictsTo names source table cells pass (pass .lines) ++ es → explainBy names (pass .base) source line ≡ toldLine line (getElem? es 0)
       told-next es f =
           let z : pass .lines ≡ line - 1 = omega arith in
-          told-at (getElem? es 0) (ap (λ (vs : List Said). getElem? vs (line - 1)) f ∙ next-at (verdictsTo source table cells pass (pass .lines)) es (line - 1) (kept-count source table cells pass (pass .lines) ∙ z))
+          told-at (getElem? es 0) (ap (λ (vs : List Said). getElem? vs (line - 1)) f ∙ next-at (verdictsTo names source table cells pass (pass .lines)) es (line - 1) (kept-count names source table cells pass (pass .lines) ∙ z))
 
-      pub told-missing : n ≤ line - 1 → Refused 13 line ≡ explainedOf (explain (pass .base) source line)
+      pub told-missing : n ≤ line - 1 → Refused 13 line ≡ explainedOf (explainBy names (pass .base) source line)
       unfolding toldLine
-      told-missing k = rw (told-next [] (without-end source table cells pass (omega arith)))
+      told-missing k = rw (told-next [] (without-end names source table cells pass (omega arith)))
 
-      pub told-end : line - 1 < n → Line NotInstruction ≡ explainedOf (explain (pass .base) source line)
+      pub told-end : line - 1 < n → Line NotInstruction ≡ explainedOf (explainBy names (pass .base) source line)
       unfolding toldLine
-      told-end k = rw (told-next (because notInstruction ∷ []) (with-end source table cells pass (omega arith)))
+      told-end k = rw (told-next (because notInstruction ∷ []) (with-end names source table cells pass (omega arith)))
 
 -- ---- by the first pass
-module _ {source : Text} {base : ℕ} {table cells : List ℕ} {r : Entered} {table′ cells′ : List ℕ} (g : EnterGives source base table cells r table′ cells′) where
-  pub line-refused : (line n k : ℕ) → r ≡ Stopped n k → Refused n k ≡ explainedOf (explain base source line)
+module _ (names : List Mnemonic) {source : Text} {base : ℕ} {table cells : List ℕ} {r : Entered} {table′ cells′ : List ℕ} (g : EnterGives source base table cells r table′ cells′) where
+  pub line-refused : (line n k : ℕ) → r ≡ Stopped n k → Refused n k ≡ explainedOf (explainBy names base source line)
   unfolding explainBy explainAllBy andThen
   line-refused line n k e = rw (enter-refused g n k e)
 
-  pub line-told : (line : ℕ) (p : Pass) → r ≡ Done p → {q : Explained} → q ≡ explainedOf (explain (p .base) source line) → q ≡ explainedOf (explain base source line)
+  pub line-told : (line : ℕ) (p : Pass) → r ≡ Done p → {q : Explained} → q ≡ explainedOf (explainBy names (p .base) source line) → q ≡ explainedOf (explainBy names base source line)
   line-told line p e h = rw (enter-base g p e) at h

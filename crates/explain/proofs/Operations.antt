@@ -10,7 +10,7 @@ use borrow.Author.Tests.{eq-eqb, ne-eqb, le-leb, lt-leb}
 use Rattle.rules.specs.Text.{Text, uppers, leading, pieces, joined, cutAt, firstText, otherTexts}
 use Rattle.rules.specs.Label.{Table}
 use Rattle.rules.specs.Line.{instructionOf}
-use Rattle.rules.specs.Encode.{mnemonics, operationIn}
+use Rattle.rules.specs.Encode.{Mnemonic, operationIn}
 use Rattle.rules.specs.Encode.{moveq, move, movea, muls, tst, subq, asl, dbra, nop, simhalt, add, sub, cmp, jmp, branch}
 use Rattle.rules.specs.Encode.{Operation as Ruled}
 use Rattle.rules.specs.Forms.{Operand, Count, exactly, orMore, counted, formsOf}
@@ -155,13 +155,13 @@ by-shape ls a (some cmp) ps = refl
 by-shape ls a (some jmp) ps = refl
 by-shape ls a (some (branch c)) ps = refl
 
-module _ (t : Text) (h : Head) (e : h ≡ headOf t) {o : Operation} (f : o ≡ operationOf (operationIn mnemonics (uppers (part t (h .start) (h .end)))))
+module _ (names : List Mnemonic) (t : Text) (h : Head) (e : h ≡ headOf t) {o : Operation} (f : o ≡ operationOf (operationIn names (uppers (part t (h .start) (h .end)))))
     {shape : Shape} (g : shape ≡ shapeOf o) (ls : Table) (a : ℕ) {r : Verdict} where
   -- by the joined tail, however it is come by
-  pub why-read : r ≡ verdictOf (whyBy (formsFor shape) ls a (operandsIn (joined (pieces (drop (h .tail) t))))) → r ≡ verdictOf (why mnemonics ls a (instructionOf t))
+  pub why-read : r ≡ verdictOf (whyBy (formsFor shape) ls a (operandsIn (joined (pieces (drop (h .tail) t))))) → r ≡ verdictOf (why names ls a (instructionOf t))
   unfolding why
-  why-read q = rw (instruction-read t h e, ← by-shape ls a (operationIn mnemonics (uppers (part t (h .start) (h .end)))) (operandsIn (joined (pieces (drop (h .tail) t)))), ← f, ← g) q
+  why-read q = rw (instruction-read t h e, ← by-shape ls a (operationIn names (uppers (part t (h .start) (h .end)))) (operandsIn (joined (pieces (drop (h .tail) t)))), ← f, ← g) q
 
   pub why-there : {s : ℕ} {y : Bool} → s ≡ h .tail + leading (drop (h .tail) t) → y ≡ isJoined (drop s t) → y ≡ true
-      → r ≡ verdictOf (whyBy (formsFor shape) ls a (operandsIn (take (length t - s) (drop s t)))) → r ≡ verdictOf (why mnemonics ls a (instructionOf t))
+      → r ≡ verdictOf (whyBy (formsFor shape) ls a (operandsIn (take (length t - s) (drop s t)))) → r ≡ verdictOf (why names ls a (instructionOf t))
   why-there {s} w j y q = why-read (rw (joined-there t (h .tail) s w j y) at q)

@@ -6,7 +6,7 @@ use lib.ListN.{length}
 use Rattle.rules.specs.Limits.{maxSource}
 use Rattle.rules.specs.Text.{Text, cutAt}
 use Rattle.rules.specs.Label.{Table}
-use Rattle.rules.specs.Encode.{mnemonics}
+use Rattle.rules.specs.Encode.{Mnemonic}
 use Rattle.rules.specs.Assemble.{Put, over}
 use Rattle.requests.specs.Explain.{whyTask, verdicts}
 use Rattle.requests.specs.Explain.{Verdict as Said}
@@ -22,9 +22,9 @@ use Rattle.explain.specs.Verdict.{verdictOf, numbersOf}
 use Rattle.explain.specs.declared.Verdict.{Verdict}
 
 -- ---- one line
--- the verdict on a task that is read at address a
-abbrev pub verdictOn : Table → Text → ℕ → Task → Verdict
-verdictOn ls source a task = verdictOf (whyTask mnemonics ls a (taskAt source task))
+-- the verdict on a task that is read at address a, by the mnemonics in use
+abbrev pub verdictOn : List Mnemonic → Table → Text → ℕ → Task → Verdict
+verdictOn names ls source a task = verdictOf (whyTask names ls a (taskAt source task))
 
 pub record WhyTaskNeeds (source : Text) (table : List ℕ) (labels address : ℕ) (task : Task) : Type 0 where
   pub near : Near source table labels address
@@ -38,9 +38,9 @@ pub record Walks (cells : List ℕ) (base k : ℕ) : Type 0 where
 
 -- ---- all lines
 -- the verdicts on the first k lines
-abbrev pub verdictsTo : Text → List ℕ → List ℕ → Pass → ℕ → List Said
-verdictsTo source table cells pass k =
-    map (λ (u : Put). whyTask mnemonics (tableOf source table (pass .labels)) (u .address) (u .task)) (putsOf source (pass .base) cells k)
+abbrev pub verdictsTo : List Mnemonic → Text → List ℕ → List ℕ → Pass → ℕ → List Said
+verdictsTo names source table cells pass k =
+    map (λ (u : Put). whyTask names (tableOf source table (pass .labels)) (u .address) (u .task)) (putsOf source (pass .base) cells k)
 
 pub record WriteNeeds (source : Text) (table cells : List ℕ) (pass : Pass) (out : List ℕ) : Type 0 where
   pub holds : Holds source table cells pass
@@ -48,6 +48,6 @@ pub record WriteNeeds (source : Text) (table cells : List ℕ) (pass : Pass) (ou
   pub end-room : length (cutAt 10 source) ≤ length out
 
 -- how many lines are read, and their verdicts' numbers over the first places
-pub record WriteGives (source : Text) (table cells : List ℕ) (pass : Pass) (out : List ℕ) (r : ℕ) (out′ : List ℕ) : Type 0 where
-  pub count : r ≡ length (verdicts mnemonics source (passIn source table cells pass))
-  pub written : out′ ≡ over (numbersOf (verdicts mnemonics source (passIn source table cells pass))) out
+pub record WriteGives (names : List Mnemonic) (source : Text) (table cells : List ℕ) (pass : Pass) (out : List ℕ) (r : ℕ) (out′ : List ℕ) : Type 0 where
+  pub count : r ≡ length (verdicts names source (passIn source table cells pass))
+  pub written : out′ ≡ over (numbersOf (verdicts names source (passIn source table cells pass))) out

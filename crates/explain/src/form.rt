@@ -7,9 +7,9 @@ ghost use lib.ListN.{length, drop};
 ghost use Rattle.rules.specs.Limits.{maxSource};
 ghost use Rattle.rules.specs.Text.{pieces, joined};
 ghost use Rattle.rules.specs.Line.{instructionOf};
-ghost use Rattle.rules.specs.Encode.{mnemonics};
 ghost use Rattle.requests.specs.Explain.{whyForms, why};
 ghost use Rattle.label.specs.Table.{tableOf};
+ghost use Rattle.branches.specs.Branch.{namesIn};
 ghost use Rattle.instruction.specs.Split.{operandsIn, operandsAt};
 ghost use Rattle.explain.specs.Near.{Near};
 ghost use Rattle.explain.specs.Verdict.{verdictOf};
@@ -351,8 +351,10 @@ fn why_copied(
     why_tail(source, table, labels, address, shape, &copy[..n])
 }
 
-// The verdict on the instruction whose text is `t`; its tail is copied only where it does not stand joined.
+// The verdict on the instruction whose text is `t`, by the names in use (`branches`); its tail is copied only where it does not stand joined.
 pub fn why_instruction(
+    lent: bool,
+    names: &[u8],
     source: &[u8],
     table: &[u32],
     labels: usize,
@@ -360,12 +362,12 @@ pub fn why_instruction(
     t: &[u8],
 ) -> Verdict
     requires { ⌜ Near (now source) (now table) labels address × (length (now t) ≤ maxSource) ⌝ }
-    ensures { λ r. ⌜ r ≡ verdictOf (why mnemonics (tableOf (now (source .entry)) (now (table .entry)) labels) address (instructionOf (now (t .entry)))) ⌝ }
+    ensures { λ r. ⌜ r ≡ verdictOf (why (namesIn lent (now (names .entry))) (tableOf (now (source .entry)) (now (table .entry)) labels) address (instructionOf (now (t .entry)))) ⌝ }
 {
     let head = instruction::read_head(t);
     let a = head.start;
     let b = head.end;
-    let shape = shape_of(opcode::mnemonic::find_operation(&t[a..b]));
+    let shape = shape_of(branches::find_operation_by(lent, names, &t[a..b]));
     let start = text::skip_blanks(t, head.tail);
     if instruction::is_joined(t, start) {
         return why_tail(source, table, labels, address, shape, &t[start..]);

@@ -1,34 +1,12 @@
--- `explain_lines` goes by what the first pass answered. Assumes nothing.
-use native.Mathlib.Omega.{arith}
+-- `explain_lines` is lent no table. Assumes nothing.
 use borrow.Author.Needs.{needs}
-use Rattle.first.proofs.Lending.{lent-full}
-use Rattle.explain.proofs.Writing.{write-needs, all-refused, all-unwritten, all-counted, all-written}
+use Rattle.branches.specs.Branch.{namesIn}
 use Rattle.explain.proofs.explain_lines.Statement.{statement}
 use Rattle.explain.proofs.explain_lines.Tie as tie
 
-enter-requires : tie.Need-enter-requires
-enter-requires c κs = lent-full _
-
-write-verdicts-requires : tie.Need-write-verdicts-requires
-write-verdicts-requires c κs = write-needs (c .before .before .before .before .before .before .before .before .enter .ensures) _ (c .before .before .before .before .pass .given .1) _ (omega arith)
-
 returns : tie.Need-returns
-returns c = (all-refused (c .before .before .before .before .before .enter .ensures) _ _ (c .before .n .given .1), all-unwritten (c .before .before .before .before .before .enter .ensures) _ _ (c .before .n .given .1) _)
-
-returns-2 : tie.Need-returns-2
-returns-2 c = (all-counted (c .before .before .before .before .before .before .before .before .before .enter .ensures) _ (c .before .before .before .before .before .pass .given .1) (c .write-verdicts .ensures), all-written (c .before .before .before .before .before .before .before .before .before .enter .ensures) _ (c .before .before .before .before .before .pass .given .1) (c .write-verdicts .ensures))
+unfolding namesIn
+returns c = c .explain-lines-by .ensures
 
 pub explain-lines-spec : {M : Type 1} → statement M
-explain-lines-spec =
-    tie.close
-    (tie.spec
-    (λ c. search needs)
-    (λ c. search needs)
-    enter-requires
-    (λ c. search needs)
-    (λ c. search needs)
-    (λ c. search needs)
-    (λ c. search needs)
-    write-verdicts-requires
-    returns
-    returns-2)
+explain-lines-spec = tie.close (tie.spec (λ c κs. search needs) returns)

@@ -5,13 +5,13 @@ use Rattle.explain.proofs.why_line.Statement.{statement}
 use Rattle.explain.proofs.why_line.Tie as tie
 
 line-address-requires : tie.Need-line-address-requires
-line-address-requires c κs = walks (c .before .before .before .pre .0) _ (omega (arith, c .before .before .before .pre .1))
+line-address-requires c κs = walks (c .before .before .before .before .pre .0) _ (omega (arith, c .before .before .before .before .pre .1))
 
 kept-line-requires : tie.Need-kept-line-requires
-kept-line-requires c κs = record { room = omega (arith, c .before .before .before .before .pre .0 .lines .room, c .before .before .before .before .pre .1) }
+kept-line-requires c κs = record { room = omega (arith, c .before .before .before .before .before .pre .0 .lines .room, c .before .before .before .before .before .pre .1) }
 
 why-task-requires : tie.Need-why-task-requires
-why-task-requires c κs = task-needs (c .before .before .before .before .before .pre .0) _ (c .before .before .before .before .before .pre .1) (c .before .line-address .ensures) (c .kept-line .ensures)
+why-task-requires c κs = task-needs (c .before .before .before .before .before .before .pre .0) _ (c .before .before .before .before .before .before .pre .1) (c .before .line-address .ensures) (c .kept-line .ensures)
 
 returns : tie.Need-returns
 returns c = rw (c .before .before .line-address .ensures, c .before .kept-line .ensures) at (c .why-task .ensures)

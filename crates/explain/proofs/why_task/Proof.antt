@@ -6,16 +6,16 @@ use Rattle.explain.proofs.why_task.Statement.{statement}
 use Rattle.explain.proofs.why_task.Tie as tie
 
 sub-why-instruction : tie.Need-sub-why-instruction
-sub-why-instruction c = span-in (c .before .before .before .before .before .pre) (c .before .task .given .1) .ordered
+sub-why-instruction c = span-in (c .before .before .before .before .before .before .pre) (c .before .task .given .1) .ordered
 
 part-why-instruction-start : tie.Need-part-why-instruction-start
-part-why-instruction-start c = span-in (c .before .before .before .before .before .pre) (c .before .task .given .1) .ordered
+part-why-instruction-start c = span-in (c .before .before .before .before .before .before .pre) (c .before .task .given .1) .ordered
 
 part-why-instruction-end : tie.Need-part-why-instruction-end
-part-why-instruction-end c = span-in (c .before .before .before .before .before .pre) (c .before .task .given .1) .inside
+part-why-instruction-end c = span-in (c .before .before .before .before .before .before .pre) (c .before .task .given .1) .inside
 
 why-instruction-requires : tie.Need-why-instruction-requires
-why-instruction-requires c κs = (c .before .before .before .before .before .before .pre .near, text-short (c .before .before .before .before .before .before .pre) (c .before .before .task .given .1))
+why-instruction-requires c κs = (c .before .before .before .before .before .before .before .pre .near, text-short (c .before .before .before .before .before .before .before .pre) (c .before .before .task .given .1))
 
 returns : tie.Need-returns
 unfolding whyTask

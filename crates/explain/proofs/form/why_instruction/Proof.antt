@@ -7,14 +7,14 @@ use Rattle.explain.proofs.Operations.{why-read, why-there}
 use Rattle.explain.proofs.form.why_instruction.Statement.{statement}
 use Rattle.explain.proofs.form.why_instruction.Tie as tie
 
-sub-find-operation : tie.Need-sub-find-operation
-sub-find-operation c = head-of _ _ (c .read-head .ensures) .ordered
+sub-find-operation-by : tie.Need-sub-find-operation-by
+sub-find-operation-by c = head-of _ _ (c .read-head .ensures) .ordered
 
-part-find-operation-start : tie.Need-part-find-operation-start
-part-find-operation-start c = omega (arith, head-of _ _ (c .read-head .ensures))
+part-find-operation-by-start : tie.Need-part-find-operation-by-start
+part-find-operation-by-start c = omega (arith, head-of _ _ (c .read-head .ensures))
 
-part-find-operation-end : tie.Need-part-find-operation-end
-part-find-operation-end c = omega (arith, head-of _ _ (c .read-head .ensures))
+part-find-operation-by-end : tie.Need-part-find-operation-by-end
+part-find-operation-by-end c = omega (arith, head-of _ _ (c .read-head .ensures))
 
 skip-blanks-requires : tie.Need-skip-blanks-requires
 skip-blanks-requires c κs = head-of _ _ (c .before .before .before .read-head .ensures) .within
@@ -29,22 +29,22 @@ part-why-tail-start : tie.Need-part-why-tail-start
 part-why-tail-start c = omega (arith, start-within _ _ _ (c .before .before .skip-blanks .ensures) (head-of _ _ (c .before .before .before .before .before .before .read-head .ensures) .within))
 
 returns : tie.Need-returns
-returns c = why-there _ _ (c .before .before .before .before .before .before .before .before .read-head .ensures) (c .before .before .before .before .before .before .find-operation .ensures) (c .before .before .before .before .before .shape-of .ensures) _ _ (c .before .before .before .before .skip-blanks .ensures) (c .before .before .before .is-joined .ensures) (c .before .before .if1 .taken) (c .why-tail .ensures)
+returns c = why-there _ _ _ (c .before .before .before .before .before .before .before .before .read-head .ensures) (c .before .before .before .before .before .before .find-operation-by .ensures) (c .before .before .before .before .before .shape-of .ensures) _ _ (c .before .before .before .before .skip-blanks .ensures) (c .before .before .before .is-joined .ensures) (c .before .before .if1 .taken) (c .why-tail .ensures)
 
 why-copied-requires : tie.Need-why-copied-requires
-why-copied-requires c κs = (c .before .before .before .before .before .before .before .before .before .before .pre .0, (head-of _ _ (c .before .before .before .before .before .before .read-head .ensures) .within, c .before .before .before .before .before .before .before .before .before .before .pre .1))
+why-copied-requires c κs = (c .before .before .before .before .before .before .before .before .before .before .before .pre .0, (head-of _ _ (c .before .before .before .before .before .before .read-head .ensures) .within, c .before .before .before .before .before .before .before .before .before .before .before .pre .1))
 
 returns-2 : tie.Need-returns-2
-returns-2 c = why-read _ _ (c .before .before .before .before .before .before .before .read-head .ensures) (c .before .before .before .before .before .find-operation .ensures) (c .before .before .before .before .shape-of .ensures) _ _ (c .why-copied .ensures)
+returns-2 c = why-read _ _ _ (c .before .before .before .before .before .before .before .read-head .ensures) (c .before .before .before .before .before .find-operation-by .ensures) (c .before .before .before .before .shape-of .ensures) _ _ (c .why-copied .ensures)
 
 pub why-instruction-spec : {M : Type 1} → statement M
 why-instruction-spec =
     tie.close
     (tie.spec
     (λ c κs. search needs)
-    sub-find-operation
-    part-find-operation-start
-    part-find-operation-end
+    sub-find-operation-by
+    part-find-operation-by-start
+    part-find-operation-by-end
     (λ c κs. search needs)
     (λ c κs. search needs)
     skip-blanks-requires
