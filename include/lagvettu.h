@@ -53,6 +53,10 @@ enum lagvettu_refusal {
     /* From the manual's own words: both with the line as place, from 1, the first line that has one of them. */
     LAGVETTU_NO_ENCODING = 14,      /* an instruction with no encoding there */
     LAGVETTU_OUT_OF_REACH = 15      /* one whose only fault is a displacement, of a recorded label or a signed number, out of range */
+    /* From a branch table. */
+    LAGVETTU_BAD_COMMAND = 16,      /* a cut, missing or unknown command, a 17th row or a condition over 15; place its offset */
+    LAGVETTU_BAD_BRANCH_NAME = 17   /* a name starting with a blank, with a lower-case letter, in an earlier row, or a mnemonic
+                                       other than the eleven; place the row's offset */
 };
 
 /* What the number of a line said. */
@@ -186,6 +190,21 @@ uint8_t lagvettu_explain(const uint8_t *source, size_t source_length,
                          size_t line,
                          uint8_t *verdict,
                          size_t *place);
+
+/*
+ * The same under a branch table, whose names stand in place of the eleven built-in ones. A table is rows and an end, byte 0: a row is
+ * byte 1, a name of four bytes padded with spaces, and its condition, 0 to 15; there are at most 16, and bytes after the end are not
+ * read. It is checked whole, 16 and 17, before all else: the first faulty command is the one blamed, with 16 before 17. A table
+ * without rows is not the same as none: with it no branch emits. The bytes are lent for the call, and nothing of them is kept.
+ *
+ *     "\1BHS \4\1BLO \5" and the end: "A: BHS A" line 1 LAGVETTU_WORD_EMITTED, "A: BRA A" line 1 LAGVETTU_UNKNOWN_MNEMONIC.
+ */
+uint8_t lagvettu_explain_branches(const uint8_t *names, size_t names_length,
+                                  const uint8_t *source, size_t source_length,
+                                  uint32_t base,
+                                  size_t line,
+                                  uint8_t *verdict,
+                                  size_t *place);
 
 #ifdef __cplusplus
 }

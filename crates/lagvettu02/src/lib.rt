@@ -9,6 +9,7 @@ ghost use Rattle.rules.specs.Directive.{lineReading};
 ghost use Rattle.requests.specs.Nearest.{nearest};
 ghost use Rattle.requests.specs.Symbols.{rows};
 ghost use Rattle.requests.specs.Explain.{explain};
+ghost use Rattle.requests.specs.Branches.{explainUnder};
 ghost use Rattle.lagvettu02.specs.Called.{Nears, Lists, failureNumber, SaysNumber, Explains};
 
 // Names the label that an address is near, in a source at a base: its start and length in the source, where it was recorded
@@ -110,6 +111,32 @@ pub extern "C" fn lagvettu_explain(
     ensures { λ r. ⌜ Explains (explain base (now (source .entry)) line) r (now (verdict .exit)) (now (place .exit)) ⌝ }
 {
     match explain::explain_line(source, base, line) {
+        Explained::Line(v) => {
+            *verdict = explain::verdict_number(v);
+            *place = 0;
+            0
+        }
+        Explained::Refused(n, p) => {
+            *verdict = NO_VERDICT;
+            *place = p;
+            n
+        }
+    }
+}
+
+// The same under a branch table, which is refused before all else.
+#[no_mangle]
+pub extern "C" fn lagvettu_explain_branches(
+    names: &[u8],
+    source: &[u8],
+    base: u32,
+    line: usize,
+    verdict: &mut u8,
+    place: &mut usize,
+) -> u8
+    ensures { λ r. ⌜ Explains (explainUnder (now (names .entry)) base (now (source .entry)) line) r (now (verdict .exit)) (now (place .exit)) ⌝ }
+{
+    match explain::explain_branches(names, source, base, line) {
         Explained::Line(v) => {
             *verdict = explain::verdict_number(v);
             *place = 0;
