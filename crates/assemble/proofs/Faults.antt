@@ -7,6 +7,7 @@ use Prim.Native.Nat.{ℕ, suc}
 use lib.ListN.{length}
 use Rattle.rules.specs.Text.{Text}
 use Rattle.rules.specs.Label.{Table}
+use Rattle.rules.specs.Encode.{Mnemonic}
 use Rattle.rules.specs.Answer.{Answer as Ruled, accepted, refused, andThen}
 use Rattle.rules.specs.Assemble.{Put, Pass as Passed, Place, Slices, short, holding, secondPassBy}
 use Rattle.requests.specs.ManualCall.{manualEncode}
@@ -62,7 +63,7 @@ module _ {source : Text} {table cells : List ℕ} {pass : Pass} {r : Answer} {co
     fault-7 s = rw (sound .0) (refusal-7 _ x n (sound .1) s)
 
     module _ (s : short x n ≡ false) where
-      pub emit-needs : {codes₀ : List ℕ} → FindFaultNeeds source table cells codes₀ pass → EmitWordsNeeds true true source table cells codes pass x
+      pub emit-needs : {ns : List Mnemonic} {codes₀ : List ℕ} → FindFaultNeeds source table cells codes₀ pass → EmitWordsNeeds true ns true source table cells codes pass x
       emit-needs h = record { holds = h .holds; room = λ w. rw (sound .1) at (has-room x n s); kept = λ w. (refl, g .codes-held n e) }
 
       pub fault-listed : (k : ℕ) (y : Slices) → k ≡ length (manualList (passIn source table cells pass)) → y ≡ holding (manualList (passIn source table cells pass)) x → Outcome (encodedManual (passIn source table cells pass)) x (Accepted k) y

@@ -1,5 +1,6 @@
--- From what the first pass left to the call's outcome, for 01's call and the manual's. Assumes nothing.
+-- From what the first pass left to the call's outcome, for 01's call, the same under a branch table, and the manual's. Assumes nothing.
 use mathlib.Core.Path.{_≡_, refl, sym, ap, _∙_}
+use mathlib.Core.Bool.{true}
 use mathlib.Core.List.{List, []}
 use Prim.Native.Nat.{ℕ, _*_, _≤_, _<_}
 use native.Mathlib.Omega.{arith}
@@ -8,20 +9,23 @@ use lib.ListN.{length}
 use Rattle.rules.specs.Limits.{maxLines, addressLimit}
 use Rattle.rules.specs.Text.{Text, cutAt}
 use Rattle.rules.specs.Line.{linesOf, size}
-use Rattle.rules.specs.Encode.{mnemonics, encode}
+use Rattle.rules.specs.Encode.{Mnemonic, mnemonics, encodeBy}
 use Rattle.rules.specs.Answer.{Answer as Ruled, accepted, refused, refuseIf, andThen}
 use Rattle.rules.specs.Assemble.{Sizes, Pass as Passed, Place, Slices, checks, firstPassBy, passAtBy, encoded, assembleBy, assemble, assembleAnswer, assembleSlices}
 use Rattle.requests.specs.ManualCall.{manualSize}
+use Rattle.requests.specs.Branches.{checked, assembleUnder, assembleUnderAnswer, assembleUnderSlices}
 use Rattle.requests.specs.ManualAssemble.{encodedManual, assembleManual, manualAnswer, manualSlices}
 use Rattle.promises.specs.Lawful.{RulesAreLawful}
-use Rattle.promises.specs.Longest.{AtMostALine, AtMostTwoALine}
+use Rattle.promises.specs.Longest.{AtMostALine}
 use Rattle.promises.proofs.Lawful.{rules-are-lawful}
-use Rattle.promises.proofs.Longest.{at-most-a-line, at-most-two-a-line}
+use Rattle.promises.proofs.Longest.{at-most-a-line}
 use Rattle.answer.specs.Answer.{answerOf}
 use Rattle.answer.specs.declared.Answer.{Answer}
 use Rattle.answer.specs.declared.Answer.the-variants.{Accepted, Refused}
 use Rattle.source.specs.Clear.{Clear}
 use Rattle.source.proofs.Callers.{checks-clear, cleared, stopped}
+use Rattle.branches.specs.Branch.{namesIn}
+use Rattle.branches.proofs.Callers.{under-refused, under-accepted}
 use Rattle.first.specs.Pass.{passIn, Lent, FirstPassNeeds, FirstPassGives, EnterGivesBy, HoldsBy, Holds}
 use Rattle.first.specs.declared.Pass.{Pass}
 use Rattle.first.specs.declared.Entered.{Entered}
@@ -29,23 +33,23 @@ use Rattle.first.specs.declared.Entered.the-variants.{Done}
 use Rattle.first.specs.declared.Entered.the-variants.{Refused as Refuses}
 use Rattle.first.proofs.Callers.{first-enters, enter-refused, enter-base, enter-holds}
 use Rattle.emit.specs.Codes.{FindFaultNeeds}
-use Rattle.assemble.specs.Assembled.{Outcome, Starting, StartGives, ManualPassesNeeds, SecondPassNeeds, listOf, Assembled, AssembledManual}
+use Rattle.assemble.specs.Assembled.{Outcome, Starting, StartGives, ManualPassesNeeds, SecondPassNeeds, listOf, Assembled, AssembledUnder, AssembledManual}
 use Rattle.assemble.proofs.Lists.{refusal}
 
 -- the list of a pass that the arrays hold
-holds-list : {s : Text} {table cells : List ℕ} {p : Pass} → Holds s table cells p → assemble (p .base) s ≡ accepted (listOf s table cells p)
+holds-list : (ns : List Mnemonic) {s : Text} {table cells : List ℕ} {p : Pass} → Holds s table cells p → assembleBy size (encodeBy ns) (p .base) s ≡ accepted (listOf ns s table cells p)
 unfolding assembleBy andThen
-holds-list h = rw (h .passed)
+holds-list ns h = rw (h .passed)
 
 -- "at most two a line"
-pub list-few : {s : Text} {table cells : List ℕ} {p : Pass} {lines : ℕ} → SecondPassNeeds s table cells p lines → length (listOf s table cells p) ≤ 2 * lines
-unfolding AtMostTwoALine
-list-few {s} {p = p} n = rw (n .lines-are) (at-most-two-a-line s (p .base) _ (holds-list (n .holds)) .0)
+pub list-few : (ns : List Mnemonic) {s : Text} {table cells : List ℕ} {p : Pass} {lines : ℕ} → SecondPassNeeds s table cells p lines → length (listOf ns s table cells p) ≤ 2 * lines
+unfolding AtMostALine RulesAreLawful
+list-few ns {s} {p = p} n = rw (n .lines-are) (at-most-a-line size (encodeBy ns) 2 (rules-are-lawful ns) s (p .base) _ (holds-list ns (n .holds)) .0)
 
 -- and so few lines that twice their number is a `usize`
 pub lines-few : {s : Text} {table cells : List ℕ} {p : Pass} {lines : ℕ} → SecondPassNeeds s table cells p lines → lines ≤ maxLines
 unfolding AtMostALine RulesAreLawful
-lines-few {s} {p = p} n = rw (n .lines-are) (at-most-a-line size encode 2 (rules-are-lawful mnemonics) s (p .base) _ (holds-list (n .holds)) .1)
+lines-few {s} {p = p} n = rw (n .lines-are) (at-most-a-line size (encodeBy mnemonics) 2 (rules-are-lawful mnemonics) s (p .base) _ (holds-list mnemonics (n .holds)) .1)
 
 -- ---- refusals 1 to 4
 module _ (s : Text) (base : ℕ) (r : Answer) (d : r ≡ answerOf (checks s (accepted (length (cutAt 10 s))))) where
@@ -70,9 +74,9 @@ first-needs b l = record { short = b .clear .short; few = b .clear .few; low = b
 pub record Made (z : Sizes) (f : Passed → Ruled (List Place)) (base : ℕ) (s : Text) (list : Ruled (List Place)) : Type 0 where
   pub is : list ≡ andThen (passAtBy z base s) f
 
-pub ruled : (base : ℕ) (s : Text) → Made size (encoded encode) base s (assemble base s)
+pub ruled : (ns : List Mnemonic) (base : ℕ) (s : Text) → Made size (encoded (encodeBy ns)) base s (assembleBy size (encodeBy ns) base s)
 unfolding assembleBy
-ruled base s = record { is = refl }
+ruled ns base s = record { is = refl }
 
 pub manual : (base : ℕ) (s : Text) → Made manualSize encodedManual base s (assembleManual base s)
 unfolding assembleManual
@@ -112,7 +116,7 @@ module _ {z : Sizes} {f : Passed → Ruled (List Place)} {base : ℕ} {s : Text}
 -- what 01's second pass needs, and the manual's
 module _ {s : Text} {base lines : ℕ} {table cells : List ℕ} {r : Entered} {table′ cells′ : List ℕ} where
   pub second-needs : Starting s base lines → FirstPassGives size s base table cells r table′ cells′ → (p : Pass) → r ≡ Done p → SecondPassNeeds s table′ cells′ p lines
-  second-needs b g p e = record { holds = pass-holds (ruled base s) b g p e; lines-are = b .lines-are }
+  second-needs b g p e = record { holds = pass-holds (ruled mnemonics base s) b g p e; lines-are = b .lines-are }
 
   pub fault-needs : {codes : List ℕ} → Starting s base lines → length cells ≤ length codes → FirstPassGives manualSize s base table cells r table′ cells′ → (p : Pass) → r ≡ Done p → FindFaultNeeds s table′ cells′ codes p
   fault-needs b l g p e =
@@ -127,3 +131,16 @@ by-outcome base s x y r o = record { answer = o .answer; slices = o .slices }
 pub by-manual : (base : ℕ) (s : Text) (x y : Slices) (r : Answer) → Outcome (assembleManual base s) x r y → AssembledManual base s x r y
 unfolding manualAnswer manualSlices
 by-manual base s x y r o = record { answer = o .answer; slices = o .slices }
+
+-- under a branch table, by what loading it answered: q
+module _ (names : Text) (base : ℕ) (s : Text) (x : Slices) {q : Answer} (e : q ≡ answerOf (checked names)) where
+  by-under : (y : Slices) (r : Answer) → Outcome (assembleUnder names base s) x r y → AssembledUnder names base s x r y
+  unfolding assembleUnderAnswer assembleUnderSlices
+  by-under y r o = record { answer = o .answer; slices = o .slices }
+
+  -- 16 and 17
+  pub table-refused : (n p : ℕ) → q ≡ Refused n p → AssembledUnder names base s x q x
+  table-refused n p f = rw f (by-under x (Refused n p) (refusal _ x n p (under-refused (λ ns. assembleBy size (encodeBy ns) base s) names e n p f)))
+
+  pub table-accepted : (n : ℕ) → q ≡ Accepted n → (y : Slices) (r : Answer) → Outcome (assembleBy size (encodeBy (namesIn true names)) base s) x r y → AssembledUnder names base s x r y
+  table-accepted n f y r o = by-under y r (rw (under-accepted (λ ns. assembleBy size (encodeBy ns) base s) names e n f) o)

@@ -1,4 +1,4 @@
--- What an assembling call, 01's or the manual's of W-207, gives: its answer, and the three lent slices afterwards. Assumes nothing.
+-- What an assembling call, 01's, the same under a branch table (W-210) or the manual's (W-207), gives: its answer, and the three lent slices afterwards. Assumes nothing.
 use mathlib.Core.Path.{_≡_}
 use Prim.Native.Nat.{ℕ, _≤_, _<_}
 use mathlib.Core.Bool.{Bool, true, false}
@@ -7,9 +7,11 @@ use lib.Dec.{leb}
 use lib.ListN.{length}
 use Rattle.rules.specs.Limits.{addressLimit}
 use Rattle.rules.specs.Text.{Text, cutAt}
+use Rattle.rules.specs.Encode.{Mnemonic, encodeBy}
 use Rattle.rules.specs.Answer.{Answer as Ruled, refused, refuseIf, andThen}
-use Rattle.rules.specs.Assemble.{Pass as Passed, Place, Slices, checks, short, room, writeList, secondPass, assembleAnswer, assembleSlices}
+use Rattle.rules.specs.Assemble.{Pass as Passed, Place, Slices, checks, short, room, writeList, secondPassBy, assembleAnswer, assembleSlices}
 use Rattle.requests.specs.ManualAssemble.{manualAnswer, manualSlices}
+use Rattle.requests.specs.Branches.{assembleUnderAnswer, assembleUnderSlices}
 use Rattle.answer.specs.Answer.{answerOf}
 use Rattle.answer.specs.declared.Answer.{Answer}
 use Rattle.answer.specs.declared.Answer.the-variants.{Accepted, Refused}
@@ -60,9 +62,9 @@ pub record SecondPassNeeds (source : Text) (table cells : List ℕ) (pass : Pass
   pub holds : Holds source table cells pass
   pub lines-are : lines ≡ length (cutAt 10 source)
 
--- the list of what the first pass left
-abbrev pub listOf : Text → List ℕ → List ℕ → Pass → List Place
-listOf source table cells pass = secondPass (passIn source table cells pass)
+-- the list of what the first pass left, by the mnemonics in use
+abbrev pub listOf : List Mnemonic → Text → List ℕ → List ℕ → Pass → List Place
+listOf ns source table cells pass = secondPassBy (encodeBy ns) (passIn source table cells pass)
 
 -- whether a list fits into the slices, and else its length
 abbrev pub fitBy : Bool → ℕ → Fit
@@ -81,3 +83,8 @@ pub record AssembledManual (base : ℕ) (source : Text) (x : Slices) (r : Answer
 pub record Assembled (base : ℕ) (source : Text) (x : Slices) (r : Answer) (y : Slices) : Type 0 where
   pub answer : r ≡ answerOf (assembleAnswer base source x)
   pub slices : y ≡ assembleSlices base source x
+
+-- the contract of `assemble_branches`: the same under a branch table, by 02's W-210
+pub record AssembledUnder (names : Text) (base : ℕ) (source : Text) (x : Slices) (r : Answer) (y : Slices) : Type 0 where
+  pub answer : r ≡ answerOf (assembleUnderAnswer names base source x)
+  pub slices : y ≡ assembleUnderSlices names base source x

@@ -1,13 +1,17 @@
-// The assembler: refusals 1 to 7, and the list of a source at a base in three lent slices; and the manual's call of W-207, with
-// refusals 14 and 15.
+// The assembler: refusals 1 to 7, and the list of a source at a base in three lent slices; the same under a branch table (W-210),
+// with refusals 16 and 17; and the manual's call of W-207, with 14 and 15. `lent` and `names` are the names in use, as in `branches`;
+// where no table is lent, the source stands for it and is not read as one.
 use answer::Answer;
 use first::Entered;
 use first::Pass;
 ghost use mathlib.Core.Path.{_≡_};
 ghost use Prim.Native.Nat.{_≤_};
 ghost use Rattle.rules.specs.Answer.{accepted};
-ghost use Rattle.rules.specs.Assemble.{slices, assemble as ruled};
-ghost use Rattle.assemble.specs.Assembled.{SecondPassNeeds, PassesInNeeds, listOf, fitOf, Outcome, Starting, StartGives, shortLines, Assembled, AssembledManual};
+ghost use Rattle.rules.specs.Line.{size};
+ghost use Rattle.rules.specs.Encode.{encodeBy};
+ghost use Rattle.rules.specs.Assemble.{slices, assembleBy};
+ghost use Rattle.branches.specs.Branch.{namesIn};
+ghost use Rattle.assemble.specs.Assembled.{SecondPassNeeds, PassesInNeeds, listOf, fitOf, Outcome, Starting, StartGives, shortLines, Assembled, AssembledUnder, AssembledManual};
 
 mod manual; // manual.rt: both passes of the manual's call
 
@@ -19,6 +23,8 @@ enum Fit {
 
 // Looks whether the list fits. It is counted only where two places a line, the most that it has, would not.
 fn fit_list(
+    lent: bool,
+    names: &[u8],
     source: &[u8],
     table: &[u32],
     cells: &[u32],
@@ -29,7 +35,7 @@ fn fit_list(
     marks: &mut [u8],
 ) -> Fit
     requires { ⌜ SecondPassNeeds (now source) (now table) (now cells) pass lines ⌝ }
-    ensures { λ r. ⌜ r ≡ fitOf (listOf (now (source .entry)) (now (table .entry)) (now (cells .entry)) pass) (slices (now (addresses .entry)) (now (words .entry)) (now (marks .entry))) ⌝ }
+    ensures { λ r. ⌜ r ≡ fitOf (listOf (namesIn lent (now (names .entry))) (now (source .entry)) (now (table .entry)) (now (cells .entry)) pass) (slices (now (addresses .entry)) (now (words .entry)) (now (marks .entry))) ⌝ }
     ensures { λ _. ⌜ slices (now (addresses .exit)) (now (words .exit)) (now (marks .exit)) ≡ slices (now (addresses .entry)) (now (words .entry)) (now (marks .entry)) ⌝ }
 {
     if !answer::is_short(addresses, words, marks, 2 * lines) {
@@ -37,6 +43,8 @@ fn fit_list(
     }
     let count = emit::emit_words(
         false,
+        lent,
+        names,
         false,
         source,
         table,
@@ -55,6 +63,8 @@ fn fit_list(
 
 // The second pass: refusal 7, or the words.
 fn second_pass(
+    lent: bool,
+    names: &[u8],
     source: &[u8],
     table: &[u32],
     cells: &[u32],
@@ -65,14 +75,27 @@ fn second_pass(
     marks: &mut [u8],
 ) -> Answer
     requires { ⌜ SecondPassNeeds (now source) (now table) (now cells) pass lines ⌝ }
-    ensures { λ r. ⌜ Outcome (accepted (listOf (now (source .entry)) (now (table .entry)) (now (cells .entry)) pass)) (slices (now (addresses .entry)) (now (words .entry)) (now (marks .entry))) r (slices (now (addresses .exit)) (now (words .exit)) (now (marks .exit))) ⌝ }
+    ensures { λ r. ⌜ Outcome (accepted (listOf (namesIn lent (now (names .entry))) (now (source .entry)) (now (table .entry)) (now (cells .entry)) pass)) (slices (now (addresses .entry)) (now (words .entry)) (now (marks .entry))) r (slices (now (addresses .exit)) (now (words .exit)) (now (marks .exit))) ⌝ }
 {
-    let room = fit_list(source, table, cells, pass, lines, addresses, words, marks);
+    let room = fit_list(
+        lent,
+        names,
+        source,
+        table,
+        cells,
+        pass,
+        lines,
+        addresses,
+        words,
+        marks,
+    );
     if let Fit::Short(count) = room {
         return Answer::Refused(7, count);
     }
     let count = emit::emit_words(
         false,
+        lent,
+        names,
         true,
         source,
         table,
@@ -88,6 +111,8 @@ fn second_pass(
 
 // Both passes over a source within the limits, of so many lines, with a table that has no labels yet and two cells a line.
 fn passes_in(
+    lent: bool,
+    names: &[u8],
     source: &[u8],
     base: u32,
     lines: usize,
@@ -98,12 +123,23 @@ fn passes_in(
     marks: &mut [u8],
 ) -> Answer
     requires { ⌜ PassesInNeeds (now source) base lines (now table) (now cells) ⌝ }
-    ensures { λ r. ⌜ Outcome (ruled base (now (source .entry))) (slices (now (addresses .entry)) (now (words .entry)) (now (marks .entry))) r (slices (now (addresses .exit)) (now (words .exit)) (now (marks .exit))) ⌝ }
+    ensures { λ r. ⌜ Outcome (assembleBy size (encodeBy (namesIn lent (now (names .entry)))) base (now (source .entry))) (slices (now (addresses .entry)) (now (words .entry)) (now (marks .entry))) r (slices (now (addresses .exit)) (now (words .exit)) (now (marks .exit))) ⌝ }
 {
     match first::first_pass(false, source, base, table, cells) {
         Entered::Refused(n, p) => Answer::Refused(n, p),
         Entered::Done(pass) => {
-            second_pass(source, table, cells, pass, lines, addresses, words, marks)
+            second_pass(
+                lent,
+                names,
+                source,
+                table,
+                cells,
+                pass,
+                lines,
+                addresses,
+                words,
+                marks,
+            )
         }
     }
 }
@@ -113,6 +149,8 @@ pub const SHORT: usize = label::SMALL_LABELS / 2;
 
 // Both passes over a short source.
 fn short_passes(
+    lent: bool,
+    names: &[u8],
     source: &[u8],
     base: u32,
     lines: usize,
@@ -121,11 +159,13 @@ fn short_passes(
     marks: &mut [u8],
 ) -> Answer
     requires { ⌜ Starting (now source) base lines × (lines ≤ shortLines) ⌝ }
-    ensures { λ r. ⌜ Outcome (ruled base (now (source .entry))) (slices (now (addresses .entry)) (now (words .entry)) (now (marks .entry))) r (slices (now (addresses .exit)) (now (words .exit)) (now (marks .exit))) ⌝ }
+    ensures { λ r. ⌜ Outcome (assembleBy size (encodeBy (namesIn lent (now (names .entry)))) base (now (source .entry))) (slices (now (addresses .entry)) (now (words .entry)) (now (marks .entry))) r (slices (now (addresses .exit)) (now (words .exit)) (now (marks .exit))) ⌝ }
 {
     let mut table = [0u32; label::SMALL];
     let mut cells = [0u32; 2 * SHORT];
     passes_in(
+        lent,
+        names,
         source,
         base,
         lines,
@@ -139,6 +179,8 @@ fn short_passes(
 
 // Both passes over any source.
 fn long_passes(
+    lent: bool,
+    names: &[u8],
     source: &[u8],
     base: u32,
     lines: usize,
@@ -147,11 +189,13 @@ fn long_passes(
     marks: &mut [u8],
 ) -> Answer
     requires { ⌜ Starting (now source) base lines ⌝ }
-    ensures { λ r. ⌜ Outcome (ruled base (now (source .entry))) (slices (now (addresses .entry)) (now (words .entry)) (now (marks .entry))) r (slices (now (addresses .exit)) (now (words .exit)) (now (marks .exit))) ⌝ }
+    ensures { λ r. ⌜ Outcome (assembleBy size (encodeBy (namesIn lent (now (names .entry)))) base (now (source .entry))) (slices (now (addresses .entry)) (now (words .entry)) (now (marks .entry))) r (slices (now (addresses .exit)) (now (words .exit)) (now (marks .exit))) ⌝ }
 {
     let mut table = [0u32; label::TABLE];
     let mut cells = [0u32; 2 * rules::MAX_LINES];
     passes_in(
+        lent,
+        names,
         source,
         base,
         lines,
@@ -165,6 +209,8 @@ fn long_passes(
 
 // Both passes. A shorter source has a smaller table and fewer cells, since they are cleared for each call.
 fn passes(
+    lent: bool,
+    names: &[u8],
     source: &[u8],
     base: u32,
     lines: usize,
@@ -173,12 +219,12 @@ fn passes(
     marks: &mut [u8],
 ) -> Answer
     requires { ⌜ Starting (now source) base lines ⌝ }
-    ensures { λ r. ⌜ Outcome (ruled base (now (source .entry))) (slices (now (addresses .entry)) (now (words .entry)) (now (marks .entry))) r (slices (now (addresses .exit)) (now (words .exit)) (now (marks .exit))) ⌝ }
+    ensures { λ r. ⌜ Outcome (assembleBy size (encodeBy (namesIn lent (now (names .entry)))) base (now (source .entry))) (slices (now (addresses .entry)) (now (words .entry)) (now (marks .entry))) r (slices (now (addresses .exit)) (now (words .exit)) (now (marks .exit))) ⌝ }
 {
     if lines <= SHORT {
-        return short_passes(source, base, lines, addresses, words, marks);
+        return short_passes(lent, names, source, base, lines, addresses, words, marks);
     }
-    long_passes(source, base, lines, addresses, words, marks)
+    long_passes(lent, names, source, base, lines, addresses, words, marks)
 }
 
 // Refusals 1 to 4, or how many lines the source has.
@@ -210,7 +256,29 @@ pub fn assemble(
     let Answer::Accepted(lines) = started else {
         return started;
     };
-    passes(source, base, lines, addresses, words, marks)
+    passes(false, source, source, base, lines, addresses, words, marks)
+}
+
+// The same under the branch table `names`: refusals 16 and 17 come before all else.
+pub fn assemble_branches(
+    names: &[u8],
+    source: &[u8],
+    base: u32,
+    addresses: &mut [u32],
+    words: &mut [u16],
+    marks: &mut [u8],
+) -> Answer
+    ensures { λ r. ⌜ AssembledUnder (now (names .entry)) base (now (source .entry)) (slices (now (addresses .entry)) (now (words .entry)) (now (marks .entry))) r (slices (now (addresses .exit)) (now (words .exit)) (now (marks .exit))) ⌝ }
+{
+    let loaded = branches::load_branches(names);
+    let Answer::Accepted(_) = loaded else {
+        return loaded;
+    };
+    let started = start(source, base);
+    let Answer::Accepted(lines) = started else {
+        return started;
+    };
+    passes(true, names, source, base, lines, addresses, words, marks)
 }
 
 // Assembles a source at a base by the manual's sizes and words: the same, with refusals 14 and 15, line by line, before 7.

@@ -34,6 +34,8 @@ fn second_pass(
     }
     let put = emit::emit_words(
         true,
+        false,
+        source,
         true,
         source,
         table,

@@ -7,33 +7,33 @@ use native.Mathlib.Omega.{arith}
 use lib.ListN.{length, length-append}
 use Rattle.rules.specs.Line.{Instruction, Task, skipped, end, org, noOrg, labelOnly, instruction, value, space}
 use Rattle.rules.specs.Label.{Table}
-use Rattle.rules.specs.Encode.{mnemonics}
+use Rattle.rules.specs.Encode.{Mnemonic}
 use Rattle.rules.specs.Assemble.{Pass, Put, placesAt, dataContents, dataPlaces, wordsBy, codeContentsBy, codePlacesBy, secondPassBy}
 use Rattle.promises.specs.Lawful.{RulesAreLawful}
 use Rattle.promises.specs.ManualCall.{ManualIsLawful}
 use Rattle.promises.proofs.Lawful.{rules-are-lawful}
 use Rattle.promises.proofs.ManualCall.{manual-is-lawful}
-use Rattle.first.specs.Call.{encoderBy}
+use Rattle.emit.specs.Emit.{encoderBy}
 
-words-three : (manual : Bool) (t : Table) (a : ℕ) (i : Instruction) → length (placesAt a (wordsBy (encoderBy manual) t a i)) ≤ 3
+words-three : (manual : Bool) (ns : List Mnemonic) (t : Table) (a : ℕ) (i : Instruction) → length (placesAt a (wordsBy (encoderBy manual ns) t a i)) ≤ 3
 unfolding RulesAreLawful ManualIsLawful
-words-three true t a i = manual-is-lawful .few t a i
-words-three false t a i = let h = rules-are-lawful mnemonics .few t a i in omega arith
+words-three true ns t a i = manual-is-lawful .few t a i
+words-three false ns t a i = let h = rules-are-lawful ns .few t a i in omega arith
 
-module _ (manual : Bool) where
+module _ (manual : Bool) (ns : List Mnemonic) where
   -- a line has a value or an instruction, not both
-  put-few : (t : Table) (a : ℕ) (k : Task) → length (dataPlaces (record { address = a; task = k })) + length (codePlacesBy (encoderBy manual) t (record { address = a; task = k })) ≤ 3
+  put-few : (t : Table) (a : ℕ) (k : Task) → length (dataPlaces (record { address = a; task = k })) + length (codePlacesBy (encoderBy manual ns) t (record { address = a; task = k })) ≤ 3
   unfolding dataPlaces dataContents codePlacesBy codeContentsBy placesAt
   put-few t a skipped = omega arith
   put-few t a end = omega arith
   put-few t a (org v) = omega arith
   put-few t a noOrg = omega arith
   put-few t a labelOnly = omega arith
-  put-few t a (instruction i) = let h = words-three manual t a i in omega arith
+  put-few t a (instruction i) = let h = words-three manual ns t a i in omega arith
   put-few t a (value n v) = omega arith
   put-few t a (space n) = omega arith
 
-  puts-few : (t : Table) (ps : List Put) → length (flatMap dataPlaces ps) + length (flatMap (codePlacesBy (encoderBy manual) t) ps) ≤ 3 * length ps
+  puts-few : (t : Table) (ps : List Put) → length (flatMap dataPlaces ps) + length (flatMap (codePlacesBy (encoderBy manual ns) t) ps) ≤ 3 * length ps
   unfolding flatMap
   puts-few t [] = omega arith
   puts-few t (p ∷ ps) =
@@ -42,13 +42,13 @@ module _ (manual : Bool) where
         puts-few t ps,
         put-few t (p .address) (p .task),
         length-append (dataPlaces p) (flatMap dataPlaces ps),
-        length-append (codePlacesBy (encoderBy manual) t p) (flatMap (codePlacesBy (encoderBy manual) t) ps),
+        length-append (codePlacesBy (encoderBy manual ns) t p) (flatMap (codePlacesBy (encoderBy manual ns) t) ps),
       )
 
-  pub second-length : (p : Pass) → length (secondPassBy (encoderBy manual) p) ≡ length (flatMap dataPlaces (p .puts)) + length (flatMap (codePlacesBy (encoderBy manual) (p .labels)) (p .puts))
+  pub second-length : (p : Pass) → length (secondPassBy (encoderBy manual ns) p) ≡ length (flatMap dataPlaces (p .puts)) + length (flatMap (codePlacesBy (encoderBy manual ns) (p .labels)) (p .puts))
   unfolding secondPassBy
-  second-length p = length-append (flatMap dataPlaces (p .puts)) (flatMap (codePlacesBy (encoderBy manual) (p .labels)) (p .puts))
+  second-length p = length-append (flatMap dataPlaces (p .puts)) (flatMap (codePlacesBy (encoderBy manual ns) (p .labels)) (p .puts))
 
   -- the list has at most three words a line
-  pub second-few : (p : Pass) → length (secondPassBy (encoderBy manual) p) ≤ 3 * length (p .puts)
+  pub second-few : (p : Pass) → length (secondPassBy (encoderBy manual ns) p) ≤ 3 * length (p .puts)
   second-few p = omega (arith, second-length p, puts-few (p .labels) (p .puts))

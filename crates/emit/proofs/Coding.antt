@@ -8,6 +8,7 @@ use lib.ListN.{length}
 use Rattle.rules.specs.Text.{Text}
 use Rattle.rules.specs.Line.{instructionOf}
 use Rattle.rules.specs.Label.{Table}
+use Rattle.rules.specs.Encode.{Mnemonic}
 use Rattle.rules.specs.Assemble.{Slices, placesAt, codeContentsBy, codePlacesBy}
 use Rattle.requests.specs.ManualCall.{manualEncode}
 use Rattle.requests.specs.ManualAssemble.{taskFault}
@@ -20,8 +21,7 @@ use Rattle.encode_manual.specs.Code.{placesOf, EncodeManualGives}
 use Rattle.encode_manual.specs.declared.ManualCode.{ManualCode}
 use Rattle.encode_manual.specs.declared.ManualCode.the-variants.{Fault, Word, Value as WithValue, Long, Address}
 use Rattle.encode_manual.proofs.Callers.{code-places}
-use Rattle.first.specs.Call.{encoderBy}
-use Rattle.emit.specs.Emit.{putOf, Room, Taken, EncodeTaskNeeds}
+use Rattle.emit.specs.Emit.{encoderBy, putOf, Room, Taken, EncodeTaskNeeds}
 use Rattle.emit.specs.Codes.{manualLength, codeIn, codeAt, CellsOfGives, CodeLineGives}
 use Rattle.emit.specs.declared.Turn.{Turn}
 use Rattle.emit.specs.declared.codes.Coded.{Coded}
@@ -95,14 +95,14 @@ module _ (t : Table) (source : Text) (a : ℕ) where
         (rw e (sym (g .fault) ∙ f .0), ap (placesOf a) (f .1) ∙ manual-places, f .2 ∙ sym (manual-words a code) ∙ ap length manual-places)
 
 -- ---- a kept code's words
-module _ {manual : Bool} {codes : List ℕ} {k : ℕ} {source : Text} {table : List ℕ} {labels : ℕ} {turn : Turn} {task : Task} {x : Slices}
-    (n : EncodeTaskNeeds manual codes k source table labels turn task x) (m : manual ≡ true) (code : ManualCode) (e : code ≡ codeAt codes k) where
-  kept-places : placesOf (turn .address) code ≡ codePlacesBy (encoderBy manual) (tableOf source table labels) (putOf source (turn .address) task)
+module _ {manual : Bool} {ns : List Mnemonic} {codes : List ℕ} {k : ℕ} {source : Text} {table : List ℕ} {labels : ℕ} {turn : Turn} {task : Task} {x : Slices}
+    (n : EncodeTaskNeeds manual ns codes k source table labels turn task x) (m : manual ≡ true) (code : ManualCode) (e : code ≡ codeAt codes k) where
+  kept-places : placesOf (turn .address) code ≡ codePlacesBy (encoderBy manual ns) (tableOf source table labels) (putOf source (turn .address) task)
   kept-places = rw (m, e) (n .kept m .1 .places)
 
   pub kept-room : Room (turn .words + manualLength code) x
   kept-room = rw (← manual-words (turn .address) code, kept-places) (n .room .room (n .kept m .0))
 
   pub kept-taken : {r : ℕ} {y : Slices} → Taken true (turn .words) (placesOf (turn .address) code) x r y
-      → Taken (turn .write) (turn .words) (codePlacesBy (encoderBy manual) (tableOf source table labels) (putOf source (turn .address) task)) x r y
+      → Taken (turn .write) (turn .words) (codePlacesBy (encoderBy manual ns) (tableOf source table labels) (putOf source (turn .address) task)) x r y
   kept-taken h = rw (n .kept m .0, ← kept-places) h

@@ -48,7 +48,7 @@ listOf source table cells pass = secondPassBy manualEncode (passIn source table 
 pub record Finding (source : Text) (table cells codes₀ : List ℕ) (pass : Pass) (codes : List ℕ) (address count k : ℕ) : Type 0 where
   pub among : k ≤ pass .lines
   pub here : address ≡ addressAt (pass .base) cells k
-  pub counts : count ≡ pass .values + length (codesTo true source table cells pass k)
+  pub counts : count ≡ pass .values + length (codesTo true [] source table cells pass k)
   pub long : length codes ≡ length codes₀
   pub held : (j : ℕ) → j < k → CodeHeld codes j (putAt source (pass .base) cells j) (labelsOf source table pass)
   pub left : encodedManual (passIn source table cells pass)
@@ -70,7 +70,7 @@ module _ {source : Text} {table cells codes₀ : List ℕ} {pass : Pass} (needs 
     in-codes = record { room = omega (arith, needs .room, inv .long) }
 
     pub address-fits : afterBy (pass .base) address kept < 2 ^ 32
-    address-fits = rw (inv .here, e) (after-low true (needs .holds) k more)
+    address-fits = rw (inv .here, e) (after-low true [] (needs .holds) k more)
 
     module _ (r : Coded) (g : CodeLineGives (labelsOf source table pass) (putOf source address (kept .task)) r) where
       given : CodeLineGives (labelsOf source table pass) (putAt source (pass .base) cells k) r
@@ -89,7 +89,7 @@ module _ {source : Text} {table cells codes₀ : List ℕ} {pass : Pass} (needs 
         sound = rw f at given
 
         pub count-fits : length cells * 4 < 2 ^ 63 → count + head % 4 < 2 ^ 64
-        count-fits l = omega (arith, inv .counts, sound .2, codes-fit true (needs .holds) k more, all-few true (needs .holds))
+        count-fits l = omega (arith, inv .counts, sound .2, codes-fit true [] (needs .holds) k more, all-few true [] (needs .holds))
 
         code-held : (j : ℕ) → j < suc k → CodeHeld (withLine codes k head tail) j (putAt source (pass .base) cells j) (labelsOf source table pass)
         code-held j l = go (ltb j k) refl
@@ -131,5 +131,5 @@ module _ {source : Text} {table cells codes₀ : List ℕ} {pass : Pass} (needs 
       let ps = putsOf source (pass .base) cells (pass .lines) in
       let d : drop k ps ≡ [] = drop-of-length-le ps {i = k} (rw (puts-length source (pass .base) cells (pass .lines)) last) in
       let x : encodedManual (passIn source table cells pass) ≡ accepted (listOf source table cells pass) = inv .left ∙ rw d in
-      let n : count ≡ length (listOf source table cells pass) = inv .counts ∙ rw z (omega (arith, all-values true (needs .holds), all-words true (needs .holds))) in
+      let n : count ≡ length (listOf source table cells pass) = inv .counts ∙ rw z (omega (arith, all-values true [] (needs .holds), all-words true [] (needs .holds))) in
       record { answered = rw (x, n); codes-held = λ m e. record { line = λ j l. inv .held j (omega arith) } }

@@ -12,7 +12,7 @@ use Rattle.rules.specs.Limits.{maxSource}
 use Rattle.rules.specs.Text.{Text}
 use Rattle.rules.specs.Line.{instructionOf}
 use Rattle.rules.specs.Label.{Table}
-use Rattle.rules.specs.Encode.{encode}
+use Rattle.rules.specs.Encode.{Mnemonic, encodeBy}
 use Rattle.rules.specs.Assemble.{Place, Slices, placesAt, dataContents, dataPlaces, Encoder, codeContentsBy, codePlacesBy}
 use Rattle.text.specs.declared.Span.{Span}
 use Rattle.text.specs.Spans.{spanText, SpanIn}
@@ -21,13 +21,12 @@ use Rattle.line.specs.declared.Task.{Task}
 use Rattle.line.specs.declared.Task.the-variants.{Skipped, End, Org, NoOrg, LabelOnly, Instruction, Value, Space}
 use Rattle.line.proofs.Task.{the-type}
 use Rattle.cells.specs.Cells.{dataWords}
-use Rattle.first.specs.Call.{encoderBy}
 use Rattle.encode.specs.Code.{codeOf, placesOf, codeLength}
 use Rattle.encode.specs.Near.{Near}
 use Rattle.encode.specs.declared.Code.{Code}
 use Rattle.encode.specs.declared.Code.the-variants.{Nothing, Word, Value as WithValue, Label}
 use Rattle.encode.proofs.Callers.{encode-places, code-words}
-use Rattle.emit.specs.Emit.{Room, RoomIf, Taken, firstWords, secondWords, putOf, EncodeTaskNeeds}
+use Rattle.emit.specs.Emit.{encoderBy, Room, RoomIf, Taken, firstWords, secondWords, putOf, EncodeTaskNeeds}
 use Rattle.emit.specs.declared.Turn.{Turn}
 use Rattle.emit.proofs.Slices.{put-none}
 
@@ -68,10 +67,10 @@ module _ (t : Table) (source : Text) (a : ℕ) where
   no-instruction e (Value n v) h = refl
   no-instruction e (Space n) h = refl
 
-  pub instruction-places : {manual : Bool} → manual ≡ false → (task : Task) (s : Span) (r : Code) → task ≡ Instruction s
-      → r ≡ codeOf (encode t a (instructionOf (spanText source s))) → placesOf a r ≡ codePlacesBy (encoderBy manual) t (putOf source a task)
+  pub instruction-places : {manual : Bool} → manual ≡ false → (ns : List Mnemonic) (task : Task) (s : Span) (r : Code) → task ≡ Instruction s
+      → r ≡ codeOf (encodeBy ns t a (instructionOf (spanText source s))) → placesOf a r ≡ codePlacesBy (encoderBy manual ns) t (putOf source a task)
   unfolding codePlacesBy codeContentsBy
-  instruction-places m task s r e f = rw (m, e, f) (encode-places t a (instructionOf (spanText source s)))
+  instruction-places m ns task s r e f = rw (m, e, f) (encode-places ns t a (instructionOf (spanText source s)))
 
 -- ---- an instruction's text
 module _ (source : Text) (task : Task) (s : Span) (e : task ≡ Instruction s) where
@@ -79,7 +78,7 @@ module _ (source : Text) (task : Task) (s : Span) (e : task ≡ Instruction s) w
   span-in h = rw e at h
 
   -- it can be encoded
-  pub instruction-near : {manual : Bool} {codes : List ℕ} {k : ℕ} {table : List ℕ} {labels : ℕ} {turn : Turn} {x : Slices} → EncodeTaskNeeds manual codes k source table labels turn task x
+  pub instruction-near : {manual : Bool} {ns : List Mnemonic} {codes : List ℕ} {k : ℕ} {table : List ℕ} {labels : ℕ} {turn : Turn} {x : Slices} → EncodeTaskNeeds manual ns codes k source table labels turn task x
       → Near source table labels (turn .address) × (length (spanText source s) ≤ maxSource)
   instruction-near h =
       let i = span-in (h .within) in

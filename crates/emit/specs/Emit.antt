@@ -7,12 +7,14 @@ use lib.ListN.{length}
 use lib.Seq.{sets}
 use Rattle.rules.specs.Limits.{maxSource, addressLimit}
 use Rattle.rules.specs.Text.{Text}
-use Rattle.rules.specs.Assemble.{Put, Place, Slices, codePlacesBy, secondPassBy}
+use Rattle.rules.specs.Encode.{Mnemonic, encodeBy}
+use Rattle.rules.specs.Assemble.{Put, Place, Slices, Encoder, codePlacesBy, secondPassBy}
+use Rattle.requests.specs.ManualCall.{manualEncode}
 use Rattle.label.specs.Table.{tableOf}
 use Rattle.line.specs.Line.{taskAt, TaskIn}
 use Rattle.line.specs.declared.Task.{Task}
 use Rattle.cells.specs.Cells.{dataWords}
-use Rattle.first.specs.Call.{sizesBy, encoderBy}
+use Rattle.first.specs.Call.{sizesBy}
 use Rattle.first.specs.Pass.{passIn, HoldsBy}
 use Rattle.first.specs.declared.Pass.{Pass}
 use Rattle.encode.specs.Near.{Near}
@@ -20,6 +22,11 @@ use Rattle.encode.specs.declared.Code.{Code}
 use Rattle.encode.specs.declared.Code.the-variants.{Nothing, Word, Value, Label}
 use Rattle.emit.specs.Codes.{CodeHeld, CodesHeld}
 use Rattle.emit.specs.declared.Turn.{Turn}
+
+-- whose words a call goes by: the manual's of W-207, or paper 01's, by the mnemonics in use
+abbrev pub encoderBy : Bool → List Mnemonic → Encoder
+encoderBy true ns = manualEncode
+encoderBy false ns = encodeBy ns
 
 -- ---- words in the slices
 -- the list where it is to be written, else nothing
@@ -74,16 +81,16 @@ pub record TakeValueNeeds (turn : Turn) (task : Task) (x : Slices) : Type 0 wher
   pub below : turn .address < addressLimit
   pub room : RoomIf (turn .write) (turn .values + dataWords task) x
 
-pub record EncodeTaskNeeds (manual : Bool) (codes : List ℕ) (k : ℕ) (source : Text) (table : List ℕ) (labels : ℕ) (turn : Turn) (task : Task) (x : Slices) : Type 0 where
+pub record EncodeTaskNeeds (manual : Bool) (ns : List Mnemonic) (codes : List ℕ) (k : ℕ) (source : Text) (table : List ℕ) (labels : ℕ) (turn : Turn) (task : Task) (x : Slices) : Type 0 where
   pub near : Near source table labels (turn .address)
   pub short : length source ≤ maxSource
   pub within : TaskIn source task
-  pub room : RoomIf (turn .write) (turn .words + length (codePlacesBy (encoderBy manual) (tableOf source table labels) (putOf source (turn .address) task))) x
+  pub room : RoomIf (turn .write) (turn .words + length (codePlacesBy (encoderBy manual ns) (tableOf source table labels) (putOf source (turn .address) task))) x
   pub kept : manual ≡ true → (turn .write ≡ true) × CodeHeld codes k (putOf source (turn .address) task) (tableOf source table labels)
 
 -- ---- all lines
 -- the table and the cells hold a pass, and its list fits where it is to be written; the manual's is, and its codes are kept
-pub record EmitWordsNeeds (manual write : Bool) (source : Text) (table cells codes : List ℕ) (pass : Pass) (x : Slices) : Type 0 where
+pub record EmitWordsNeeds (manual : Bool) (ns : List Mnemonic) (write : Bool) (source : Text) (table cells codes : List ℕ) (pass : Pass) (x : Slices) : Type 0 where
   pub holds : HoldsBy (sizesBy manual) source table cells pass
-  pub room : write ≡ true → Room (length (secondPassBy (encoderBy manual) (passIn source table cells pass))) x
+  pub room : write ≡ true → Room (length (secondPassBy (encoderBy manual ns) (passIn source table cells pass))) x
   pub kept : manual ≡ true → (write ≡ true) × CodesHeld source table cells codes pass

@@ -1,5 +1,6 @@
 // The second pass: the words of the data and of the instructions, counted or written into three lent slices.
 // It goes by the lines that the first pass kept; only an instruction's text is read again, in the manual's call by `codes`.
+// `lent` and `names` are the names in use, as in `branches`; the manual's call does not read them.
 use encode::Code;
 use encode_manual::ManualCode;
 use first::Pass;
@@ -13,12 +14,12 @@ ghost use Rattle.rules.specs.Limits.{addressLimit};
 ghost use Rattle.rules.specs.Text.{Text};
 ghost use Rattle.rules.specs.Assemble.{place, slices, holding, dataPlaces, codePlacesBy, secondPassBy};
 ghost use Rattle.label.specs.Table.{tableOf};
-ghost use Rattle.first.specs.Call.{encoderBy};
+ghost use Rattle.branches.specs.Branch.{namesIn};
 ghost use Rattle.first.specs.Pass.{passIn};
 ghost use Rattle.encode.specs.Code.{placesOf, codeLength};
 ghost use Rattle.encode_manual.specs.Code.{placesOf as manualPlaces};
 ghost use Rattle.emit.specs.Codes.{manualLength};
-ghost use Rattle.emit.specs.Emit.{wanted, putFrom, Room, RoomIf, Taken, firstWords, secondWords, putOf, TakeValueNeeds, EncodeTaskNeeds, EmitWordsNeeds};
+ghost use Rattle.emit.specs.Emit.{encoderBy, wanted, putFrom, Room, RoomIf, Taken, firstWords, secondWords, putOf, TakeValueNeeds, EncodeTaskNeeds, EmitWordsNeeds};
 
 pub mod codes; // codes.rt: the codes of the manual's call, looked for a fault and kept
 
@@ -234,6 +235,8 @@ fn take_value(
 // words; how many there are then.
 fn encode_task(
     manual: bool,
+    lent: bool,
+    names: &[u8],
     codes: &[u32],
     k: usize,
     source: &[u8],
@@ -245,8 +248,8 @@ fn encode_task(
     words: &mut [u16],
     marks: &mut [u8],
 ) -> usize
-    requires { ⌜ EncodeTaskNeeds manual (now codes) k (now source) (now table) labels turn task (slices (now addresses) (now words) (now marks)) ⌝ }
-    ensures { λ r. ⌜ Taken (turn .write) (turn .words) (codePlacesBy (encoderBy manual) (tableOf (now (source .entry)) (now (table .entry)) labels) (putOf (now (source .entry)) (turn .address) task)) (slices (now (addresses .entry)) (now (words .entry)) (now (marks .entry))) r (slices (now (addresses .exit)) (now (words .exit)) (now (marks .exit))) ⌝ }
+    requires { ⌜ EncodeTaskNeeds manual (namesIn lent (now names)) (now codes) k (now source) (now table) labels turn task (slices (now addresses) (now words) (now marks)) ⌝ }
+    ensures { λ r. ⌜ Taken (turn .write) (turn .words) (codePlacesBy (encoderBy manual (namesIn lent (now (names .entry)))) (tableOf (now (source .entry)) (now (table .entry)) labels) (putOf (now (source .entry)) (turn .address) task)) (slices (now (addresses .entry)) (now (words .entry)) (now (marks .entry))) r (slices (now (addresses .exit)) (now (words .exit)) (now (marks .exit))) ⌝ }
 {
     if manual {
         let kept = codes::kept_code(codes, k);
@@ -257,7 +260,15 @@ fn encode_task(
     };
     let a = span.start;
     let b = span.end;
-    let code = encode::encode_instruction(source, table, labels, turn.address, &source[a..b]);
+    let code = encode::encode_instruction(
+        lent,
+        names,
+        source,
+        table,
+        labels,
+        turn.address,
+        &source[a..b],
+    );
     take_code(
         turn.write,
         addresses,
@@ -285,6 +296,8 @@ fn rest_start(written: bool, values: usize) -> usize
 // are always put, by the codes that `find_fault` kept.
 pub fn emit_words(
     manual: bool,
+    lent: bool,
+    names: &[u8],
     write: bool,
     source: &[u8],
     table: &[u32],
@@ -295,9 +308,9 @@ pub fn emit_words(
     words: &mut [u16],
     marks: &mut [u8],
 ) -> usize
-    requires { ⌜ EmitWordsNeeds manual write (now source) (now table) (now cells) (now codes) pass (slices (now addresses) (now words) (now marks)) ⌝ }
-    ensures { λ r. ⌜ r ≡ length (secondPassBy (encoderBy manual) (passIn (now (source .entry)) (now (table .entry)) (now (cells .entry)) pass)) ⌝ }
-    ensures { λ _. ⌜ slices (now (addresses .exit)) (now (words .exit)) (now (marks .exit)) ≡ holding (wanted write (secondPassBy (encoderBy manual) (passIn (now (source .entry)) (now (table .entry)) (now (cells .entry)) pass))) (slices (now (addresses .entry)) (now (words .entry)) (now (marks .entry))) ⌝ }
+    requires { ⌜ EmitWordsNeeds manual (namesIn lent (now names)) write (now source) (now table) (now cells) (now codes) pass (slices (now addresses) (now words) (now marks)) ⌝ }
+    ensures { λ r. ⌜ r ≡ length (secondPassBy (encoderBy manual (namesIn lent (now (names .entry)))) (passIn (now (source .entry)) (now (table .entry)) (now (cells .entry)) pass)) ⌝ }
+    ensures { λ _. ⌜ slices (now (addresses .exit)) (now (words .exit)) (now (marks .exit)) ≡ holding (wanted write (secondPassBy (encoderBy manual (namesIn lent (now (names .entry)))) (passIn (now (source .entry)) (now (table .entry)) (now (cells .entry)) pass))) (slices (now (addresses .entry)) (now (words .entry)) (now (marks .entry))) ⌝ }
 {
     let rest = rest_start(write, pass.values);
     let mut turn = Turn {
@@ -313,6 +326,8 @@ pub fn emit_words(
         let values = take_value(turn, task, addresses, words, marks);
         let n = encode_task(
             manual,
+            lent,
+            names,
             codes,
             k,
             source,

@@ -10,7 +10,7 @@ use Rattle.rules.specs.Text.{Text}
 use Rattle.rules.specs.Line.{Instruction}
 use Rattle.rules.specs.Label.{Table}
 use Rattle.rules.specs.Encode.{Content, literal, address, Operation, moveq, move, movea, muls, tst, subq, asl, dbra, nop, simhalt, add, sub, cmp, jmp, branch}
-use Rattle.rules.specs.Encode.{two, one, oneOrMore, jumps, word, withLabel, registersRow, highRow, lowRow, fromIndirect, toIndirect, fromLabel, toLabel, moveRows, moveaRow, mulsRows, cmpRows, moveqRow, quickRow, tstRow, jumpRow, dbraRow, branchRow, encodeOperation, encodeBy, encode}
+use Rattle.rules.specs.Encode.{two, one, oneOrMore, jumps, word, withLabel, registersRow, highRow, lowRow, fromIndirect, toIndirect, fromLabel, toLabel, moveRows, moveaRow, mulsRows, cmpRows, moveqRow, quickRow, tstRow, jumpRow, dbraRow, branchRow, encodeOperation, Mnemonic, encodeBy}
 use Rattle.encode.specs.Code.{codeOf}
 use Rattle.encode.specs.declared.Code.{Code}
 use Rattle.encode.specs.declared.Code.the-variants.{Nothing}
@@ -179,6 +179,6 @@ module _ (ls : Table) (a : ℕ) where
   shaped-operation dbra = shaped-two (shaped-dbra ls a)
   shaped-operation (branch c) = shaped-more (shaped-branch ls a c)
 
-  pub shaped-encode : (i : Instruction) → Shaped (encode ls a i)
+  pub shaped-encode : (ns : List Mnemonic) (i : Instruction) → Shaped (encodeBy ns ls a i)
   unfolding encodeBy
-  shaped-encode i = shaped-bind _ _ (λ o. shaped-operation o (i .operands))
+  shaped-encode ns i = shaped-bind _ _ (λ o. shaped-operation o (i .operands))

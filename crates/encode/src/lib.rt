@@ -4,8 +4,9 @@ ghost use Prim.Native.Nat.{_≤_};
 ghost use lib.ListN.{length};
 ghost use Rattle.rules.specs.Limits.{maxSource};
 ghost use Rattle.rules.specs.Line.{instructionOf};
-ghost use Rattle.rules.specs.Encode.{encode};
+ghost use Rattle.rules.specs.Encode.{encodeBy};
 ghost use Rattle.label.specs.Table.{tableOf};
+ghost use Rattle.branches.specs.Branch.{namesIn};
 ghost use Rattle.instruction.specs.Split.{operandsIn, operandsAt};
 ghost use Rattle.encode.specs.Code.{codeOf};
 ghost use Rattle.encode.specs.Near.{Near};
@@ -137,8 +138,11 @@ fn encode_tail(
     encode_operation(source, table, labels, address, o, found, tail)
 }
 
-// The words of the instruction whose text is `t`; its tail is copied only where it does not stand joined.
+// The words of the instruction whose text is `t`, by the names in use (`branches`); its tail is copied only where it does not stand
+// joined.
 pub fn encode_instruction(
+    lent: bool,
+    names: &[u8],
     source: &[u8],
     table: &[u32],
     labels: usize,
@@ -146,12 +150,12 @@ pub fn encode_instruction(
     t: &[u8],
 ) -> Code
     requires { ⌜ Near (now source) (now table) labels address × (length (now t) ≤ maxSource) ⌝ }
-    ensures { λ r. ⌜ r ≡ codeOf (encode (tableOf (now (source .entry)) (now (table .entry)) labels) address (instructionOf (now (t .entry)))) ⌝ }
+    ensures { λ r. ⌜ r ≡ codeOf (encodeBy (namesIn lent (now (names .entry))) (tableOf (now (source .entry)) (now (table .entry)) labels) address (instructionOf (now (t .entry)))) ⌝ }
 {
     let head = instruction::read_head(t);
     let a = head.start;
     let b = head.end;
-    let o = opcode::mnemonic::find_operation(&t[a..b]);
+    let o = branches::find_operation_by(lent, names, &t[a..b]);
     let start = text::skip_blanks(t, head.tail);
     if instruction::is_joined(t, start) {
         return encode_tail(source, table, labels, address, o, &t[start..]);

@@ -5,7 +5,7 @@ use Rattle.assemble.proofs.long_passes.Statement.{statement}
 use Rattle.assemble.proofs.long_passes.Tie as tie
 
 passes-in-requires : tie.Need-passes-in-requires
-passes-in-requires c κs = record { starting = c .before .before .before .before .before .before .before .before .before .pre; lent = lent-full _ }
+passes-in-requires c κs = record { starting = c .before .before .before .before .before .before .before .before .before .before .pre; lent = lent-full _ }
 
 pub long-passes-spec : {M : Type 1} → statement M
 long-passes-spec =

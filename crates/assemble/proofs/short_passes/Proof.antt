@@ -6,7 +6,7 @@ use Rattle.assemble.proofs.short_passes.Statement.{statement}
 use Rattle.assemble.proofs.short_passes.Tie as tie
 
 passes-in-requires : tie.Need-passes-in-requires
-passes-in-requires c κs = let p = c .before .before .before .before .before .before .before .before .before .pre in record { starting = p .0; lent = lent-short _ 64 (let l = p .0 .lines-are in let h = p .1 in omega arith) }
+passes-in-requires c κs = let p = c .before .before .before .before .before .before .before .before .before .before .pre in record { starting = p .0; lent = lent-short _ 64 (let l = p .0 .lines-are in let h = p .1 in omega arith) }
 
 pub short-passes-spec : {M : Type 1} → statement M
 short-passes-spec =

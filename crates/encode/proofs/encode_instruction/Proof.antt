@@ -7,14 +7,14 @@ use Rattle.encode.proofs.Instructions.{conditioned, encoded, encoded-th
 use Rattle.encode.proofs.encode_instruction.Statement.{statement}
 use Rattle.encode.proofs.encode_instruction.Tie as tie
 
-sub-find-operation : tie.Need-sub-find-operation
-sub-find-operation c = head-of _ _ (c .read-head .ensures) .ordered
+sub-find-operation-by : tie.Need-sub-find-operation-by
+sub-find-operation-by c = head-of _ _ (c .read-head .ensures) .ordered
 
-part-find-operation-start : tie.Need-part-find-operation-start
-part-find-operation-start c = omega (arith, head-of _ _ (c .read-head .ensures))
+part-find-operation-by-start : tie.Need-part-find-operation-by-start
+part-find-operation-by-start c = omega (arith, head-of _ _ (c .read-head .ensures))
 
-part-find-operation-end : tie.Need-part-find-operation-end
-part-find-operation-end c = omega (arith, head-of _ _ (c .read-head .ensures))
+part-find-operation-by-end : tie.Need-part-find-operation-by-end
+part-find-operation-by-end c = omega (arith, head-of _ _ (c .read-head .ensures))
 
 skip-blanks-requires : tie.Need-skip-blanks-requires
 skip-blanks-requires c κs = head-of _ _ (c .before .before .read-head .ensures) .within
@@ -29,25 +29,25 @@ part-encode-tail-start : tie.Need-part-encode-tail-start
 part-encode-tail-start c = omega (arith, start-within _ _ _ (c .before .before .skip-blanks .ensures) (head-of _ _ (c .before .before .before .before .before .read-head .ensures) .within))
 
 encode-tail-requires : tie.Need-encode-tail-requires
-encode-tail-requires c κs = (c .before .before .before .before .before .before .before .before .before .before .pre .0, conditioned _ _ (c .before .before .before .before .before .before .read-head .ensures) (c .before .before .before .before .find-operation .ensures))
+encode-tail-requires c κs = (c .before .before .before .before .before .before .before .before .before .before .before .pre .0, conditioned _ _ _ _ (c .before .before .before .before .before .before .read-head .ensures) (c .before .before .before .before .find-operation-by .ensures))
 
 returns : tie.Need-returns
-returns c = encoded-there _ _ (c .before .before .before .before .before .before .before .read-head .ensures) (c .before .before .before .before .before .find-operation .ensures) _ _ (c .before .before .before .before .skip-blanks .ensures) (c .before .before .before .is-joined .ensures) (c .before .before .if1 .taken) (c .encode-tail .ensures)
+returns c = encoded-there _ _ _ _ (c .before .before .before .before .before .before .before .read-head .ensures) (c .before .before .before .before .before .find-operation-by .ensures) _ _ (c .before .before .before .before .skip-blanks .ensures) (c .before .before .before .is-joined .ensures) (c .before .before .if1 .taken) (c .encode-tail .ensures)
 
 encode-copied-requires : tie.Need-encode-copied-requires
-encode-copied-requires c κs = ((c .before .before .before .before .before .before .before .before .before .pre .0, conditioned _ _ (c .before .before .before .before .before .read-head .ensures) (c .before .before .before .find-operation .ensures)), (head-of _ _ (c .before .before .before .before .before .read-head .ensures) .within, c .before .before .before .before .before .before .before .before .before .pre .1))
+encode-copied-requires c κs = ((c .before .before .before .before .before .before .before .before .before .before .pre .0, conditioned _ _ _ _ (c .before .before .before .before .before .read-head .ensures) (c .before .before .before .find-operation-by .ensures)), (head-of _ _ (c .before .before .before .before .before .read-head .ensures) .within, c .before .before .before .before .before .before .before .before .before .before .pre .1))
 
 returns-2 : tie.Need-returns-2
-returns-2 c = encoded _ _ (c .before .before .before .before .before .before .read-head .ensures) (c .before .before .before .before .find-operation .ensures) _ _ (c .encode-copied .ensures)
+returns-2 c = encoded _ _ _ _ (c .before .before .before .before .before .before .read-head .ensures) (c .before .before .before .before .find-operation-by .ensures) _ _ (c .encode-copied .ensures)
 
 pub encode-instruction-spec : {M : Type 1} → statement M
 encode-instruction-spec =
     tie.close
     (tie.spec
     (λ c κs. search needs)
-    sub-find-operation
-    part-find-operation-start
-    part-find-operation-end
+    sub-find-operation-by
+    part-find-operation-by-start
+    part-find-operation-by-end
     (λ c κs. search needs)
     skip-blanks-requires
     is-joined-requires
