@@ -1,6 +1,6 @@
 // The assembler: refusals 1 to 7, and the list of a source at a base in three lent slices; the same under a branch table (W-210),
-// with refusals 16 and 17; and the manual's call of W-207, with 14 and 15. `lent` and `names` are the names in use, as in `branches`;
-// where no table is lent, the source stands for it and is not read as one.
+// with refusals 16 and 17; and the manual's call of W-207, with 14 and 15. `lent` and `names`, last in each pass so that 01's call
+// keeps its registers, are the names in use, as in `branches`; where no table is lent, the source stands for it and is not read as one.
 use answer::Answer;
 use first::Entered;
 use first::Pass;
@@ -23,8 +23,6 @@ enum Fit {
 
 // Looks whether the list fits. It is counted only where two places a line, the most that it has, would not.
 fn fit_list(
-    lent: bool,
-    names: &[u8],
     source: &[u8],
     table: &[u32],
     cells: &[u32],
@@ -33,6 +31,8 @@ fn fit_list(
     addresses: &mut [u32],
     words: &mut [u16],
     marks: &mut [u8],
+    lent: bool,
+    names: &[u8],
 ) -> Fit
     requires { ⌜ SecondPassNeeds (now source) (now table) (now cells) pass lines ⌝ }
     ensures { λ r. ⌜ r ≡ fitOf (listOf (namesIn lent (now (names .entry))) (now (source .entry)) (now (table .entry)) (now (cells .entry)) pass) (slices (now (addresses .entry)) (now (words .entry)) (now (marks .entry))) ⌝ }
@@ -43,8 +43,6 @@ fn fit_list(
     }
     let count = emit::emit_words(
         false,
-        lent,
-        names,
         false,
         source,
         table,
@@ -54,6 +52,8 @@ fn fit_list(
         addresses,
         words,
         marks,
+        lent,
+        names,
     );
     if answer::is_short(addresses, words, marks, count) {
         return Fit::Short(count);
@@ -63,8 +63,6 @@ fn fit_list(
 
 // The second pass: refusal 7, or the words.
 fn second_pass(
-    lent: bool,
-    names: &[u8],
     source: &[u8],
     table: &[u32],
     cells: &[u32],
@@ -73,13 +71,13 @@ fn second_pass(
     addresses: &mut [u32],
     words: &mut [u16],
     marks: &mut [u8],
+    lent: bool,
+    names: &[u8],
 ) -> Answer
     requires { ⌜ SecondPassNeeds (now source) (now table) (now cells) pass lines ⌝ }
     ensures { λ r. ⌜ Outcome (accepted (listOf (namesIn lent (now (names .entry))) (now (source .entry)) (now (table .entry)) (now (cells .entry)) pass)) (slices (now (addresses .entry)) (now (words .entry)) (now (marks .entry))) r (slices (now (addresses .exit)) (now (words .exit)) (now (marks .exit))) ⌝ }
 {
     let room = fit_list(
-        lent,
-        names,
         source,
         table,
         cells,
@@ -88,14 +86,14 @@ fn second_pass(
         addresses,
         words,
         marks,
+        lent,
+        names,
     );
     if let Fit::Short(count) = room {
         return Answer::Refused(7, count);
     }
     let count = emit::emit_words(
         false,
-        lent,
-        names,
         true,
         source,
         table,
@@ -105,14 +103,14 @@ fn second_pass(
         addresses,
         words,
         marks,
+        lent,
+        names,
     );
     Answer::Accepted(count)
 }
 
 // Both passes over a source within the limits, of so many lines, with a table that has no labels yet and two cells a line.
 fn passes_in(
-    lent: bool,
-    names: &[u8],
     source: &[u8],
     base: u32,
     lines: usize,
@@ -121,6 +119,8 @@ fn passes_in(
     addresses: &mut [u32],
     words: &mut [u16],
     marks: &mut [u8],
+    lent: bool,
+    names: &[u8],
 ) -> Answer
     requires { ⌜ PassesInNeeds (now source) base lines (now table) (now cells) ⌝ }
     ensures { λ r. ⌜ Outcome (assembleBy size (encodeBy (namesIn lent (now (names .entry)))) base (now (source .entry))) (slices (now (addresses .entry)) (now (words .entry)) (now (marks .entry))) r (slices (now (addresses .exit)) (now (words .exit)) (now (marks .exit))) ⌝ }
@@ -129,8 +129,6 @@ fn passes_in(
         Entered::Refused(n, p) => Answer::Refused(n, p),
         Entered::Done(pass) => {
             second_pass(
-                lent,
-                names,
                 source,
                 table,
                 cells,
@@ -139,6 +137,8 @@ fn passes_in(
                 addresses,
                 words,
                 marks,
+                lent,
+                names,
             )
         }
     }
@@ -149,14 +149,14 @@ pub const SHORT: usize = label::SMALL_LABELS / 2;
 
 // Both passes over a short source.
 fn short_passes(
-    lent: bool,
-    names: &[u8],
     source: &[u8],
     base: u32,
     lines: usize,
     addresses: &mut [u32],
     words: &mut [u16],
     marks: &mut [u8],
+    lent: bool,
+    names: &[u8],
 ) -> Answer
     requires { ⌜ Starting (now source) base lines × (lines ≤ shortLines) ⌝ }
     ensures { λ r. ⌜ Outcome (assembleBy size (encodeBy (namesIn lent (now (names .entry)))) base (now (source .entry))) (slices (now (addresses .entry)) (now (words .entry)) (now (marks .entry))) r (slices (now (addresses .exit)) (now (words .exit)) (now (marks .exit))) ⌝ }
@@ -164,8 +164,6 @@ fn short_passes(
     let mut table = [0u32; label::SMALL];
     let mut cells = [0u32; 2 * SHORT];
     passes_in(
-        lent,
-        names,
         source,
         base,
         lines,
@@ -174,19 +172,21 @@ fn short_passes(
         addresses,
         words,
         marks,
+        lent,
+        names,
     )
 }
 
 // Both passes over any source.
 fn long_passes(
-    lent: bool,
-    names: &[u8],
     source: &[u8],
     base: u32,
     lines: usize,
     addresses: &mut [u32],
     words: &mut [u16],
     marks: &mut [u8],
+    lent: bool,
+    names: &[u8],
 ) -> Answer
     requires { ⌜ Starting (now source) base lines ⌝ }
     ensures { λ r. ⌜ Outcome (assembleBy size (encodeBy (namesIn lent (now (names .entry)))) base (now (source .entry))) (slices (now (addresses .entry)) (now (words .entry)) (now (marks .entry))) r (slices (now (addresses .exit)) (now (words .exit)) (now (marks .exit))) ⌝ }
@@ -194,8 +194,6 @@ fn long_passes(
     let mut table = [0u32; label::TABLE];
     let mut cells = [0u32; 2 * rules::MAX_LINES];
     passes_in(
-        lent,
-        names,
         source,
         base,
         lines,
@@ -204,27 +202,29 @@ fn long_passes(
         addresses,
         words,
         marks,
+        lent,
+        names,
     )
 }
 
 // Both passes. A shorter source has a smaller table and fewer cells, since they are cleared for each call.
 fn passes(
-    lent: bool,
-    names: &[u8],
     source: &[u8],
     base: u32,
     lines: usize,
     addresses: &mut [u32],
     words: &mut [u16],
     marks: &mut [u8],
+    lent: bool,
+    names: &[u8],
 ) -> Answer
     requires { ⌜ Starting (now source) base lines ⌝ }
     ensures { λ r. ⌜ Outcome (assembleBy size (encodeBy (namesIn lent (now (names .entry)))) base (now (source .entry))) (slices (now (addresses .entry)) (now (words .entry)) (now (marks .entry))) r (slices (now (addresses .exit)) (now (words .exit)) (now (marks .exit))) ⌝ }
 {
     if lines <= SHORT {
-        return short_passes(lent, names, source, base, lines, addresses, words, marks);
+        return short_passes(source, base, lines, addresses, words, marks, lent, names);
     }
-    long_passes(lent, names, source, base, lines, addresses, words, marks)
+    long_passes(source, base, lines, addresses, words, marks, lent, names)
 }
 
 // Refusals 1 to 4, or how many lines the source has.
@@ -256,7 +256,7 @@ pub fn assemble(
     let Answer::Accepted(lines) = started else {
         return started;
     };
-    passes(false, source, source, base, lines, addresses, words, marks)
+    passes(source, base, lines, addresses, words, marks, false, source)
 }
 
 // The same under the branch table `names`: refusals 16 and 17 come before all else.
@@ -278,7 +278,7 @@ pub fn assemble_branches(
     let Answer::Accepted(lines) = started else {
         return started;
     };
-    passes(true, names, source, base, lines, addresses, words, marks)
+    passes(source, base, lines, addresses, words, marks, true, names)
 }
 
 // Assembles a source at a base by the manual's sizes and words: the same, with refusals 14 and 15, line by line, before 7.

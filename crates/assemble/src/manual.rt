@@ -34,8 +34,6 @@ fn second_pass(
     }
     let put = emit::emit_words(
         true,
-        false,
-        source,
         true,
         source,
         table,
@@ -45,6 +43,8 @@ fn second_pass(
         addresses,
         words,
         marks,
+        false,
+        source,
     );
     Answer::Accepted(put)
 }

@@ -296,8 +296,6 @@ fn rest_start(written: bool, values: usize) -> usize
 // are always put, by the codes that `find_fault` kept.
 pub fn emit_words(
     manual: bool,
-    lent: bool,
-    names: &[u8],
     write: bool,
     source: &[u8],
     table: &[u32],
@@ -307,6 +305,8 @@ pub fn emit_words(
     addresses: &mut [u32],
     words: &mut [u16],
     marks: &mut [u8],
+    lent: bool,
+    names: &[u8],
 ) -> usize
     requires { ⌜ EmitWordsNeeds manual (namesIn lent (now names)) write (now source) (now table) (now cells) (now codes) pass (slices (now addresses) (now words) (now marks)) ⌝ }
     ensures { λ r. ⌜ r ≡ length (secondPassBy (encoderBy manual (namesIn lent (now (names .entry)))) (passIn (now (source .entry)) (now (table .entry)) (now (cells .entry)) pass)) ⌝ }
