@@ -135,6 +135,10 @@ unfolding counted
 not-any {n} e = lt-leb 1 n (omega arith)
 
 -- ---- an instruction's operation, by the table
+-- by the shape x that was found, and is y
+pub as-shape : {x y : Shape} → x ≡ y → (ls : Table) (a : ℕ) (ps : List Text) (r : Verdict) → r ≡ verdictOf (whyBy (formsFor x) ls a ps) → r ≡ verdictOf (whyBy (formsFor y) ls a ps)
+as-shape e ls a ps r h = rw e at h
+
 pub by-shape : (ls : Table) (a : ℕ) (q : Option Ruled) (ps : List Text)
     → whyBy (formsFor (shapeOf (operationOf q))) ls a ps ≡ elim q [ none ↦ because unknownMnemonic | some o ↦ whyOperation ls a o ps ]
 unfolding whyBy whyOperation formsOf
@@ -156,12 +160,12 @@ by-shape ls a (some jmp) ps = refl
 by-shape ls a (some (branch c)) ps = refl
 
 module _ (names : List Mnemonic) (t : Text) (h : Head) (e : h ≡ headOf t) {o : Operation} (f : o ≡ operationOf (operationIn names (uppers (part t (h .start) (h .end)))))
-    {shape : Shape} (g : shape ≡ shapeOf o) (ls : Table) (a : ℕ) {r : Verdict} where
+    (ls : Table) (a : ℕ) {r : Verdict} where
   -- by the joined tail, however it is come by
-  pub why-read : r ≡ verdictOf (whyBy (formsFor shape) ls a (operandsIn (joined (pieces (drop (h .tail) t))))) → r ≡ verdictOf (why names ls a (instructionOf t))
+  pub why-read : r ≡ verdictOf (whyBy (formsFor (shapeOf o)) ls a (operandsIn (joined (pieces (drop (h .tail) t))))) → r ≡ verdictOf (why names ls a (instructionOf t))
   unfolding why
-  why-read q = rw (instruction-read t h e, ← by-shape ls a (operationIn names (uppers (part t (h .start) (h .end)))) (operandsIn (joined (pieces (drop (h .tail) t)))), ← f, ← g) q
+  why-read q = rw (instruction-read t h e, ← by-shape ls a (operationIn names (uppers (part t (h .start) (h .end)))) (operandsIn (joined (pieces (drop (h .tail) t)))), ← f) q
 
   pub why-there : {s : ℕ} {y : Bool} → s ≡ h .tail + leading (drop (h .tail) t) → y ≡ isJoined (drop s t) → y ≡ true
-      → r ≡ verdictOf (whyBy (formsFor shape) ls a (operandsIn (take (length t - s) (drop s t)))) → r ≡ verdictOf (why names ls a (instructionOf t))
+      → r ≡ verdictOf (whyBy (formsFor (shapeOf o)) ls a (operandsIn (take (length t - s) (drop s t)))) → r ≡ verdictOf (why names ls a (instructionOf t))
   why-there {s} w j y q = why-read (rw (joined-there t (h .tail) s w j y) at q)

@@ -271,19 +271,20 @@ fn shape_of(o: Operation) -> Shape
     }
 }
 
-// The verdict on the operands `found` in `tail`.
+// The verdict on the operands `found` in `tail`. The shape is found where it is acted on: before the operands, it becomes a table of
+// values wherever an archive looks mnemonics up at two places.
 fn why_operands(
     source: &[u8],
     table: &[u32],
     labels: usize,
     address: u32,
-    shape: Shape,
+    o: Operation,
     found: Operands,
     tail: &[u8],
 ) -> Verdict
     requires { ⌜ Near (now source) (now table) labels address ⌝ }
     requires { ⌜ found ≡ operandsAt (now tail) ⌝ }
-    ensures { λ r. ⌜ r ≡ verdictOf (whyBy (formsFor shape) (tableOf (now (source .entry)) (now (table .entry)) labels) address (operandsIn (now (tail .entry)))) ⌝ }
+    ensures { λ r. ⌜ r ≡ verdictOf (whyBy (formsFor (shapeOf o)) (tableOf (now (source .entry)) (now (table .entry)) labels) address (operandsIn (now (tail .entry)))) ⌝ }
 {
     let count = found.count;
     let a = found.first.start;
@@ -292,6 +293,7 @@ fn why_operands(
     let c = found.second.start;
     let d = found.second.end;
     let t = &tail[c..d];
+    let shape = shape_of(o);
     match shape {
         Shape::Unknown => Verdict::UnknownMnemonic,
         Shape::Any => Verdict::Emitted,
@@ -322,14 +324,14 @@ fn why_tail(
     table: &[u32],
     labels: usize,
     address: u32,
-    shape: Shape,
+    o: Operation,
     tail: &[u8],
 ) -> Verdict
     requires { ⌜ Near (now source) (now table) labels address ⌝ }
-    ensures { λ r. ⌜ r ≡ verdictOf (whyBy (formsFor shape) (tableOf (now (source .entry)) (now (table .entry)) labels) address (operandsIn (now (tail .entry)))) ⌝ }
+    ensures { λ r. ⌜ r ≡ verdictOf (whyBy (formsFor (shapeOf o)) (tableOf (now (source .entry)) (now (table .entry)) labels) address (operandsIn (now (tail .entry)))) ⌝ }
 {
     let found = instruction::split_operands(tail);
-    why_operands(source, table, labels, address, shape, found, tail)
+    why_operands(source, table, labels, address, o, found, tail)
 }
 
 // By a normalised copy of the tail that starts at `at`.
@@ -338,17 +340,17 @@ fn why_copied(
     table: &[u32],
     labels: usize,
     address: u32,
-    shape: Shape,
+    o: Operation,
     t: &[u8],
     at: usize,
 ) -> Verdict
     requires { ⌜ Near (now source) (now table) labels address ⌝ }
     requires { ⌜ (at ≤ length (now t)) × (length (now t) ≤ maxSource) ⌝ }
-    ensures { λ r. ⌜ r ≡ verdictOf (whyBy (formsFor shape) (tableOf (now (source .entry)) (now (table .entry)) labels) address (operandsIn (joined (pieces (drop at (now (t .entry))))))) ⌝ }
+    ensures { λ r. ⌜ r ≡ verdictOf (whyBy (formsFor (shapeOf o)) (tableOf (now (source .entry)) (now (table .entry)) labels) address (operandsIn (joined (pieces (drop at (now (t .entry))))))) ⌝ }
 {
     let mut copy = [0u8; rules::MAX_SOURCE];
     let n = instruction::join_pieces(t, at, &mut copy);
-    why_tail(source, table, labels, address, shape, &copy[..n])
+    why_tail(source, table, labels, address, o, &copy[..n])
 }
 
 // The verdict on the instruction whose text is `t`, by the names in use (`branches`); its tail is copied only where it does not stand joined.
@@ -367,10 +369,10 @@ pub fn why_instruction(
     let head = instruction::read_head(t);
     let a = head.start;
     let b = head.end;
-    let shape = shape_of(branches::find_operation_by(lent, names, &t[a..b]));
+    let o = branches::find_operation_by(lent, names, &t[a..b]);
     let start = text::skip_blanks(t, head.tail);
     if instruction::is_joined(t, start) {
-        return why_tail(source, table, labels, address, shape, &t[start..]);
+        return why_tail(source, table, labels, address, o, &t[start..]);
     }
-    why_copied(source, table, labels, address, shape, t, head.tail)
+    why_copied(source, table, labels, address, o, t, head.tail)
 }

@@ -17,25 +17,25 @@ part-find-operation-by-end : tie.Need-part-find-operation-by-end
 part-find-operation-by-end c = omega (arith, head-of _ _ (c .read-head .ensures))
 
 skip-blanks-requires : tie.Need-skip-blanks-requires
-skip-blanks-requires c κs = head-of _ _ (c .before .before .before .read-head .ensures) .within
+skip-blanks-requires c κs = head-of _ _ (c .before .before .read-head .ensures) .within
 
 is-joined-requires : tie.Need-is-joined-requires
-is-joined-requires c κs = omega (arith, start-within _ _ _ (c .skip-blanks .ensures) (head-of _ _ (c .before .before .before .before .read-head .ensures) .within))
+is-joined-requires c κs = omega (arith, start-within _ _ _ (c .skip-blanks .ensures) (head-of _ _ (c .before .before .before .read-head .ensures) .within))
 
 sub-why-tail : tie.Need-sub-why-tail
-sub-why-tail c = start-within _ _ _ (c .before .before .skip-blanks .ensures) (head-of _ _ (c .before .before .before .before .before .before .read-head .ensures) .within)
+sub-why-tail c = start-within _ _ _ (c .before .before .skip-blanks .ensures) (head-of _ _ (c .before .before .before .before .before .read-head .ensures) .within)
 
 part-why-tail-start : tie.Need-part-why-tail-start
-part-why-tail-start c = omega (arith, start-within _ _ _ (c .before .before .skip-blanks .ensures) (head-of _ _ (c .before .before .before .before .before .before .read-head .ensures) .within))
+part-why-tail-start c = omega (arith, start-within _ _ _ (c .before .before .skip-blanks .ensures) (head-of _ _ (c .before .before .before .before .before .read-head .ensures) .within))
 
 returns : tie.Need-returns
-returns c = why-there _ _ _ (c .before .before .before .before .before .before .before .before .read-head .ensures) (c .before .before .before .before .before .before .find-operation-by .ensures) (c .before .before .before .before .before .shape-of .ensures) _ _ (c .before .before .before .before .skip-blanks .ensures) (c .before .before .before .is-joined .ensures) (c .before .before .if1 .taken) (c .why-tail .ensures)
+returns c = why-there _ _ _ (c .before .before .before .before .before .before .before .read-head .ensures) (c .before .before .before .before .before .find-operation-by .ensures) _ _ (c .before .before .before .before .skip-blanks .ensures) (c .before .before .before .is-joined .ensures) (c .before .before .if1 .taken) (c .why-tail .ensures)
 
 why-copied-requires : tie.Need-why-copied-requires
-why-copied-requires c κs = (c .before .before .before .before .before .before .before .before .before .before .before .pre .0, (head-of _ _ (c .before .before .before .before .before .before .read-head .ensures) .within, c .before .before .before .before .before .before .before .before .before .before .before .pre .1))
+why-copied-requires c κs = (c .before .before .before .before .before .before .before .before .before .before .pre .0, (head-of _ _ (c .before .before .before .before .before .read-head .ensures) .within, c .before .before .before .before .before .before .before .before .before .before .pre .1))
 
 returns-2 : tie.Need-returns-2
-returns-2 c = why-read _ _ _ (c .before .before .before .before .before .before .before .read-head .ensures) (c .before .before .before .before .before .find-operation-by .ensures) (c .before .before .before .before .shape-of .ensures) _ _ (c .why-copied .ensures)
+returns-2 c = why-read _ _ _ (c .before .before .before .before .before .before .read-head .ensures) (c .before .before .before .before .find-operation-by .ensures) _ _ (c .why-copied .ensures)
 
 pub why-instruction-spec : {M : Type 1} → statement M
 why-instruction-spec =
@@ -45,7 +45,6 @@ why-instruction-spec =
     sub-find-operation-by
     part-find-operation-by-start
     part-find-operation-by-end
-    (λ c κs. search needs)
     (λ c κs. search needs)
     skip-blanks-requires
     is-joined-requires
