@@ -97,6 +97,36 @@ static void assemble_manual(void)
     expect(number == LAGVETTU_OUT_OF_REACH && place == 1 && words[0] == 0x2439, "lagvettu_assemble_manual, out of reach");
 }
 
+static void assemble_branches(void)
+{
+    static const uint8_t table[] = "\1BHS \4\1BLO \5"; /* with the end */
+    const char *script = "A: BHS A\nBRA A\nBLO A";
+    uint32_t addresses[2] = {0};
+    uint16_t words[2] = {0};
+    uint8_t marks[2] = {1, 1};
+    size_t place;
+    uint8_t number = lagvettu_assemble_branches(table, sizeof table, bytes(script), strlen(script), 0, addresses, 2, words, 2, marks, 2, &place);
+    expect(number == LAGVETTU_ACCEPTED && place == 2 && addresses[1] == 4 && words[0] == 0x64FE && words[1] == 0x65FA && marks[0] == 0,
+           "lagvettu_assemble_branches");
+    number = lagvettu_assemble_branches(bytes("\1BHS \20"), 7, bytes(script), strlen(script), 0, addresses, 2, words, 2, marks, 2, &place);
+    expect(number == LAGVETTU_BAD_COMMAND && place == 0 && words[0] == 0x64FE, "lagvettu_assemble_branches, condition 16");
+    number = lagvettu_assemble_branches(bytes("\1bhs \4"), 7, bytes(script), strlen(script), 0, addresses, 2, words, 2, marks, 2, &place);
+    expect(number == LAGVETTU_BAD_BRANCH_NAME && place == 0 && words[0] == 0x64FE, "lagvettu_assemble_branches, lower case");
+    number = lagvettu_assemble_branches(bytes("\1BHS \4"), 6, bytes(script), strlen(script), 0, addresses, 2, words, 2, marks, 2, &place);
+    expect(number == LAGVETTU_BAD_COMMAND && place == 6 && words[0] == 0x64FE, "lagvettu_assemble_branches, no end");
+}
+
+static void explain_branches(void)
+{
+    static const uint8_t table[] = "\1BHS \4\1BLO \5"; /* with the end */
+    uint8_t verdict;
+    size_t place;
+    uint8_t number = lagvettu_explain_branches(table, sizeof table, bytes("A: BHS A"), 8, 0, 1, &verdict, &place);
+    expect(number == LAGVETTU_ACCEPTED && verdict == LAGVETTU_WORD_EMITTED && place == 0, "lagvettu_explain_branches");
+    number = lagvettu_explain_branches(table, sizeof table, bytes("A: BRA A"), 8, 0, 1, &verdict, &place);
+    expect(number == LAGVETTU_ACCEPTED && verdict == LAGVETTU_UNKNOWN_MNEMONIC && place == 0, "lagvettu_explain_branches, not in the table");
+}
+
 static void move_pair(void)
 {
     uint32_t addresses[2] = {2, 4};
@@ -114,6 +144,8 @@ int main(void)
     line_number();
     explain();
     assemble_manual();
+    assemble_branches();
+    explain_branches();
     move_pair();
     return wrong;
 }

@@ -13,8 +13,9 @@
  * An answer is a number: LAGVETTU_ACCEPTED, with the count in *place, or else a refusal of enum lagvettu_refusal, with its
  * place in *place. A refused call changes no slice. *place is written by each call.
  *
- * Paper 01's two calls are in liblagvettu.a, those of paper 02 in liblagvettu02.a, and lagvettu_assemble_manual in
- * liblagvettu_manual.a: -llagvettu, -llagvettu02, -llagvettu_manual, any of them together.
+ * Paper 01's two calls are in liblagvettu.a, those of paper 02 in liblagvettu02.a, lagvettu_assemble_manual in liblagvettu_manual.a,
+ * and the two calls under a branch table in liblagvettu_branches.a: -llagvettu, -llagvettu02, -llagvettu_manual, -llagvettu_branches,
+ * any of them together.
  */
 #ifndef LAGVETTU_H
 #define LAGVETTU_H
@@ -52,7 +53,8 @@ enum lagvettu_refusal {
 
     /* From the manual's own words: both with the line as place, from 1, the first line that has one of them. */
     LAGVETTU_NO_ENCODING = 14,      /* an instruction with no encoding there */
-    LAGVETTU_OUT_OF_REACH = 15      /* one whose only fault is a displacement, of a recorded label or a signed number, out of range */
+    LAGVETTU_OUT_OF_REACH = 15,     /* one whose only fault is a displacement, of a recorded label or a signed number, out of range */
+
     /* From a branch table. */
     LAGVETTU_BAD_COMMAND = 16,      /* a cut, missing or unknown command, a 17th row or a condition over 15; place its offset */
     LAGVETTU_BAD_BRANCH_NAME = 17   /* a name starting with a blank, with a lower-case letter, in an earlier row, or a mnemonic
@@ -192,10 +194,24 @@ uint8_t lagvettu_explain(const uint8_t *source, size_t source_length,
                          size_t *place);
 
 /*
- * The same under a branch table, whose names stand in place of the eleven built-in ones. A table is rows and an end, byte 0: a row is
- * byte 1, a name of four bytes padded with spaces, and its condition, 0 to 15; there are at most 16, and bytes after the end are not
- * read. It is checked whole, 16 and 17, before all else: the first faulty command is the one blamed, with 16 before 17. A table
+ * lagvettu_assemble under a branch table, whose names stand in place of the eleven built-in ones. A table is rows and an end, byte 0: a
+ * row is byte 1, a name of four bytes padded with spaces, and its condition, 0 to 15; there are at most 16, and bytes after the end are
+ * not read. It is checked whole, 16 and 17, before all else: the first faulty command is the one blamed, with 16 before 17. A table
  * without rows is not the same as none: with it no branch emits. The bytes are lent for the call, and nothing of them is kept.
+ *
+ *     "\1BHS \4\1BLO \5" and the end: "A: BHS A\nBRA A\nBLO A" gives the words $64FE and $65FA, at 0 and 4: BRA has no word.
+ *     "\1BHS \20": refused 16 at 0 (condition 16).   "\1bhs \4": refused 17 at 0.   "\1BHS \4" without an end: refused 16 at 6.
+ */
+uint8_t lagvettu_assemble_branches(const uint8_t *names, size_t names_length,
+                                   const uint8_t *source, size_t source_length,
+                                   uint32_t base,
+                                   uint32_t *addresses, size_t addresses_length,
+                                   uint16_t *words, size_t words_length,
+                                   uint8_t *marks, size_t marks_length,
+                                   size_t *place);
+
+/*
+ * lagvettu_explain under a branch table, checked as lagvettu_assemble_branches does.
  *
  *     "\1BHS \4\1BLO \5" and the end: "A: BHS A" line 1 LAGVETTU_WORD_EMITTED, "A: BRA A" line 1 LAGVETTU_UNKNOWN_MNEMONIC.
  */

@@ -5,3 +5,4 @@ mod Operations
 mod Lines
 mod Writing
 pub mod Tabled
+pub mod Called

@@ -3,3 +3,4 @@ pub mod Verdict
 pub mod Operand
 pub mod Form
 pub mod Lines
+pub mod Called

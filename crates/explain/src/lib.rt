@@ -44,6 +44,9 @@ pub enum Explained {
     Refused(u8, usize),
 }
 
+// In the place of a verdict's number where there is none, in the C interface.
+pub const NO_VERDICT: u8 = 255;
+
 // A verdict's number.
 pub fn verdict_number(v: Verdict) -> u8
     ensures { λ r. ⌜ r ≡ verdictNumber v ⌝ }

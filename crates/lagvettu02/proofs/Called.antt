@@ -1,11 +1,10 @@
 -- A call from C passes on what the call below it answered, as numbers. Assumes nothing.
 use Prim.Native.Nat.{ℕ}
 use mathlib.Core.Path.{_≡_, sym, ap, _∙_}
-use mathlib.Core.Bool.{false≢true}
 use mathlib.Core.Option.{Option}
 use Rattle.rules.specs.Text.{Text}
 use Rattle.rules.specs.Number.{Reading}
-use Rattle.rules.specs.Answer.{Answer as Ruled, accepted, refused}
+use Rattle.rules.specs.Answer.{Answer as Ruled}
 use Rattle.answer.specs.declared.Answer.{Answer}
 use Rattle.answer.specs.Answer.{answerNumber, answerPlace}
 use Rattle.answer.proofs.Called.{passed-on}
@@ -19,11 +18,7 @@ use Rattle.numeral.specs.declared.Failure.{Failure}
 use Rattle.directive.specs.declared.LineNumber.{LineNumber}
 use Rattle.directive.specs.declared.LineNumber.the-variants.{Failed}
 use Rattle.directive.specs.Directive.{lineNumberOf}
-use Rattle.requests.specs.Explain.{Verdict as Said}
-use Rattle.explain.specs.declared.Verdict.{Verdict}
-use Rattle.explain.specs.declared.Explained.the-variants as E
-use Rattle.explain.specs.Verdict.{verdictOf, verdictNumber, explainedOf}
-use Rattle.lagvettu02.specs.Called.{Lists, Nears, of-label, of-refusal, failureNumber, saidNumber, saidValue, SaysNumber, Explains, of-line, not-told}
+use Rattle.lagvettu02.specs.Called.{Lists, Nears, of-label, of-refusal, failureNumber, saidNumber, saidValue, SaysNumber}
 
 pub lists : {r : Answer} {n p : ℕ} → n ≡ answerNumber r → p ≡ answerPlace r
     → {base : ℕ} {source : Text} {x y : Rows} → ListSymbolsGives base source x r y → Lists base source x n p y
@@ -40,11 +35,3 @@ says e f = record { number = ap saidNumber (sym f ∙ e); value = ap saidValue (
 
 pub says-failed : {o : Option (Reading ℕ)} {x : LineNumber} {f : Failure} {n : ℕ} → x ≡ lineNumberOf o → x ≡ Failed f → n ≡ failureNumber f → SaysNumber o n 0
 says-failed e f g = rw g (says e f)
-
-pub explains-line : (a : Ruled Said) {v : Verdict} {n : ℕ} → explainedOf a ≡ E.Line v → n ≡ verdictNumber v → Explains a 0 n 0
-explains-line (accepted u) {v} e f = let w : v ≡ verdictOf u = cc in rw (f, w) (of-line u)
-explains-line (refused n p) e f = absurd (false≢true cc)
-
-pub explains-not : (a : Ruled Said) {n p : ℕ} → explainedOf a ≡ E.Refused n p → Explains a n 255 p
-explains-not (accepted u) e = absurd (false≢true cc)
-explains-not (refused m q) {n} {p} e = let u : n ≡ m = cc in let v : p ≡ q = cc in rw (u, v) (not-told m q)

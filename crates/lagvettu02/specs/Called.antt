@@ -7,14 +7,12 @@ use Rattle.rules.specs.Number.{Reading}
 use Rattle.rules.specs.Answer.{Answer, accepted, refused}
 use Rattle.requests.specs.Nearest.{Nearest}
 use Rattle.requests.specs.Symbols.{Rows, symbolsAnswer, symbolsRows}
-use Rattle.requests.specs.Explain.{Verdict}
 use Rattle.answer.specs.Called.{Answers}
 use Rattle.numeral.specs.declared.Failure.{Failure}
 use Rattle.numeral.specs.declared.Failure.the-variants.{NoDigits, BadDigit, OutOfRange}
 use Rattle.directive.specs.declared.LineNumber.{LineNumber}
 use Rattle.directive.specs.declared.LineNumber.the-variants.{Value, Failed, Nothing}
 use Rattle.directive.specs.Directive.{lineNumberOf}
-use Rattle.explain.specs.Verdict.{verdictOf, verdictNumber}
 
 -- the contract of `lagvettu_nearest`: what it returns, and what it leaves in the numbers that the caller lends
 pub data Nears : Answer Nearest → ℕ → ℕ → ℕ → ℕ → ℕ → Type 0 where
@@ -47,8 +45,3 @@ saidValue Nothing = 0
 pub record SaysNumber (o : Option (Reading ℕ)) (n v : ℕ) : Type 0 where
   pub number : n ≡ saidNumber (lineNumberOf o)
   pub value : v ≡ saidValue (lineNumberOf o)
-
--- the contract of `lagvettu_explain`: 255 is no verdict's number
-pub data Explains : Answer Verdict → ℕ → ℕ → ℕ → Type 0 where
-  of-line : (v : Verdict) → Explains (accepted v) 0 (verdictNumber (verdictOf v)) 0
-  not-told : (n p : ℕ) → Explains (refused n p) n 255 p

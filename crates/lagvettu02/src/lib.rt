@@ -9,8 +9,8 @@ ghost use Rattle.rules.specs.Directive.{lineReading};
 ghost use Rattle.requests.specs.Nearest.{nearest};
 ghost use Rattle.requests.specs.Symbols.{rows};
 ghost use Rattle.requests.specs.Explain.{explain};
-ghost use Rattle.requests.specs.Branches.{explainUnder};
-ghost use Rattle.lagvettu02.specs.Called.{Nears, Lists, failureNumber, SaysNumber, Explains};
+ghost use Rattle.explain.specs.Called.{Explains};
+ghost use Rattle.lagvettu02.specs.Called.{Nears, Lists, failureNumber, SaysNumber};
 
 // Names the label that an address is near, in a source at a base: its start and length in the source, where it was recorded
 // last, and the distance from it; or refuses. The numbers that an answer does not have are 0.
@@ -96,9 +96,6 @@ pub extern "C" fn lagvettu_line_number(line: &[u8], value: &mut u32) -> u8
     }
 }
 
-// In the place of a verdict where there is none.
-const NO_VERDICT: u8 = 255;
-
 // Why a line, from 1, of a source at a base has no word: its verdict's number, or a refusal.
 #[no_mangle]
 pub extern "C" fn lagvettu_explain(
@@ -117,33 +114,7 @@ pub extern "C" fn lagvettu_explain(
             0
         }
         Explained::Refused(n, p) => {
-            *verdict = NO_VERDICT;
-            *place = p;
-            n
-        }
-    }
-}
-
-// The same under a branch table, which is refused before all else.
-#[no_mangle]
-pub extern "C" fn lagvettu_explain_branches(
-    names: &[u8],
-    source: &[u8],
-    base: u32,
-    line: usize,
-    verdict: &mut u8,
-    place: &mut usize,
-) -> u8
-    ensures { λ r. ⌜ Explains (explainUnder (now (names .entry)) base (now (source .entry)) line) r (now (verdict .exit)) (now (place .exit)) ⌝ }
-{
-    match explain::explain_branches(names, source, base, line) {
-        Explained::Line(v) => {
-            *verdict = explain::verdict_number(v);
-            *place = 0;
-            0
-        }
-        Explained::Refused(n, p) => {
-            *verdict = NO_VERDICT;
+            *verdict = explain::NO_VERDICT;
             *place = p;
             n
         }

@@ -1,7 +1,7 @@
 -- `lagvettu_explain` meets its contract: it passes on the verdict's number, or the refusal's. Assumes nothing.
 use mathlib.Core.Path.{sym, _∙_}
 use borrow.Author.Needs.{needs}
-use Rattle.lagvettu02.proofs.Called.{explains-line, explains-not}
+use Rattle.explain.proofs.Called.{explains-line, explains-not}
 use Rattle.lagvettu02.proofs.lagvettu_explain.Statement.{statement}
 use Rattle.lagvettu02.proofs.lagvettu_explain.Tie as tie
 

@@ -1,9 +1,9 @@
 -- `lagvettu_explain_branches` meets its contract: it passes on the verdict's number, or the refusal's. Assumes nothing.
 use mathlib.Core.Path.{sym, _∙_}
 use borrow.Author.Needs.{needs}
-use Rattle.lagvettu02.proofs.Called.{explains-line, explains-not}
-use Rattle.lagvettu02.proofs.lagvettu_explain_branches.Statement.{statement}
-use Rattle.lagvettu02.proofs.lagvettu_explain_branches.Tie as tie
+use Rattle.explain.proofs.Called.{explains-line, explains-not}
+use Rattle.lagvettu_branches.proofs.lagvettu_explain_branches.Statement.{statement}
+use Rattle.lagvettu_branches.proofs.lagvettu_explain_branches.Tie as tie
 
 returns : tie.Need-returns
 returns c = explains-line _ (sym (c .before .before .before .before .explain-branches .ensures) ∙ c .before .before .v .given .1) (c .verdict-number .ensures)
