@@ -13,7 +13,7 @@ use Rattle.rules.specs.Assemble.{Place, Slices, passAt, encoded, assembleBy, as
 use Rattle.rules.specs.Tally.{held}
 use Rattle.requests.specs.Explain.{explainAllBy, explainBy}
 use Rattle.requests.specs.Branches.{loaded, namesWith, under, assembleUnder, assembleUnderAnswer, assembleUnderSlices}
-use Rattle.promises.specs.Stages.{Stage, all, OneOf, here, there, Ahead, ahead, behind, Checked, at-once, after, CheckedBefore, by-stage, by-line, on-line, further-on, FirstOf, RefusesExactly}
+use Rattle.promises.specs.Stages.{Stage, all, OneOf, Checked, at-once, CheckedBefore, by-stage, by-line, on-line, further-on, FirstOf, RefusesExactly}
 use Rattle.promises.specs.Demand1.{PassCondition, passing, assembling, SamePast}
 use Rattle.promises.specs.Lawful.{RulesAreLawful, RulesAreShort}
 use Rattle.promises.specs.Demand3.{Demand3For, WordsDifferFor, LawfulMoves, ShortWordsDiffer}
@@ -22,7 +22,7 @@ use Rattle.promises.specs.Explain.{ExplainCondition, no-line, never-read
 use Rattle.promises.specs.Branches.{TableCondition, loading, Accepted, LoadRefusesExactly, LoadAcceptsExactly, FrontOfATable}
 use Rattle.promises.specs.BranchCalls.{UnderCondition, of-table, of-call, ListCondition, of-pass, slice-short, AssembleUnderRefusesExactly, ListsUnder, AssembleUnderWrites, TablesMove, ExplainUnderRefusesExactly, ExplainsUnder, ExplainsAllUnder, ElevenAsWithout, FrontIsEnough}
 use Rattle.promises.proofs.Compared.{clash}
-use Rattle.promises.proofs.Stages.{isChecked, not-checked, checked-by, still-checked, Apart, apart, are-apart, Runs, done, refuse-if, and-then, runs-by, refuses-exactly, none-holds}
+use Rattle.promises.proofs.Stages.{isChecked, not-checked, checked-by, ahead-is, behind-checked, still-checked, Apart, apart, are-apart, Runs, done, refuse-if, and-then, runs-by, refuses-exactly, none-holds}
 use Rattle.promises.proofs.Demand1Short.{shorter, is-short}
 use Rattle.promises.proofs.Demand1Assemble.{pass-known, pass-answered}
 use Rattle.promises.proofs.Demand1.{written}
@@ -47,21 +47,6 @@ under-then {A} {B} t call f = go (loaded t)
     go : (x : Answer (List Mnemonic)) → andThen (andThen x (λ ns. call (namesWith ns))) f ≡ andThen x (λ ns. andThen (call (namesWith ns)) f)
     go (accepted ns) = refl
     go (refused n p) = refl
-
--- what is checked after something is checked
-ahead-one : {m n : ℕ} {ns : List ℕ} → Ahead m n ns → OneOf m ns
-ahead-one (ahead e i) = here e
-ahead-one (behind a) = there (ahead-one a)
-
-behind-ahead : {m n : ℕ} {ns : List ℕ} → Ahead m n ns → OneOf n ns
-behind-ahead (ahead e i) = there i
-behind-ahead (behind a) = there (behind-ahead a)
-
-behind-checked : {m q n p : ℕ} {ss : List Stage} → CheckedBefore m q n p ss → Checked n ss
-behind-checked (by-stage i c) = after c
-behind-checked (by-line i j h) = at-once j
-behind-checked (on-line a e) = at-once (behind-ahead a)
-behind-checked (further-on b) = after (behind-checked b)
 
 -- a call that refuses exactly by its conditions does so under a table too, whose numbers are no others' and come first
 module _ (t : Text) (C : ℕ → ℕ → Type 0) (ss : List Stage) (d : Apart (loading ++ ss)) (known : (n p : ℕ) → C n p → Checked n ss) where
@@ -88,7 +73,7 @@ module _ (t : Text) (C : ℕ → ℕ → Type 0) (ss : List Stage) (d : Apart (l
       go : (m q : ℕ) → CheckedBefore m q n p (loading ++ ss) → ¬ U m q
       go m q (by-stage i k) c = d .0 n own k
       go m q (by-line i j l) c = earlier m q i (by-line i j l) c
-      go m q (on-line a e) c = earlier m q (ahead-one a) (on-line a e) c
+      go m q (on-line a e) c = earlier m q (ahead-is a) (on-line a e) c
       go m q (further-on b) c = d .0 n own (behind-checked b)
 
   module _ {A : Type 0} (call : List Mnemonic → Answer A) (exactly : (ns : List Mnemonic) → loaded t ≡ accepted ns → RefusesExactly ss C (call (namesWith ns))) where
@@ -117,7 +102,7 @@ module _ (t : Text) (C : ℕ → ℕ → Type 0) (ss : List Stage) (d : Apart (l
         later : (ns : List Mnemonic) → loaded t ≡ accepted ns → FirstOf ss C n p → (m q : ℕ) → CheckedBefore m q n p (loading ++ ss) → ¬ C m q
         later ns f h m q (by-stage i k) c = d .0 m i (known m q c)
         later ns f h m q (by-line i j l) c = d .0 m i (known m q c)
-        later ns f h m q (on-line b e) c = d .0 m (ahead-one b) (known m q c)
+        later ns f h m q (on-line b e) c = d .0 m (ahead-is b) (known m q c)
         later ns f h m q (further-on b) c = h .1 m q b c
 
         go : (x : Answer (List Mnemonic)) → loaded t ≡ x → (andThen x (λ ns. call (namesWith ns)) ≡ refused n p) ↔ FirstOf (loading ++ ss) U n p

@@ -84,4 +84,5 @@ pub mod Branches
 pub mod BranchFront
 pub mod BranchEleven
 pub mod BranchCalls
+pub mod BranchLands
 pub mod BranchCases

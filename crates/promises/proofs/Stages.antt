@@ -130,7 +130,7 @@ placed {m} {n} (there {k} {ns} i) (there j) = go (placed i j)
     go (before a) = before (behind a)
     go (behind-it a) = behind-it (behind a)
 
-ahead-is : {m n : ℕ} {ns : List ℕ} → Ahead m n ns → OneOf m ns
+pub ahead-is : {m n : ℕ} {ns : List ℕ} → Ahead m n ns → OneOf m ns
 ahead-is (ahead e i) = here e
 ahead-is (behind a) = there (ahead-is a)
 
@@ -139,7 +139,7 @@ ahead-of (ahead e i) = there i
 ahead-of (behind a) = there (ahead-of a)
 
 -- what is checked after something is checked
-behind-checked : {m q n p : ℕ} {ss : List Stage} → CheckedBefore m q n p ss → Checked n ss
+pub behind-checked : {m q n p : ℕ} {ss : List Stage} → CheckedBefore m q n p ss → Checked n ss
 behind-checked (by-stage i c) = after c
 behind-checked (by-line i j h) = at-once j
 behind-checked (on-line a e) = at-once (ahead-of a)

@@ -1,22 +1,25 @@
 -- W-210: 01's assembling call and W-205's, lent a table: their refusals, what they write and say, that the eleven change nothing, and that
--- demand 3 holds under every accepted table. Assumes nothing.
+-- demand 3 and W-209 hold under every accepted table. Assumes nothing.
 use Prim.Native.Nat.{ℕ}
 use mathlib.Core.Path.{_≡_}
 use mathlib.Core.Logic.{_↔_}
-use mathlib.Core.List.{List, _++_}
+use mathlib.Core.List.{List, _∷_, _++_}
 use lib.ListN.{length, take}
+use lib.IntN.{ℤ}
 use Rattle.rules.specs.Text.{Text}
-use Rattle.rules.specs.Line.{size}
-use Rattle.rules.specs.Encode.{Mnemonic, branches, otherMnemonics, encodeBy}
+use Rattle.rules.specs.Line.{Instruction, size}
+use Rattle.rules.specs.Encode.{branch, Mnemonic, mnemonic, branches, otherMnemonics, encodeBy}
 use Rattle.rules.specs.Answer.{accepted, refused}
 use Rattle.rules.specs.Assemble.{Place, Slices, encoded, assembleBy, assemble, assembleAnswer, assembleSlices}
 use Rattle.rules.specs.Tally.{held}
+use Rattle.manual.specs.Manual.{InByte}
 use Rattle.requests.specs.Explain.{Verdict, explainAll, explain, explainAllBy}
 use Rattle.requests.specs.Branches.{assembleUnder, assembleUnderAnswer, assembleUnderSlices, explainAllUnder, explainUnder}
 use Rattle.promises.specs.Stages.{RefusesExactly}
 use Rattle.promises.specs.Demand1.{PassCondition, passing, assembling, Shorter, SamePast}
 use Rattle.promises.specs.Demand3.{Demand3For, WordsDifferFor}
 use Rattle.promises.specs.Nearest.{In}
+use Rattle.promises.specs.Lands.{ByByte, LandFor}
 use Rattle.promises.specs.Explain.{ExplainCondition, explaining, Explained}
 use Rattle.promises.specs.Branches.{TableCondition, loading, Accepted}
 
@@ -64,6 +67,17 @@ pub record MovesUnder (t : Text) (ns : List Mnemonic) : Type 0 where
 
 unfoldable pub TablesMove : Type 0
 TablesMove = (t : Text) (ns : List Mnemonic) → Accepted t ns → MovesUnder t ns
+
+-- W-209 under a table: the instruction i has the name of a row, its first operand is o, and d is "within −128 to 127"
+pub record OfTable (ns : List Mnemonic) (i : Instruction) (o : Text) (d : ℤ) : Type 0 where
+  pub condition : ℕ
+  pub row : In (mnemonic (i .mnemonic) (branch condition)) ns
+  pub others : List Text
+  pub operands : i .operands ≡ o ∷ others
+  pub near : InByte d
+
+unfoldable pub BranchesLandUnder : Type 0
+BranchesLandUnder = (t : Text) (ns : List Mnemonic) → Accepted t ns → LandFor size (encodeBy (otherMnemonics ++ ns)) (assembleUnder t) (OfTable ns) ByByte
 
 -- ---- W-205's
 -- refusals 16 and 17 come before 1 to 6 and 13
