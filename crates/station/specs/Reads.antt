@@ -17,6 +17,10 @@ atStart = record { total = 0; more = true; failed = false }
 abbrev pub failedAt : ℕ → Input
 failedAt n = record { total = n; more = false; failed = true }
 
+-- before the first read of a script, behind a branch table
+unfoldable pub startAfter : Input → Input
+startAfter table = cond (table .failed) (failedAt 0) atStart
+
 -- after a read that answered 0, so many bytes, or a failure
 unfoldable pub afterRead : ℤ → Input → Input
 afterRead (pos zero) i = record { total = i .total; more = false; failed = i .failed }

@@ -1,13 +1,13 @@
 -- The texts that the programs at the station print: `asmlist` for a script, `movelist` for a text and a distance. Assumes nothing.
-use Prim.Native.Nat.{ℕ, _^_}
-use mathlib.Core.Bool.{Bool, cond}
+use Prim.Native.Nat.{ℕ, _-_, _^_}
+use mathlib.Core.Bool.{Bool, true, false, _&&_, cond}
 use mathlib.Core.Option.{Option·getD}
 use mathlib.Core.List.{List, [], _∷_, _++_, map}
 use lib.IntN.{ℤ}
 use lib.Dec.{eqb, ltb}
-use lib.ListN.{take}
+use lib.ListN.{length, take}
 use Rattle.rules.specs.Limits.{maxSource}
-use Rattle.rules.specs.Text.{Text, bytes}
+use Rattle.rules.specs.Text.{Text, bytes, same}
 use Rattle.rules.specs.Number.{Reading, unsignedReading, signed, hexTail}
 use Rattle.rules.specs.Answer.{Answer as Ruled, accepted, refused}
 use Rattle.rules.specs.Assemble.{Place, Slices, slices, assemble}
@@ -24,6 +24,7 @@ use Rattle.listing.specs.declared.distance.Distance.the-variants.{Bad as NoDist
 use Rattle.listing.specs.declared.reading.Parsed.{Parsed}
 use Rattle.listing.specs.declared.reading.Parsed.the-variants.{Count, Bad}
 use Rattle.station.specs.declared.input.Input.{Input}
+use Rattle.station.specs.declared.arguments.Given.{Given}
 
 -- "a line per word" of the list that the slices hold; "a refusal prints the one line"
 unfoldable pub answerText : Answer → Slices → Text
@@ -80,6 +81,11 @@ unfoldable pub failureText : Text → Input → Bool → Text
 failureText name i written =
     cond (i .failed) (take 32 name ++ bytes ": the input cannot be read to its end\n") (cond written [] (take 32 name ++ bytes ": the output is not whole\n"))
 
+-- one that may read a branch table before its input
+unfoldable pub tabledFailureText : Text → Input → Input → Bool → Text
+tabledFailureText name table i written =
+    cond (table .failed) (take 32 name ++ bytes ": the branch table cannot be read to its end\n") (failureText name i written)
+
 -- ---- arguments
 
 -- the distance, if there is just one argument besides the program's name, and it is a number of 32 bits with an optional sign
@@ -89,3 +95,12 @@ givenDistance count t = cond (eqb count 2) (distanceOf (signed 10 (2 ^ 31) t)) N
 -- a number of 32 bits in hexadecimal, with or without a prefix
 unfoldable pub hexadecimalIn : Text → Reading ℕ
 hexadecimalIn t = unsignedReading 16 (2 ^ 32) (Option·getD (hexTail t) t)
+
+-- `-b FILE` before the other arguments lends a branch table (W-210): the program's name, these two, and the file's name is not empty
+unfoldable pub lendsTable : ℕ → Text → Text → Bool
+lendsTable count option file = ltb 2 count && (ltb 0 (length file) && same option (bytes "-b"))
+
+-- the other arguments, as if these two were not there
+unfoldable pub givenTable : ℕ → Text → Text → Given
+givenTable count option file =
+    cond (lendsTable count option file) (record { lent = true; count = count - 2; first = 3; second = 4 }) (record { lent = false; count = count; first = 1; second = 2 })

@@ -2,7 +2,7 @@
 ghost use mathlib.Core.List.{_++_};
 ghost use Prim.Native.Nat.{_≤_};
 ghost use lib.ListN.{length, take};
-ghost use Rattle.station.specs.Station.{failureText};
+ghost use Rattle.station.specs.Station.{failureText, tabledFailureText};
 ghost use Rattle.station.specs.Printed.{Printed};
 use crate::input::Input;
 use crate::lesser;
@@ -36,4 +36,20 @@ pub fn failure_text(name: &[u8], input: Input, written: bool, out: &mut [u8; SAI
         return write_said(name, b": the output is not whole\n", out);
     }
     0
+}
+
+// The same of a program that may read a branch table before its input.
+pub fn tabled_failure_text(
+    name: &[u8],
+    table: Input,
+    input: Input,
+    written: bool,
+    out: &mut [u8; SAID],
+) -> usize
+    ensures { λ r. ⌜ Printed (tabledFailureText (now (name .entry)) table input written) r (now (out .entry)) (now (out .exit)) ⌝ }
+{
+    if table.failed {
+        return write_said(name, b": the branch table cannot be read to its end\n", out);
+    }
+    failure_text(name, input, written, out)
 }

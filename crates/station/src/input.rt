@@ -2,9 +2,10 @@
 ghost use mathlib.Core.Path.{_≡_};
 ghost use mathlib.Core.Bool.{true};
 ghost use Prim.Native.Nat.{_<_};
-ghost use Rattle.station.specs.Reads.{atStart, afterRead, left, kept};
+ghost use Rattle.station.specs.Reads.{atStart, startAfter, afterRead, left, kept};
 use crate::LIST;
 use crate::SCRIPT;
+use crate::TABLE;
 use crate::lesser;
 use listing::writing::write_bytes;
 
@@ -26,6 +27,20 @@ pub fn start() -> Input
         more: true,
         failed: false,
     }
+}
+
+// Before the first read of a script, behind a branch table: where that could not be read nothing more is.
+pub fn start_after(table: Input) -> Input
+    ensures { λ r. ⌜ r ≡ startAfter table ⌝ }
+{
+    if table.failed {
+        return Input {
+            total: 0,
+            more: false,
+            failed: true,
+        };
+    }
+    start()
 }
 
 // After a read that answered `got`: so many bytes, 0 at the input's end, or a failure. A loop of reads ends, since less is left.
@@ -81,4 +96,11 @@ pub fn keep_list(list: &mut [u8; LIST], total: usize, chunk: &[u8])
     ensures { λ _. ⌜ now (list .exit) ≡ kept total (now (chunk .entry)) (now (list .entry)) ⌝ }
 {
     keep(list, total, chunk);
+}
+
+// Keeps a chunk of a branch table.
+pub fn keep_table(table: &mut [u8; TABLE], total: usize, chunk: &[u8])
+    ensures { λ _. ⌜ now (table .exit) ≡ kept total (now (chunk .entry)) (now (table .entry)) ⌝ }
+{
+    keep(table, total, chunk);
 }

@@ -37,6 +37,9 @@ pub const SCRIPT: usize = MAX_SOURCE;
 // As much of a list's text as has to be kept: a byte more than the longest has, so that a line too many is seen.
 pub const LIST: usize = TEXT + 1;
 
+// As much of a branch table as has to be kept: 16 rows of six bytes, and the byte that ends them (W-210).
+pub const TABLE: usize = 97;
+
 // The lesser of two numbers.
 fn lesser(a: usize, b: usize) -> usize
     ensures { λ r. ⌜ r ≡ min a b ⌝ }
