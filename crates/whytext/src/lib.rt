@@ -9,7 +9,7 @@ ghost use Rattle.station.specs.Station.{unlessFailed, inputText};
 ghost use Rattle.station.specs.Printed.{Printed};
 ghost use Rattle.station.specs.Reads.{Reads};
 ghost use Rattle.whytext.specs.WhyLine.{lineText, rowText, linesText, whyText, askedAt, askedBy};
-ghost use Rattle.whytext.specs.Numbers.{numberText, numbersText};
+ghost use Rattle.whytext.specs.Numbers.{numberText, numbersText, explainedText, countedText, CountFits};
 use answer::Answer;
 use explain::Explained;
 use explain::explain_line;
@@ -104,14 +104,22 @@ fn write_verdict(number: u8, at: usize, out: &mut [u8]) -> usize
     }
 }
 
+// Puts the line of an answer on a line, its verdict's or that of a refusal, at the front, and answers its length.
+pub fn write_explained(explained: Explained, out: &mut [u8; TEXT]) -> usize
+    ensures { λ r. ⌜ Printed (explainedText explained) r (now (out .entry)) (now (out .exit)) ⌝ }
+{
+    match explained {
+        Explained::Line(v) => write_verdict(verdict_number(v), 0, out),
+        Explained::Refused(number, place) => write_refused(number, place, out),
+    }
+}
+
 // Puts the verdict's line on a line of a source, from 1, or that of a refusal, at the front, and answers its length.
 pub fn write_line_verdict(source: &[u8], base: u32, line: usize, out: &mut [u8; TEXT]) -> usize
     ensures { λ r. ⌜ Printed (lineText base line (now (source .entry))) r (now (out .entry)) (now (out .exit)) ⌝ }
 {
-    match explain_line(source, base, line) {
-        Explained::Line(v) => write_verdict(verdict_number(v), 0, out),
-        Explained::Refused(number, place) => write_refused(number, place, out),
-    }
+    let explained = explain_line(source, base, line);
+    write_explained(explained, out)
 }
 
 // ---- Every line that is read.
@@ -140,15 +148,25 @@ fn write_rows(verdicts: &[u8], count: usize, out: &mut [u8; TEXT]) -> usize
     at
 }
 
+// Puts the text of an answer on all lines, the rows of as many verdicts or the line of a refusal, at the front, and answers its
+// length.
+pub fn write_counted(answer: Answer, verdicts: &[u8], out: &mut [u8; TEXT]) -> usize
+    requires { ⌜ CountFits answer (now verdicts) ⌝ }
+    ensures { λ r. ⌜ Printed (countedText answer (now (verdicts .entry))) r (now (out .entry)) (now (out .exit)) ⌝ }
+{
+    match answer {
+        Answer::Accepted(count) => write_rows(verdicts, count, out),
+        Answer::Refused(number, place) => write_refused(number, place, out),
+    }
+}
+
 // Puts the rows of every line of a source that is read, or the line of a refusal, at the front, and answers their length.
 pub fn write_line_verdicts(source: &[u8], base: u32, out: &mut [u8; TEXT]) -> usize
     ensures { λ r. ⌜ Printed (linesText base (now (source .entry))) r (now (out .entry)) (now (out .exit)) ⌝ }
 {
     let mut verdicts = [0u8; MAX_LINES];
-    match explain_lines(source, base, &mut verdicts) {
-        Answer::Accepted(count) => write_rows(&verdicts, count, out),
-        Answer::Refused(number, place) => write_refused(number, place, out),
-    }
+    let answer = explain_lines(source, base, &mut verdicts);
+    write_counted(answer, &verdicts, out)
 }
 
 // ---- A script.
