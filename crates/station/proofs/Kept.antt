@@ -2,7 +2,7 @@
 use Prim.Native.Nat.{ℕ, zero, suc, _+_, _-_, _^_, _<_, _≤_, min}
 use mathlib.Core.Path.{_≡_, refl, sym, ap, _∙_}
 use mathlib.Core.Bool.{Bool, true, false}
-use mathlib.Core.List.{List, _++_, append-nil}
+use mathlib.Core.List.{List, [], _++_, append-nil}
 use native.Mathlib.Omega.{arith}
 use lib.IntN.{pos}
 use lib.Dec.{leb}
@@ -11,7 +11,7 @@ use lib.Seq.{take-nil, take-all, take-at, take-append-le, take-append-add, lengt
 use borrow.Author.Tests.{leb-true, leb-false, lt-ltb}
 use Rattle.rules.specs.Text.{Text}
 use Rattle.text.specs.Spans.{overFrom}
-use Rattle.text.proofs.Over.{put-nil, length-put}
+use Rattle.text.proofs.Over.{put-both, put-nil, length-put}
 use Rattle.station.specs.Reads.{afterRead, kept, Reads, ReadsOn}
 use Rattle.station.specs.declared.input.Input.{Input}
 
@@ -56,6 +56,29 @@ length-kept n c buffer = go (leb n (length buffer)) refl
     go : (y : Bool) → leb n (length buffer) ≡ y → length (overFrom n (take (length buffer - n) c) buffer) ≡ length buffer
     go true p = length-put n (take (length buffer - n) c) buffer (omega (arith, leb-true n (length buffer) p, length-take (length buffer - n) c))
     go false p = ap length (kept-full n c buffer (omega (arith, leb-false n (length buffer) p)))
+
+-- two chunks one after the other are kept as the two together
+pub kept-on : (t c : Text) (x : List ℕ) → kept (length t) c (kept 0 t x) ≡ kept 0 (t ++ c) x
+unfolding kept
+kept-on t c x = go (leb (length t) (length x)) refl
+  where
+    go : (y : Bool) → leb (length t) (length x) ≡ y → kept (length t) c (kept 0 t x) ≡ kept 0 (t ++ c) x
+    go true p =
+        let fits = leb-true (length t) (length x) p in
+        let room : length x - 0 ≡ length t + (length x - length t) = omega (arith, fits) in
+        let rest : take (length x - 0) (t ++ c) ≡ t ++ take (length x - length t) c = ap (λ (m : ℕ). take m (t ++ c)) room ∙ take-append-add t c (length x - length t) in
+        ap (λ (m : ℕ). overFrom (length t) (take (m - length t) c) (kept 0 t x)) (length-kept 0 t x)
+        ∙ ap (λ (s : Text). overFrom (length t) (take (length x - length t) c) (overFrom 0 s x)) (take-all (length x - 0) t (omega (arith, fits)))
+        ∙ sym (put-both 0 (length t) t x (omega arith) (omega arith) (take (length x - length t) c))
+        ∙ sym (ap (λ (s : Text). overFrom 0 s x) rest)
+    go false p =
+        let less = leb-false (length t) (length x) p in
+        kept-full (length t) c (kept 0 t x) (omega (arith, less, length-kept 0 t x))
+        ∙ sym (ap (λ (s : Text). overFrom 0 s x) (take-append-le (length x - 0) t c (omega (arith, less))))
+
+pub kept-nil : (n : ℕ) (x : List ℕ) → kept n [] x ≡ x
+unfolding kept
+kept-nil n x = rw (take-nil (length x - n)) (put-nil n x)
 
 -- the front before, t, and the chunk after it
 module _ (t c : Text) (buffer : List ℕ) (f : take (length buffer) t ≡ take (length t) buffer) where

@@ -1,0 +1,2 @@
+pub mod TableInput
+pub mod Under
