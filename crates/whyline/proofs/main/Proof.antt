@@ -5,10 +5,10 @@ use Rattle.whyline.proofs.main.Statement.{statement}
 use Rattle.whyline.proofs.main.Tie as tie
 
 abbrev Inv-loop : tie.InvT-loop
-Inv-loop line-size base-size lines script₀ input₀ t19 script input = Unit {0}
+Inv-loop option-size file-size given line-size base-size lines table branches script₀ input₀ t script input = Unit {0}
 
 abbrev μ-loop : tie.MeasureT-loop
-μ-loop line-size base-size lines script₀ input₀ t19 script input = left input
+μ-loop option-size file-size given line-size base-size lines table branches script₀ input₀ t script input = left input
 
 loop-less : tie.Need-loop-less Inv-loop μ-loop
 loop-less c = c .after-read .ensures .1 (c .before .before .before .before .before .before .before .before .before .before .loop-test .taken)
@@ -31,11 +31,25 @@ main-spec =
     (λ c. search needs)
     (λ c. search needs)
     (λ c κs. search needs)
+    (λ c κs. search needs)
+    (λ c κs. search needs)
+    (λ c. search needs)
+    (λ c κs. search needs)
+    (λ c. search needs)
+    (λ c κs. search needs)
+    (λ c. search needs)
     (λ c. search needs)
     (λ c. search needs)
     (λ c. search needs)
     (λ c κs. search needs)
     (λ c. search needs)
+    (λ c. search needs)
+    (λ c. search needs)
+    (λ c κs. search needs)
+    (λ c. search needs)
+    (λ c. search needs)
+    (λ c. search needs)
+    (λ c κs. search needs)
     (λ c κs. search needs)
     (λ c. search needs)
     (λ c κs. search needs)
