@@ -4,6 +4,7 @@ use mathlib.Core.Path.{_≡_}
 use mathlib.Core.Bool.{Bool, true, _&&_, cond}
 use mathlib.Core.List.{[], _∷_, _++_}
 use lib.Dec.{eqb, leb}
+use lib.ListN.{take, drop}
 use Rattle.rules.specs.Text.{Text, bytes}
 use Rattle.rules.specs.Answer.{Answer, accepted, refused}
 use Rattle.rules.specs.Directive.{lineReading}
@@ -17,6 +18,7 @@ use Rattle.listing.specs.Listing.{decimal, refusedText}
 use Rattle.symtext.specs.Symlist.{symbolsText}
 use Rattle.whytext.specs.WhyLine.{lineText}
 use Rattle.mantext.specs.Manlist.{manualText}
+use Rattle.branchtext.specs.BranchText.{listUnderText, linesUnderText}
 
 -- ---- texts
 
@@ -50,18 +52,22 @@ saidText (Failed x) = failureText x
 saidText Nothing = bytes "no number\n"
 
 -- 2 is W-201, x its base and y its address; 3 is W-202, x its base, as `symlist` prints it; 4 is W-204, s a line; 5 is W-205, x its base
--- and y its line, as `whyline` prints it; 6 is W-207, x its base, as `manlist` prints it; a call that is not known has no text
+-- and y its line, as `whyline` prints it; 6 is W-207, x its base, as `manlist` prints it; 7 and 8 are W-210, x the base and y how many bytes of s are a
+-- branch table, behind which the source stands: the list as `asmlist` prints it, and the verdict on every line as `whyline` does; a call that is
+-- not known has no text
 unfoldable pub callText : ℕ → ℕ → ℕ → Text → Text
 callText call x y s =
     cond (eqb call 2) (answeredText nearestText (nearest x s y))
     (cond (eqb call 3) (symbolsText x s)
     (cond (eqb call 4) (saidText (lineNumberOf (lineReading s)))
     (cond (eqb call 5) (lineText x y s)
-    (cond (eqb call 6) (manualText x s) []))))
+    (cond (eqb call 6) (manualText x s)
+    (cond (eqb call 7) (listUnderText (take y s) x (drop y s))
+    (cond (eqb call 8) (linesUnderText (take y s) x (drop y s)) []))))))
 
 -- the calls' numbers go on from the assembler's, which is 1, to the last one's
 abbrev lastCall : ℕ
-lastCall = 6
+lastCall = 8
 
 unfoldable pub isCall : ℕ → Bool
 isCall call = leb 2 call && leb call lastCall

@@ -1,4 +1,6 @@
 // Paper 02's calls by the numbers that they have in records, each answered as a text, and a recorded text compared with it.
+use branchtext::write_lines_under;
+use branchtext::write_list_under;
 use directive::LineNumber;
 use directive::line_number;
 use listing::writing::write_bytes;
@@ -14,14 +16,15 @@ use whytext::write_line_verdict;
 ghost use mathlib.Core.Path.{_≡_};
 ghost use mathlib.Core.Bool.{true};
 ghost use mathlib.Core.Logic.{_↔_};
-ghost use Prim.Native.Nat.{_+_, _≤_};
-ghost use lib.ListN.{length as len};
+ghost use Prim.Native.Nat.{_+_, _≤_, min};
+ghost use lib.ListN.{length as len, take, drop};
 ghost use Rattle.rules.specs.Text.{same};
 ghost use Rattle.text.specs.Spans.{overFrom};
 ghost use Rattle.station.specs.Printed.{Printed};
 ghost use Rattle.rules.specs.Directive.{lineReading};
 ghost use Rattle.directive.specs.Directive.{lineNumberOf};
 ghost use Rattle.requests.specs.Nearest.{nearest};
+ghost use Rattle.branchtext.specs.BranchText.{listUnderText, linesUnderText};
 ghost use Rattle.calls.specs.Calls.{numberText, answeredText, nearestText, readText, failureText, saidText, callText, isCall, CallAgrees};
 
 // The bytes of the longest text there is, a list's.
@@ -30,7 +33,7 @@ pub const ROOM: usize = station::TEXT;
 // The calls' numbers go on from the assembler's, which is 1.
 const FIRST: u8 = 2;
 
-const LAST: u8 = 6;
+const LAST: u8 = 8;
 
 // ---- Texts.
 
@@ -104,6 +107,30 @@ fn line_number_text(line: &[u8], out: &mut [u8; ROOM]) -> usize
     }
 }
 
+// How many bytes of a source that starts with a branch table are the table's, where so many are said to be.
+fn table_size(said: u32, source: &[u8]) -> usize
+    ensures { λ r. ⌜ r ≡ min (len (now (source .entry))) said ⌝ }
+{
+    let n = said as usize;
+    if source.len() < n { source.len() } else { n }
+}
+
+// Puts the list under the table that a source starts with at the front (W-210), and answers the text's length.
+fn list_under_text(source: &[u8], base: u32, said: u32, out: &mut [u8; ROOM]) -> usize
+    ensures { λ r. ⌜ Printed (listUnderText (take said (now (source .entry))) base (drop said (now (source .entry)))) r (now (out .entry)) (now (out .exit)) ⌝ }
+{
+    let n = table_size(said, source);
+    write_list_under(&source[..n], &source[n..], base, out)
+}
+
+// Puts the verdicts under the table that a source starts with at the front (W-210), and answers the text's length.
+fn lines_under_text(source: &[u8], base: u32, said: u32, out: &mut [u8; ROOM]) -> usize
+    ensures { λ r. ⌜ Printed (linesUnderText (take said (now (source .entry))) base (drop said (now (source .entry)))) r (now (out .entry)) (now (out .exit)) ⌝ }
+{
+    let n = table_size(said, source);
+    write_lines_under(&source[..n], &source[n..], base, out)
+}
+
 // Puts the text of a call at the front, and answers its length: none for a call that is not known.
 pub fn call_text(call: u8, x: u32, y: u32, source: &[u8], out: &mut [u8; ROOM]) -> usize
     ensures { λ r. ⌜ Printed (callText call x y (now (source .entry))) r (now (out .entry)) (now (out .exit)) ⌝ }
@@ -114,6 +141,8 @@ pub fn call_text(call: u8, x: u32, y: u32, source: &[u8], out: &mut [u8; ROOM]) 
         4 => line_number_text(source, out),
         5 => write_line_verdict(source, x, y as usize, out),
         6 => write_manual(source, x, out),
+        7 => list_under_text(source, x, y, out),
+        8 => lines_under_text(source, x, y, out),
         _ => 0,
     }
 }

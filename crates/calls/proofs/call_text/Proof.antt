@@ -28,9 +28,17 @@ returns-5 c = rw (c .before .before .match .keys5) (c .write-manual .ensures)
 
 returns-6 : tie.Need-returns-6
 unfolding callText
-returns-6 c =
+returns-6 c = rw (c .before .before .match .keys6) (c .list-under-text .ensures)
+
+returns-7 : tie.Need-returns-7
+unfolding callText
+returns-7 c = rw (c .before .before .match .keys7) (c .lines-under-text .ensures)
+
+returns-8 : tie.Need-returns-8
+unfolding callText
+returns-8 c =
     rw
-    (ne-eqb _ 2 (c .match .rest .0 .0 .0 .0 .1), ne-eqb _ 3 (c .match .rest .0 .0 .0 .1), ne-eqb _ 4 (c .match .rest .0 .0 .1), ne-eqb _ 5 (c .match .rest .0 .1), ne-eqb _ 6 (c .match .rest .1))
+    (ne-eqb _ 2 (c .match .rest .0 .0 .0 .0 .0 .0 .1), ne-eqb _ 3 (c .match .rest .0 .0 .0 .0 .0 .1), ne-eqb _ 4 (c .match .rest .0 .0 .0 .0 .1), ne-eqb _ 5 (c .match .rest .0 .0 .0 .1), ne-eqb _ 6 (c .match .rest .0 .0 .1), ne-eqb _ 7 (c .match .rest .0 .1), ne-eqb _ 8 (c .match .rest .1))
     (printed-none _)
 
 pub call-text-spec : {M : Type 1} → statement M
@@ -42,9 +50,13 @@ call-text-spec =
     (λ c κs. search needs)
     (λ c κs. search needs)
     (λ c κs. search needs)
+    (λ c κs. search needs)
+    (λ c κs. search needs)
     returns
     returns-2
     returns-3
     returns-4
     returns-5
-    returns-6)
+    returns-6
+    returns-7
+    returns-8)
