@@ -61,6 +61,30 @@ extern "C" {
         place: *mut usize,
     ) -> u8;
     fn lagvettu_explain(source: *const u8, source_len: usize, base: u32, line: usize, verdict: *mut u8, place: *mut usize) -> u8;
+    fn lagvettu_assemble_branches(
+        names: *const u8,
+        names_len: usize,
+        source: *const u8,
+        source_len: usize,
+        base: u32,
+        addresses: *mut u32,
+        addresses_len: usize,
+        words: *mut u16,
+        words_len: usize,
+        marks: *mut u8,
+        marks_len: usize,
+        place: *mut usize,
+    ) -> u8;
+    fn lagvettu_explain_branches(
+        names: *const u8,
+        names_len: usize,
+        source: *const u8,
+        source_len: usize,
+        base: u32,
+        line: usize,
+        verdict: *mut u8,
+        place: *mut usize,
+    ) -> u8;
 }
 
 /// Three slices, as a caller lends them.
@@ -218,5 +242,36 @@ pub struct Explained {
 pub fn explain(source: &[u8], base: u32, line: usize) -> Explained {
     let mut e = Explained { number: u8::MAX, verdict: 0xAA, place: usize::MAX };
     e.number = unsafe { lagvettu_explain(source.as_ptr(), source.len(), base, line, &mut e.verdict, &mut e.place) };
+    e
+}
+
+/// Paper 01's call under a branch table.
+pub fn assemble_branches(names: &[u8], source: &[u8], base: u32, x: &mut Slices) -> Answer {
+    let mut place = usize::MAX;
+    let number = unsafe {
+        lagvettu_assemble_branches(
+            names.as_ptr(),
+            names.len(),
+            source.as_ptr(),
+            source.len(),
+            base,
+            x.addresses.as_mut_ptr(),
+            x.addresses.len(),
+            x.words.as_mut_ptr(),
+            x.words.len(),
+            x.marks.as_mut_ptr(),
+            x.marks.len(),
+            &mut place,
+        )
+    };
+    (number, place)
+}
+
+/// W-205's under a branch table.
+pub fn explain_branches(names: &[u8], source: &[u8], base: u32, line: usize) -> Explained {
+    let mut e = Explained { number: u8::MAX, verdict: 0xAA, place: usize::MAX };
+    e.number = unsafe {
+        lagvettu_explain_branches(names.as_ptr(), names.len(), source.as_ptr(), source.len(), base, line, &mut e.verdict, &mut e.place)
+    };
     e
 }

@@ -9,7 +9,9 @@
 //!   compare symbols N [SEED]        N random sources: the symbols with their lines against the original's label map
 //!   compare explain N [SEED]        N random sources: why each line has no word, against the original's list without that line
 //!   compare lands N [SEED]          N random sources: each branch word to a label in reach leads there, also after moves
+//!   compare branches N [SEED]       N random branch tables and scripts, against a second reading of the table and the original
 //!   compare gas N [SEED]            N random scripts of the manual's call, and N of 01's listed forms, against GNU as and ld
+mod branches;
 #[cfg(linked)]
 mod explain;
 #[cfg(linked)]
@@ -39,6 +41,8 @@ mod silence;
 mod speed;
 #[cfg(linked)]
 mod symbols;
+#[cfg(linked)]
+mod under;
 mod verdicts;
 
 fn main() {
@@ -63,7 +67,9 @@ fn main() {
         #[cfg(linked)]
         Some("lands") => lands::compare(number(2, 100_000) as usize, number(3, 20261121)),
         #[cfg(linked)]
+        Some("branches") => under::compare(number(2, 100_000) as usize, number(3, 20261123)),
+        #[cfg(linked)]
         Some("gas") => gas::compare(number(2, 1_000) as usize, number(3, 20261120)),
-        _ => eprintln!("usage: compare record FILE [COUNT] | lists N [SEED] | moves N [SEED] | nearest N [SEED] | symbols N [SEED] | explain N [SEED] | gas N [SEED] | lands N [SEED] | speed; all but record want the static library: see ./run"),
+        _ => eprintln!("usage: compare record FILE [COUNT] | lists N [SEED] | moves N [SEED] | nearest N [SEED] | symbols N [SEED] | explain N [SEED] | gas N [SEED] | lands N [SEED] | branches N [SEED] | speed; all but record want the static library: see ./run"),
     }
 }

@@ -127,7 +127,7 @@ pub const BEZEL: &str =
     "ORG $1000\nLIM: DC.L 4160\nGO: MOVEQ #3,D1\nMOVE.L LIM,D2\nCMP.L #4160,D2\nBNE GO\nNOP\nEND";
 
 /// Odd readings that the station examples miss, one script each.
-const READINGS: [&str; 41] = [
+pub const READINGS: [&str; 41] = [
     // 02, W-208: "The old call still emits it."
     "BRA -1\nBRA -2\nBNE -1\nDBRA D0,-1",
     "A:\nNOP\nA:\nBRA A",

@@ -1,7 +1,8 @@
-//! Recorded calls of paper 02, a function a request; W-205's are in verdicts.rs, W-207's in manual.rs. Each answer is written out here from 02's words and
+//! Recorded calls of paper 02, a function a request; W-205's are in verdicts.rs, W-207's in manual.rs, W-210's in branches.rs. Each answer is written out here from 02's words and
 //! READINGS.md's examples of them, or comes from the Rust original's own label map or list where that leaves no choice, or from GNU as; none
 //! is made by the Rattle code.
 
+use crate::branches::branch_calls;
 use crate::generate::{script, Random};
 use crate::manual::manual_lists;
 use crate::verdicts::verdicts;
@@ -28,6 +29,7 @@ pub fn calls() -> Vec<Call> {
     verdicts(&mut out);
     digit_values(&mut out);
     manual_lists(&mut out);
+    branch_calls(&mut out);
     out
 }
 
