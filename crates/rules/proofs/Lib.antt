@@ -5,3 +5,4 @@ pub mod Names
 pub mod Readings
 pub mod Operands
 pub mod Tables
+pub mod Chain

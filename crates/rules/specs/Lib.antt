@@ -1,6 +1,7 @@
 pub mod Limits
 pub mod Text
 pub mod Number
+pub mod Sum
 pub mod Line
 pub mod Directive
 pub mod Label

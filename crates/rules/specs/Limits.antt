@@ -23,3 +23,7 @@ lastAddress = 2 ^ 30 + 1
 -- a distance lies within ±(2^30 - 1)
 abbrev pub distanceLimit : ℕ
 distanceLimit = 2 ^ 30
+
+-- W-211: "Parentheses nest at most 16 deep."
+abbrev pub maxNesting : ℕ
+maxNesting = 16
