@@ -54,6 +54,10 @@ pub mod Symbols
 pub mod SymbolsFit
 pub mod SymbolsRows
 pub mod Readings
+pub mod SumNumbers
+pub mod SumRead
+pub mod SumDerived
+pub mod Sums
 pub mod Digits
 pub mod Directives
 pub mod Decided

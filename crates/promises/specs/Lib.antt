@@ -12,6 +12,7 @@ pub mod Longest
 pub mod Nearest
 pub mod Symbols
 pub mod Readings
+pub mod Sums
 pub mod Digits
 pub mod Explain
 pub mod ExplainCases
