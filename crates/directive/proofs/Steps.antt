@@ -9,7 +9,7 @@ use native.Mathlib.Omega.{arith}
 use lib.ListN.{length, getD, drop}
 use borrow.Author.Tests.{eq-eqb, ne-eqb, not-true, not-false}
 use Rattle.rules.specs.Text.{Text, bytes, uppers, leading, trim, pieces, Cut, uncut, around, firstCut, starts, contains, nth}
-use Rattle.rules.specs.Line.{readingIn}
+use Rattle.rules.specs.Line.{readingIn, valueReadingIn}
 use Rattle.rules.specs.Directive.{dataReading, afterColon, trimmedReading, lineReading}
 use Rattle.text.proofs.Find.{Indexed}
 use Rattle.text.proofs.Trim.{leading-trim}
@@ -27,7 +27,7 @@ module _ (t : Text) {y : Bool} (q : y ≡ contains (bytes "DC.") (uppers t)) whe
   unfolding dataReading
   no-number e = rw (← q, not-true y e)
 
-  pub data-number : {h : DataHead} {m : Number} {r : LineNumber} → not y ≡ false → PieceHeadGives t h → m ≡ numberOf (readingIn (nth 1 (pieces (drop (h .directive) t)))) → r ≡ asLineNumber m
+  pub data-number : {h : DataHead} {m : Number} {r : LineNumber} → not y ≡ false → PieceHeadGives t h → m ≡ numberOf (valueReadingIn (nth 1 (pieces (drop (h .directive) t)))) → r ≡ asLineNumber m
       → r ≡ lineNumberOf (dataReading t)
   unfolding dataReading
   data-number e g p k = k ∙ ap asLineNumber p ∙ rw (← q, not-false y e, g .directs)

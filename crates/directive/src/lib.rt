@@ -33,7 +33,7 @@ fn data_number(t: &[u8]) -> LineNumber
         return LineNumber::Nothing;
     }
     let head = line::data_head(t);
-    line_number_of(line::second_number(t, head.directive))
+    line_number_of(line::second_value(t, head.directive))
 }
 
 // Step 4: what goes on, after a label or without one.

@@ -10,7 +10,7 @@ use lib.ListN.{length, take, drop}
 use lib.Seq.{length-take-le}
 use Rattle.rules.specs.Text.{Text, bytes, uppers, pieces, contains, nth}
 use Rattle.rules.specs.Number.{Reading, read, failed, valueOf}
-use Rattle.rules.specs.Line.{readingIn, numberIn, dataSize, dataValue, sized, dataTask, nonempty, dataLine, orgTask}
+use Rattle.rules.specs.Line.{valueReadingIn, dataSize, dataValue, sized, dataTask, nonempty, dataLine, orgTask}
 use Rattle.text.specs.Spans.{part, PartIn}
 use Rattle.text.proofs.Spans.{part-front, length-part}
 use Rattle.numeral.specs.Number.{numberOf}
@@ -56,11 +56,11 @@ by-in source n (failed x) h = h
 
 module _ (source t d : Text) where
   data-is : taskAt source (dataOf t d) ≡ dataTask t d
-  unfolding dataTask dataValue numberIn sized
+  unfolding dataTask dataValue sized
   data-is = go (contains (bytes "DC.") (uppers t))
     where
       r : Reading ℕ
-      r = readingIn (nth 1 (pieces d))
+      r = valueReadingIn (nth 1 (pieces d))
 
       go : (x : Bool) → taskAt source (cond x (dataBy (dataSize (uppers t)) (numberOf r)) (Space (dataSize (uppers t)))) ≡ sized (dataSize (uppers t)) (cond x (valueOf r) none)
       go true = by-is source (dataSize (uppers t)) r
@@ -69,8 +69,8 @@ module _ (source t d : Text) where
   data-in : TaskIn source (dataOf t d)
   data-in = go (contains (bytes "DC.") (uppers t))
     where
-      go : (x : Bool) → TaskIn source (cond x (dataBy (dataSize (uppers t)) (numberOf (readingIn (nth 1 (pieces d))))) (Space (dataSize (uppers t))))
-      go true = by-in source (dataSize (uppers t)) (readingIn (nth 1 (pieces d))) (size-most (uppers t))
+      go : (x : Bool) → TaskIn source (cond x (dataBy (dataSize (uppers t)) (numberOf (valueReadingIn (nth 1 (pieces d))))) (Space (dataSize (uppers t))))
+      go true = by-in source (dataSize (uppers t)) (valueReadingIn (nth 1 (pieces d))) (size-most (uppers t))
       go false = size-most (uppers t)
 
 -- as the code makes it: of size s, with a value only where `DC.` stands
@@ -78,7 +78,7 @@ module _ (t d : Text) {s : ℕ} (p : s ≡ dataSize (uppers t)) {y : Bool} (q : 
   pub task-none : not y ≡ true → Space s ≡ dataOf t d
   task-none e = rw (p, ← q, not-true y e)
 
-  pub task-some : {v : Number} → not y ≡ false → v ≡ numberOf (readingIn (nth 1 (pieces d))) → dataBy s v ≡ dataOf t d
+  pub task-some : {v : Number} → not y ≡ false → v ≡ numberOf (valueReadingIn (nth 1 (pieces d))) → dataBy s v ≡ dataOf t d
   task-some e w = rw (p, ← q, not-false y e, w)
 
 -- ---- the line

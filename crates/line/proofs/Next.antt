@@ -1,23 +1,24 @@
--- Laws of the next piece of a text: whether there is one, and the second of two. Assumes nothing.
+-- Laws of the next piece of a text: whether there is one, the second of two, and what it reads as. Assumes nothing.
 use mathlib.Core.Path.{_≡_, refl, ap, _∙_}
 use mathlib.Core.Bool.{Bool, true, false}
-use mathlib.Core.List.{[]}
-use Prim.Native.Nat.{ℕ, _+_, _≤_}
+use mathlib.Core.Option.{Option, none, some}
+use mathlib.Core.List.{[], _∷_}
+use Prim.Native.Nat.{ℕ, _+_, _-_, _≤_, _<_}
 use native.Mathlib.Omega.{arith}
 use borrow.Author.Tests.{ltb-true, ltb-false}
 use lib.Dec.{ltb}
 use lib.ListN.{length, drop, drop-of-length-le, length-drop}
-use Rattle.rules.specs.Text.{Text, blank, leading, cutWhere, dropEmpty, pieces, nth}
-use Rattle.rules.specs.Number.{reading32}
-use Rattle.rules.specs.Line.{readingIn}
+use Rattle.rules.specs.Text.{Text, bytes, blank, leading, cutWhere, dropEmpty, pieces, starts, after, nth}
+use Rattle.rules.specs.Number.{someDigits, ranged, without, unsignedReading, hexTail, byPrefix, reading32}
+use Rattle.rules.specs.Line.{readingIn, valueReading, valueReadingIn}
 use Rattle.text.specs.declared.Span.{Span}
 use Rattle.text.specs.Pieces.{run, nextPiece}
 use Rattle.text.proofs.Until.{until-le}
 use Rattle.text.proofs.Pieces.{Next, next-start, next-none, next-some}
 use Rattle.numeral.specs.Number.{numberOf}
-use Rattle.numeral.specs.declared.Failure.the-variants.{NoDigits}
-use Rattle.numeral.specs.declared.unsigned.Number.the-variants.{Failed}
 use Rattle.text.specs.Spans.{part, PartIn}
+use Rattle.text.proofs.Spans.{length-part}
+use Rattle.line.specs.Steps.{pieceIn}
 
 pub pieces-empty : pieces [] ≡ []
 unfolding pieces cutWhere dropEmpty
@@ -53,7 +54,7 @@ module _ (t : Text) (at : ℕ) (r : Span) (e : r ≡ nextPiece t at) (h : at ≤
           let m : length t ≤ r .end = omega (arith, ends) in
           rw (next-none t at r e l, drop-of-length-le t m, pieces-empty)
 
--- the number of the second of two pieces, f and s
+-- the second of two pieces, f and s
 module _ (t : Text) (at : ℕ) (f s : Span) (p : f ≡ nextPiece t at) (q : s ≡ nextPiece t (f .end)) (h : at ≤ length t) where
   end-in : f .end ≤ length t
   end-in = next-part t at f p h .inside
@@ -61,10 +62,46 @@ module _ (t : Text) (at : ℕ) (f s : Span) (p : f ≡ nextPiece t at) (q : s �
   pub second-part : PartIn t (s .start) (s .end)
   second-part = next-part t (f .end) s q end-in
 
-  pub second-none : s .start ≡ s .end → Failed NoDigits ≡ numberOf (readingIn (nth 1 (pieces (drop at t))))
-  unfolding nth readingIn
-  second-none z = rw (nth-after t at f p h, next-none t (f .end) s q (piece-none t (f .end) s q end-in z))
+  -- as a text, empty where there is none
+  pub second-is : nth 1 (pieces (drop at t)) ≡ pieceIn (part t (s .start) (s .end))
+  unfolding nth
+  second-is = go (ltb (s .start) (s .end)) refl
+    where
+      some-part : (p : Text) → 0 < length p → some p ≡ pieceIn p
+      some-part [] k = absurd (omega arith)
+      some-part (b ∷ p) k = refl
 
-  pub second-some : (s .start ≡ s .end → ⊥) → numberOf (reading32 (part t (s .start) (s .end))) ≡ numberOf (readingIn (nth 1 (pieces (drop at t))))
-  unfolding nth readingIn
-  second-some d = rw (nth-after t at f p h, piece-some t (f .end) s q end-in d .parts)
+      none-part : (p : Text) → length p ≡ 0 → none ≡ pieceIn p
+      none-part [] k = refl
+      none-part (b ∷ p) k = absurd (omega arith)
+
+      long : length (part t (s .start) (s .end)) ≡ s .end - s .start
+      long = length-part t (s .start) (s .end) second-part
+
+      go : (y : Bool) → ltb (s .start) (s .end) ≡ y → nth 1 (pieces (drop at t)) ≡ pieceIn (part t (s .start) (s .end))
+      go true y =
+          let l : s .start < s .end = ltb-true (s .start) (s .end) y in
+          let d : s .start ≡ s .end → ⊥ = λ e. omega arith in
+          nth-after t at f p h ∙ rw (piece-some t (f .end) s q end-in d .parts) (some-part (part t (s .start) (s .end)) (omega (arith, long)))
+      go false y =
+          let l : s .end ≤ s .start = ltb-false (s .start) (s .end) y in
+          let z : s .start ≡ s .end = omega (arith, second-part .ordered) in
+          nth-after t at f p h ∙ rw (next-none t (f .end) s q (piece-none t (f .end) s q end-in z)) (none-part (part t (s .start) (s .end)) (omega (arith, long)))
+
+-- ---- the readings of a piece, by its text
+number-of : (s : Text) → reading32 s ≡ readingIn (pieceIn s)
+unfolding readingIn reading32 byPrefix hexTail after bytes unsignedReading without someDigits ranged
+number-of [] = refl
+number-of (b ∷ s) = refl
+
+value-of : (s : Text) → valueReading s ≡ valueReadingIn (pieceIn s)
+unfolding valueReadingIn valueReading starts reading32 byPrefix hexTail after bytes unsignedReading without someDigits ranged
+value-of [] = refl
+value-of (b ∷ s) = refl
+
+module _ (o : Option Text) (p : Text) (e : o ≡ pieceIn p) where
+  pub number-in : numberOf (reading32 p) ≡ numberOf (readingIn o)
+  number-in = rw e (ap numberOf (number-of p))
+
+  pub value-in : numberOf (valueReading p) ≡ numberOf (valueReadingIn o)
+  value-in = rw e (ap numberOf (value-of p))

@@ -2,11 +2,11 @@
 use mathlib.Core.Path.{_≡_}
 use Prim.Native.Nat.{ℕ, zero, suc, _+_, _-_, _≤_, _<_}
 use mathlib.Core.Bool.{cond}
-use mathlib.Core.Option.{none, some}
-use mathlib.Core.List.{List, _++_}
+use mathlib.Core.Option.{Option, none, some}
+use mathlib.Core.List.{List, [], _∷_, _++_}
 use lib.ListN.{length, take, drop}
 use Rattle.rules.specs.Text.{Text, bytes, uppers, leading, trim, pieces, contains, nth}
-use Rattle.rules.specs.Line.{Name, line as lineWith, labelOnly, readingIn, dataSize, dataTask, nonempty, dataLine, restLine, labelLine}
+use Rattle.rules.specs.Line.{Name, line as lineWith, labelOnly, valueReadingIn, dataSize, dataTask, nonempty, dataLine, restLine, labelLine}
 use Rattle.rules.specs.Directive.{directiveOf}
 use Rattle.text.specs.declared.Span.{Span}
 use Rattle.text.specs.Find.{indexOf}
@@ -34,6 +34,11 @@ pub record Whole (source : Text) (a e colon : ℕ) : Type 0 where
   pub after : a ≤ colon
   pub first : colon < e → indexOf 58 (part source a e) ≡ some (colon - a)
   pub nowhere : e ≤ colon → indexOf 58 (part source a e) ≡ none
+
+-- a piece as a text: none is empty
+abbrev pub pieceIn : Text → Option Text
+pieceIn [] = none
+pieceIn (b ∷ s) = some (b ∷ s)
 
 -- a part without its outer blanks
 abbrev pub trimmedPart : Text → ℕ → ℕ → Span
@@ -69,7 +74,7 @@ dataBy n (N.Failed x) = Space n
 
 -- the data of a text t whose directive is d
 abbrev pub dataOf : Text → Text → Task
-dataOf t d = cond (contains (bytes "DC.") (uppers t)) (dataBy (dataSize (uppers t)) (numberOf (readingIn (nth 1 (pieces d))))) (Space (dataSize (uppers t)))
+dataOf t d = cond (contains (bytes "DC.") (uppers t)) (dataBy (dataSize (uppers t)) (numberOf (valueReadingIn (nth 1 (pieces d))))) (Space (dataSize (uppers t)))
 
 -- step 5 on t: a label of so many bytes in front, and from where on the directive stands, as far as its pieces count
 pub record PieceHeadGives (t : Text) (h : DataHead) : Type 0 where

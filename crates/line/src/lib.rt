@@ -1,5 +1,4 @@
 // What a line says: paper 01's six steps, answered by value: the labels that it records and its task, with places in the source.
-use numeral::Failure;
 use numeral::unsigned::Number;
 use outline::Outline;
 use text::Span;
@@ -8,13 +7,13 @@ ghost use mathlib.Core.Bool.{true, _||_};
 ghost use Prim.Native.Nat.{_≤_};
 ghost use lib.ListN.{length, take, drop};
 ghost use Rattle.rules.specs.Text.{Text, uppers, leading, trim, pieces, uncut, firstCut, contains, nth};
-ghost use Rattle.rules.specs.Line.{readingIn, dataSize, isDirective, dataLine, isData, restLine, labelLine};
+ghost use Rattle.rules.specs.Line.{readingIn, valueReadingIn, dataSize, isDirective, dataLine, isData, restLine, labelLine};
 ghost use Rattle.rules.specs.Assemble.{isEnd};
 ghost use Rattle.text.specs.Spans.{part, PartIn};
 ghost use Rattle.numeral.specs.Number.{numberOf};
 ghost use Rattle.outline.specs.Outline.{OutlineLineGives};
 ghost use Rattle.line.specs.Line.{namesAt, taskAt, NamesIn, Says, ReadLineGives};
-ghost use Rattle.line.specs.Steps.{Trimmed, Whole, trimmedPart, noNames, withName, plainLine, orgOf, dataOf, PieceHeadGives, SplitLabelGives};
+ghost use Rattle.line.specs.Steps.{Trimmed, Whole, pieceIn, trimmedPart, noNames, withName, plainLine, orgOf, dataOf, PieceHeadGives, SplitLabelGives};
 
 // The labels of a line: as many of the two as the count says.
 pub struct Names {
@@ -119,19 +118,32 @@ fn label_length(t: &[u8], colon: usize) -> usize
     text::trimmed(&t[..colon]).len()
 }
 
-// The number of the second piece from `at` on; without such a piece it has no digits.
-pub fn second_number(t: &[u8], at: usize) -> Number
+// The second piece from `at` on; empty where there is none.
+fn second_piece(t: &[u8], at: usize) -> &[u8]
     requires { ⌜ at ≤ length (now t) ⌝ }
-    ensures { λ r. ⌜ r ≡ numberOf (readingIn (nth 1 (pieces (drop at (now (t .entry)))))) ⌝ }
+    ensures { λ r. ⌜ nth 1 (pieces (drop at (now (t .entry)))) ≡ pieceIn (now r) ⌝ }
 {
     let first = text::next_piece(t, at);
     let second = text::next_piece(t, first.end);
     let start = second.start;
     let end = second.end;
-    if start == end {
-        return Number::Failed(Failure::NoDigits);
-    }
-    numeral::unsigned::parse_u32(&t[start..end])
+    &t[start..end]
+}
+
+// ORG's number, the second piece from `at` on; without such a piece it has no digits.
+pub fn second_number(t: &[u8], at: usize) -> Number
+    requires { ⌜ at ≤ length (now t) ⌝ }
+    ensures { λ r. ⌜ r ≡ numberOf (readingIn (nth 1 (pieces (drop at (now (t .entry)))))) ⌝ }
+{
+    numeral::unsigned::parse_u32(second_piece(t, at))
+}
+
+// DC's value, the second piece from `at` on; without such a piece it has no digits.
+pub fn second_value(t: &[u8], at: usize) -> Number
+    requires { ⌜ at ≤ length (now t) ⌝ }
+    ensures { λ r. ⌜ r ≡ numberOf (valueReadingIn (nth 1 (pieces (drop at (now (t .entry)))))) ⌝ }
+{
+    sum::parse_value(second_piece(t, at))
 }
 
 // ---- Step 5: data.
@@ -181,7 +193,7 @@ fn data_task(t: &[u8], at: usize) -> Task
     if !text::contains_upper(t, b"DC.") {
         return Task::Space(size);
     }
-    match second_number(t, at) {
+    match second_value(t, at) {
         Number::Value(v) => Task::Value(size, v),
         Number::Failed(_) => Task::Space(size),
     }

@@ -6,7 +6,7 @@ use mathlib.Core.List.{List, [], _∷_}
 use lib.Dec.{eqb}
 use Rattle.rules.specs.Text.{Text, bytes, uppers, trim, pieces, joined, uncut, around, firstCut, starts, contains, nth}
 use Rattle.rules.specs.Number.{Reading}
-use Rattle.rules.specs.Line.{readingIn, isDirective}
+use Rattle.rules.specs.Line.{readingIn, valueReadingIn, isDirective}
 
 -- step 5 without a colon: the pieces after a label, or the whole text
 unfoldable pub pieceDirective : Text → List Text → Text
@@ -20,7 +20,7 @@ directiveOf s = elim (firstCut 58 s) [ uncut ↦ pieceDirective s (pieces s) | a
 
 -- step 5: "With `DC.` in the line, the directive's second piece"; a line without reads no number
 unfoldable pub dataReading : Text → Option (Reading ℕ)
-dataReading s = cond (contains (bytes "DC.") (uppers s)) (some (readingIn (nth 1 (pieces (directiveOf s))))) none
+dataReading s = cond (contains (bytes "DC.") (uppers s)) (some (valueReadingIn (nth 1 (pieces (directiveOf s))))) none
 
 -- step 4: what goes on, after a label or without one
 unfoldable pub afterColon : Text → Text

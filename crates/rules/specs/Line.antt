@@ -7,6 +7,7 @@ use lib.ListN.{length}
 use lib.Dec.{eqb}
 use Rattle.rules.specs.Text.{Text, bytes, uppers, leading, trim, cutAt, dropEmpty, pieces, joined, uncut, around, firstCut, same, starts, contains, nth, firstText, otherTexts, lastText}
 use Rattle.rules.specs.Number.{Reading, failed, noDigits, valueOf, reading32}
+use Rattle.rules.specs.Sum.{sumReading}
 
 -- a line of the source: its number, from 1, where it starts in the source, and its text
 pub record SourceLine : Type 0 where
@@ -61,14 +62,23 @@ pub record Line : Type 0 where
 abbrev pub line : List Name → Task → Line
 line ns k = record { names = ns; task = k }
 
--- a piece's number as it reads; "no piece at all" has no digits
+-- ORG's piece as it reads; "no piece at all" has no digits
 unfoldable pub readingIn : Option Text → Reading ℕ
 readingIn none = failed noDigits
 readingIn (some p) = reading32 p
 
--- a piece's number, where it is read
+-- its number, where it is read
 unfoldable pub numberIn : Option Text → Option ℕ
 numberIn o = valueOf (readingIn o)
+
+-- DC's value as it reads: "A DC value may be a sum in square brackets" (W-211), else it is a number
+unfoldable pub valueReading : Text → Reading ℕ
+valueReading s = cond (starts (bytes "[") s) (sumReading s) (reading32 s)
+
+-- DC's piece as it reads
+unfoldable pub valueReadingIn : Option Text → Reading ℕ
+valueReadingIn none = failed noDigits
+valueReadingIn (some p) = valueReading p
 
 -- step 6: "The other pieces, joined by one space, cut at commas, trimmed, empties removed, are the operands."
 unfoldable pub operandsOf : Text → List Text
@@ -87,9 +97,9 @@ dataSize u =
     (cond (contains (bytes "DC.W") u || contains (bytes "DS.W") u) 2
     (cond (contains (bytes "DC.B") u || contains (bytes "DS.B") u) 1 2))
 
--- step 5: "With `DC.` in the line, the directive's second piece, if a number, is the value"
+-- step 5: "With `DC.` in the line, the directive's second piece, if a number, is the value"; or if a sum (W-211)
 unfoldable pub dataValue : Text → Text → Option ℕ
-dataValue u d = cond (contains (bytes "DC.") u) (numberIn (nth 1 (pieces d))) none
+dataValue u d = cond (contains (bytes "DC.") u) (valueOf (valueReadingIn (nth 1 (pieces d)))) none
 
 -- step 5: data of a size, with its value if it has one
 unfoldable pub sized : ℕ → Option ℕ → Task

@@ -5,6 +5,7 @@ ghost use mathlib.Core.Path.{_≡_};
 ghost use Prim.Native.Nat.{ℕ, _≤_, _+_, _^_};
 ghost use lib.ListN.{length, drop};
 ghost use Rattle.rules.specs.Number.{ranged, below};
+ghost use Rattle.rules.specs.Line.{valueReading};
 ghost use Rattle.rules.specs.Sum.{Expression, Parse, applied, isTimes, isSign, isOperator, plainNumber, numberFirst, parenClosed, atomOf, productOf, sumOf, exactValue, sumReading};
 ghost use Rattle.text.specs.Pieces.{until};
 ghost use Rattle.numeral.specs.Number.{numberOf};
@@ -268,4 +269,17 @@ pub fn parse_sum(t: &[u8]) -> Number
         Worth::Value(v) => Number::Value(v),
         Worth::Outside => Number::Failed(Failure::OutOfRange),
     }
+}
+
+// The value of a DC piece: a sum where `[` is first, else a number.
+pub fn parse_value(t: &[u8]) -> Number
+    ensures { λ r. ⌜ r ≡ numberOf (valueReading (now (t .entry))) ⌝ }
+{
+    if t.len() == 0 {
+        return Number::Failed(Failure::NoDigits);
+    }
+    if t[0] == b'[' {
+        return parse_sum(t);
+    }
+    numeral::unsigned::parse_u32(t)
 }

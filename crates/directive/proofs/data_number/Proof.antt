@@ -9,13 +9,13 @@ returns : tie.Need-returns
 unfolding bytes
 returns c = no-number _ (c .before .contains-upper .ensures) (c .if1 .taken)
 
-second-number-requires : tie.Need-second-number-requires
-second-number-requires c κs = c .data-head .ensures .directive-in
+second-value-requires : tie.Need-second-value-requires
+second-value-requires c κs = c .data-head .ensures .directive-in
 
 returns-2 : tie.Need-returns-2
 unfolding bytes
 returns-2 c =
-    data-number _ (c .before .before .before .before .contains-upper .ensures) (c .before .before .before .if1 .left) (c .before .before .data-head .ensures) (c .before .second-number .ensures) (c .line-number-of .ensures)
+    data-number _ (c .before .before .before .before .contains-upper .ensures) (c .before .before .before .if1 .left) (c .before .before .data-head .ensures) (c .before .second-value .ensures) (c .line-number-of .ensures)
 
 pub data-number-spec : {M : Type 1} → statement M
 data-number-spec =
@@ -25,6 +25,6 @@ data-number-spec =
     (λ c κs. search needs)
     returns
     (λ c κs. search needs)
-    second-number-requires
+    second-value-requires
     (λ c κs. search needs)
     returns-2)

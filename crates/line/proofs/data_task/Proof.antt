@@ -12,11 +12,11 @@ returns c = task-none _ _ (c .before .before .before .data-size .ensures) (c .be
 
 returns-2 : tie.Need-returns-2
 unfolding bytes
-returns-2 c = task-some _ _ (c .before .before .before .before .before .before .before .data-size .ensures) (c .before .before .before .before .before .contains-upper .ensures) (c .before .before .before .before .if1 .left) (sym (c .before .v .given .1) ∙ c .before .before .before .second-number .ensures)
+returns-2 c = task-some _ _ (c .before .before .before .before .before .before .before .data-size .ensures) (c .before .before .before .before .before .contains-upper .ensures) (c .before .before .before .before .if1 .left) (sym (c .before .v .given .1) ∙ c .before .before .before .second-value .ensures)
 
 returns-3 : tie.Need-returns-3
 unfolding bytes
-returns-3 c = task-some _ _ (c .before .before .before .before .before .before .data-size .ensures) (c .before .before .before .before .contains-upper .ensures) (c .before .before .before .if1 .left) (sym (c .enum-told .given .1) ∙ c .before .before .second-number .ensures)
+returns-3 c = task-some _ _ (c .before .before .before .before .before .before .data-size .ensures) (c .before .before .before .before .contains-upper .ensures) (c .before .before .before .if1 .left) (sym (c .enum-told .given .1) ∙ c .before .before .second-value .ensures)
 
 pub data-task-spec : {M : Type 1} → statement M
 data-task-spec =
