@@ -22,6 +22,7 @@ use Rattle.promises.proofs.RustText.{split-is}
 use Rattle.promises.proofs.RustOperand.{Agrees}
 use Rattle.promises.proofs.RustEncode.{plain, extWords, codeWords, encode-same}
 use Rattle.promises.proofs.RustValue.{TaskLow}
+use Rattle.promises.proofs.RustBrackets.{AllFree, free-of, free-lines}
 use Rattle.promises.proofs.RustPass.{codeAt, valueAt, codeOf, valueOf, PutLow, AllLow, nil, cons, Ended, texts, accepted-inj, never, pass-ends}
 
 -- words at an address, each two further on
@@ -157,8 +158,11 @@ empty-agrees = record { finds = λ n. refl; low = λ n. tt }
 
 pub list-is-the-rusts : ListIsTheRusts
 unfolding ListIsTheRusts Rust.assemble linesOf andThen
-list-is-the-rusts s l e = go (firstPass 0 0 [] (linesOf s)) refl (accepts size encode 0 s l e .passed)
+list-is-the-rusts s b l e = go (firstPass 0 0 [] (linesOf s)) refl (accepts size encode 0 s l e .passed)
   where
+    free : AllFree (texts (linesOf s))
+    free = rw (lines-texts 1 0 (cutAt 10 s)) (free-lines (free-of s b))
+
     start : State
     start = record { labels = []; instructions = []; data-values = []; current-address = 0 }
 
@@ -167,4 +171,4 @@ list-is-the-rusts s l e = go (firstPass 0 0 [] (linesOf s)) refl (accepts size e
     go (refused n q) f h = absurd (never n q l h)
     go (accepted p) f h =
         rw (← accepted-inj (secondPass p) l h, split-is 10 s, ← lines-texts 1 0 (cutAt 10 s))
-        (sym (second-is (first-pass (texts (linesOf s)) start) p (pass-ends (linesOf s) 0 (omega arith) [] start refl empty-agrees p f)))
+        (sym (second-is (first-pass (texts (linesOf s)) start) p (pass-ends (linesOf s) free 0 (omega arith) [] start refl empty-agrees p f)))

@@ -7,7 +7,7 @@ use mathlib.Core.List.{List, [], _∷_}
 use lib.Dec.{eqb}
 use Rattle.rules.specs.Text.{Text, bytes, uppers, leading, trim, pieces, Cut, uncut, around, firstCut, starts, contains, nth}
 use Rattle.rules.specs.Number.{Reading, read, failed, valueOf}
-use Rattle.rules.specs.Line.{Name, readingIn, numberIn, dataSize, dataValue, sized, dataTask, isDirective, dataPieces, isData, dataLine, restLine, afterLabel, labelLine, orgTask, trimmedLine, lineOf}
+use Rattle.rules.specs.Line.{Name, readingIn, numberIn, valueReadingIn, dataSize, dataValue, sized, dataTask, isDirective, dataPieces, isData, dataLine, restLine, afterLabel, labelLine, orgTask, trimmedLine, lineOf}
 use Rattle.rules.specs.Directive.{pieceDirective, directiveOf, dataReading, afterColon, trimmedReading, lineReading}
 use Rattle.promises.specs.Readings.{Passes, org-read, org-failed, value-read, value-failed, no-value, not-read, ends, only-labelled, instructs, LinesPassOn}
 
@@ -43,11 +43,11 @@ data-task ns i s = go (firstCut 58 s) refl
 
 -- steps 5 and 6
 rest-passes : (ns : List Name) (i : ℕ) (s : Text) → Passes (restLine ns i s .task) (dataReading s)
-unfolding restLine dataReading isData dataTask dataValue numberIn sized
+unfolding restLine dataReading isData dataTask dataValue sized
 rest-passes ns i s = go (contains (bytes "DC.") (uppers s)) refl (contains (bytes "DS.") (uppers s)) refl
   where
     go : (x : Bool) → contains (bytes "DC.") (uppers s) ≡ x → (y : Bool) → contains (bytes "DS.") (uppers s) ≡ y → Passes (restLine ns i s .task) (dataReading s)
-    go true e y f = rw (restLine, e, data-task ns i s, e) (value-passes (dataSize (uppers s)) (readingIn (nth 1 (pieces (directiveOf s)))))
+    go true e y f = rw (restLine, e, data-task ns i s, e) (value-passes (dataSize (uppers s)) (valueReadingIn (nth 1 (pieces (directiveOf s)))))
     go false e true f = rw (restLine, e, f, data-task ns i s, e) no-value
     go false e false f = rw (restLine, e, f) instructs
 

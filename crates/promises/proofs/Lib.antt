@@ -25,6 +25,7 @@ pub mod RustNumber
 pub mod RustOperand
 pub mod RustOpcode
 pub mod RustEncode
+pub mod RustBrackets
 pub mod RustLine
 pub mod RustValue
 pub mod RustPass

@@ -17,6 +17,7 @@ use Rattle.promises.specs.RustAssembler.{AssemblyInstruction, parse-org-
 use Rattle.promises.specs.Demand2Rust.{instAt, performTask, insertAll, perform, LinesAreTheRusts}
 use Rattle.promises.proofs.RustText.{eqb-comm, starts-is, equals-is, contains-is, uppercase-is, trim-is, split-is, nonempty-is, pieces-is, join-is, cutTexts, isCut, splitn-is, contains-one, second-is, second-trimmed, get-is, AllFull, nil, cons, full-pieces, solid-pieces}
 use Rattle.promises.proofs.RustNumber.{clash, number32, number32-is}
+use Rattle.promises.proofs.RustBrackets.{Free, AllFree, none-left, one-more, FreeCut, free-of, free-trim, free-cut, free-right, free-pieces, free-joined, second-value}
 
 -- an instruction's operands
 operands-is : (ps : List Text) → cond (ltb 1 (length ps)) (filter (λ s. not (is-empty s)) (map Rust.trim (split 44 (join (drop 1 ps) (bytes " "))))) []
@@ -167,9 +168,9 @@ unfolding bind numberIn readingIn valueOf
 numberIn-is none = refl
 numberIn-is (some p) = refl
 
-value-of : (s d : Text) → directive-value (to-uppercase s) d ≡ dataValue (uppers s) d
-unfolding directive-value dataValue
-value-of s d =
+value-of : (s d : Text) → Free d → directive-value (to-uppercase s) d ≡ dataValue (uppers s) d
+unfolding directive-value dataValue numberIn
+value-of s d f =
     rw (
       number32-is (Rust.trim (at (split-whitespace d) 1)),
       pieces-is d,
@@ -177,6 +178,7 @@ value-of s d =
       contains-is (bytes "DC.") (uppers s),
       second-trimmed number32 (solid-pieces d),
       numberIn-is (nth 1 (pieces d)),
+      second-value (free-pieces f),
     )
 
 -- the tasks that a number decides
@@ -206,12 +208,23 @@ label-is i [] st = refl
 label-is i (b ∷ l) st = refl
 
 -- a line whose label and directive are known
-put-parts : (s : Text) (st : State) (i : ℕ) (p : Parts) → label-and-directive s ≡ p
+put-parts : (s : Text) (st : State) (i : ℕ) (p : Parts) → Free (p .directive-str) → label-and-directive s ≡ p
     → continue (handle-directive (parse-data-directive-with-value s) st) ≡ performTask (dataTask s (p .directive-str)) (insertAll (nonempty i (p .label)) st)
 unfolding handle-directive parse-data-directive-with-value dataTask
-put-parts s st i p e =
-    rw (e, size-of s, value-of s (p .directive-str), label-is i (p .label) st)
+put-parts s st i p f e =
+    rw (e, size-of s, value-of s (p .directive-str) f, label-is i (p .label) st)
     (sized-is (dataSize (uppers s)) (dataValue (uppers s) (p .directive-str)) (insertAll (nonempty i (p .label)) st))
+
+-- what a directive holds is the line's
+free-parts : {s : Text} {ps : List Text} → Free s → AllFree ps → Free (piece-parts s ps .directive-str)
+unfolding piece-parts
+free-parts f none-left = f
+free-parts f (one-more g none-left) = f
+free-parts {s} f (one-more {p = p} g (one-more {p = q} {ps = ps} h k)) = go (isDirective p)
+  where
+    go : (x : Bool) → Free (cond {A = Parts} x (record { label = []; directive-str = s }) (record { label = p; directive-str = joined (q ∷ ps) }) .directive-str)
+    go true = f
+    go false = free-joined (one-more h k)
 
 module _ (ns : List Name) (i : ℕ) (s : Text) (st : State) where
   pieces-put : {ps : List Text} → AllFull ps
@@ -234,61 +247,61 @@ module _ (ns : List Name) (i : ℕ) (s : Text) (st : State) where
       go true = refl
       go false = rw (inserted ns (name i (b ∷ p) ∷ []) st)
 
-  data-is : continue (handle-directive (parse-data-directive-with-value s) (insertAll ns st)) ≡ perform (dataLine ns i s) st
+  data-is : Free s → continue (handle-directive (parse-data-directive-with-value s) (insertAll ns st)) ≡ perform (dataLine ns i s) st
   unfolding dataLine perform cut-parts
-  data-is = go (firstCut 58 s) refl
+  data-is f = go (firstCut 58 s) refl (free-cut 58 f)
     where
-      go : (k : Cut) → firstCut 58 s ≡ k → continue (handle-directive (parse-data-directive-with-value s) (insertAll ns st)) ≡ perform (dataLine ns i s) st
-      go uncut e =
-          rw (put-parts s (insertAll ns st) i (piece-parts s (pieces s)) (parts-uncut s (pieces s) e (pieces-is s)), e, dataLine) (pieces-put (full-pieces s))
-      go (around l d) e =
-          rw (put-parts s (insertAll ns st) i (cut-parts l d) (parts-cut s l d e), e, dataLine, inserted ns (nonempty i (trim l)) st)
+      go : (k : Cut) → firstCut 58 s ≡ k → FreeCut k → continue (handle-directive (parse-data-directive-with-value s) (insertAll ns st)) ≡ perform (dataLine ns i s) st
+      go uncut e h =
+          rw (put-parts s (insertAll ns st) i (piece-parts s (pieces s)) (free-parts f (free-pieces f)) (parts-uncut s (pieces s) e (pieces-is s)), e, dataLine) (pieces-put (full-pieces s))
+      go (around l d) e h =
+          rw (put-parts s (insertAll ns st) i (cut-parts l d) (free-trim (free-right h)) (parts-cut s l d e), e, dataLine, inserted ns (nonempty i (trim l)) st)
 
   -- steps 5 and 6
-  rest-is : continue (handle-rest s (insertAll ns st)) ≡ perform (restLine ns i s) st
+  rest-is : Free s → continue (handle-rest s (insertAll ns st)) ≡ perform (restLine ns i s) st
   unfolding handle-rest restLine isData perform
-  rest-is =
+  rest-is f =
       rw (uppercase-is s, contains-is (bytes "DC.") (uppers s), contains-is (bytes "DS.") (uppers s)) (go (isData s) refl)
     where
       go : (x : Bool) → isData s ≡ x
           → continue (cond (isData s) (handle-directive (parse-data-directive-with-value s) (insertAll ns st))
           (handle-instruction (parse-instruction s (insertAll ns st .current-address)) (insertAll ns st)))
           ≡ perform (restLine ns i s) st
-      go true e = rw (e, restLine) data-is
+      go true e = rw (e, restLine) (data-is f)
       go false e = rw (e, restLine) (instruction-is s (insertAll ns st))
 
 -- step 4
-label-line : (i : ℕ) (s : Text) (st : State)
+label-line : (i : ℕ) (s : Text) (st : State) → Free s
     → cond (Rust.contains s (bytes ":")) (continue (handle-label (splitn-2 58 s) st)) (continue (handle-rest s st)) ≡ perform (labelLine i s) st
 unfolding labelLine handle-label bytes perform performTask afterLabel is-empty insertAll isCut cutTexts
-label-line i s st = rw (contains-one 58 s, splitn-is 58 s) (go (firstCut 58 s) refl)
+label-line i s st f = rw (contains-one 58 s, splitn-is 58 s) (go (firstCut 58 s) refl (free-cut 58 f))
   where
-    past : (l r : Text) (j : ℕ) (q : Text)
+    past : (l r : Text) (j : ℕ) (q : Text) → Free q
         → continue (cond (is-empty q) (insert-label (trim l) st) (handle-rest q (insert-label (trim l) st))) ≡ perform (afterLabel (name i (trim l)) j q) st
-    past l r j [] = refl
-    past l r j (b ∷ q) = rest-is (name i (trim l) ∷ []) j (b ∷ q) st
+    past l r j [] h = refl
+    past l r j (b ∷ q) h = rest-is (name i (trim l) ∷ []) j (b ∷ q) st h
 
-    go : (k : Cut) → firstCut 58 s ≡ k → cond (isCut k) (continue (handle-label (cutTexts k s) st)) (continue (handle-rest s st)) ≡ perform (labelLine i s) st
-    go uncut e = rw (e, labelLine) (rest-is [] i s st)
-    go (around l r) e = rw (e, labelLine, trim-is l, trim-is r) (past l r (i + length l + 1 + leading r) (trim r))
+    go : (k : Cut) → firstCut 58 s ≡ k → FreeCut k → cond (isCut k) (continue (handle-label (cutTexts k s) st)) (continue (handle-rest s st)) ≡ perform (labelLine i s) st
+    go uncut e h = rw (e, labelLine) (rest-is [] i s st f)
+    go (around l r) e h = rw (e, labelLine, trim-is l, trim-is r) (past l r (i + length l + 1 + leading r) (trim r) (free-trim (free-right h)))
 
 -- steps 1 to 3, and so all of them
 semicolon : (b : ℕ) (t : Text) → starts-with (b ∷ t) (bytes ";") ≡ eqb b 59
 unfolding starts-with bytes
 semicolon b t = and-true (eqb 59 b) ∙ eqb-comm 59 b
 
-pub body-is : (s : Text) (st : State) → body s st ≡ perform (lineOf s) st
+pub body-is : (s : Text) → Free s → (st : State) → body s st ≡ perform (lineOf s) st
 unfolding body lineOf perform performTask insertAll is-empty trimmedLine
-body-is s st = rw (trim-is s) (go (leading s) (trim s))
+body-is s f st = rw (trim-is s) (go (leading s) (trim s) (free-trim f))
   where
-    go : (i : ℕ) (t : Text)
+    go : (i : ℕ) (t : Text) → Free t
         → cond (is-empty t || starts-with t (bytes ";")) (continue st)
         (cond (starts-with (to-uppercase t) (bytes "END")) (break st)
         (cond (starts-with (to-uppercase t) (bytes "ORG")) (continue (handle-org (parse-org-directive t) st))
         (cond (Rust.contains t (bytes ":")) (continue (handle-label (splitn-2 58 t) st)) (continue (handle-rest t st)))))
         ≡ perform (trimmedLine i t) st
-    go i [] = refl
-    go i (b ∷ t) =
+    go i [] h = refl
+    go i (b ∷ t) h =
         rw (
           semicolon b t,
           uppercase-is (b ∷ t),
@@ -296,7 +309,7 @@ body-is s st = rw (trim-is s) (go (leading s) (trim s))
           starts-is (bytes "ORG") (uppers (b ∷ t)),
           org-number (b ∷ t),
           org-is (numberIn (nth 1 (pieces (b ∷ t)))) st,
-          label-line i (b ∷ t) st,
+          label-line i (b ∷ t) st h,
         )
         (on (eqb b 59) refl (starts (bytes "END") (uppers (b ∷ t))) refl (starts (bytes "ORG") (uppers (b ∷ t))) refl)
       where
@@ -311,4 +324,4 @@ body-is s st = rw (trim-is s) (go (leading s) (trim s))
 
 pub lines-are-the-rusts : LinesAreTheRusts
 unfolding LinesAreTheRusts
-lines-are-the-rusts = body-is
+lines-are-the-rusts s e st = body-is s (free-of s e) st

@@ -22,6 +22,7 @@ use Rattle.promises.proofs.RustText.{same-eq, equals-is}
 use Rattle.promises.proofs.RustOperand.{Agrees}
 use Rattle.promises.proofs.RustValue.{TaskLow, task-low, instruction-low}
 use Rattle.promises.proofs.RustLine.{body-is}
+use Rattle.promises.proofs.RustBrackets.{Free, AllFree, one-more}
 
 -- the label recorded last is found
 find-recorded : (q : Text) (x : Label) (t : Table) → find q (recorded x t) ≡ cond (same q (x .name)) (some (x .address)) (find q t)
@@ -216,19 +217,25 @@ combine r a low h s s″ d p e =
       low = cons (record { address = low; value = h }) (e .low);
     }
 
+first-free : {p : Text} {ps : List Text} → AllFree (p ∷ ps) → Free p
+first-free (one-more f g) = f
+
+others-free : {p : Text} {ps : List Text} → AllFree (p ∷ ps) → AllFree ps
+others-free (one-more f g) = g
+
 abbrev pub texts : List SourceLine → List Text
 texts ls = map (λ (l : SourceLine). l .text) ls
 
-pub pass-ends : (ls : List SourceLine) (a : ℕ) → a < 2 ^ 30 → (t : Table) (s : State) → s .current-address ≡ a → Agrees (s .labels) t
+pub pass-ends : (ls : List SourceLine) → AllFree (texts ls) → (a : ℕ) → a < 2 ^ 30 → (t : Table) (s : State) → s .current-address ≡ a → Agrees (s .labels) t
     → (p : Pass) → firstPass 0 a t ls ≡ accepted p → Ended s (first-pass (texts ls) s) p
 unfolding firstPassBy first-pass perform performTask insertAll andThen putting
-pass-ends [] a low t s c g p = done t s p g
-pass-ends (l ∷ ls) a low t s c g p =
+pass-ends [] free a low t s c g p = done t s p g
+pass-ends (l ∷ ls) free a low t s c g p =
     pass-line size 0 a t l ls (λ r. r ≡ accepted p → Ended s (first-pass (l .text ∷ texts ls) s) p)
-    (λ k h. rw (first-pass, body-is (l .text) s, k, end-unlabelled (l .text) k) (done t s p g h))
+    (λ k h. rw (first-pass, body-is (l .text) (first-free free) s, k, end-unlabelled (l .text) k) (done t s p g h))
     (λ k o h. absurd (never 6 (l .number) p h))
     (λ t′ k o v h. absurd (never 5 (l .number) p h))
-    (λ t′ k o v. on t′ (there k) (firstPass 0 after t′ ls) refl (pass-ends ls after v t′ (there k .state) (there k .current)
+    (λ t′ k o v. on t′ (there k) (firstPass 0 after t′ ls) refl (pass-ends ls (others-free free) after v t′ (there k .state) (there k .current)
     (rw (there k .labels) (recordAll-agrees l a low (lineOf (l .text) .names) t t′ s c g o))))
   where
     after : ℕ
@@ -242,5 +249,5 @@ pass-ends (l ∷ ls) a low t s c g p =
         → andThen r (putting a (lineOf (l .text) .task)) ≡ accepted p → Ended s (first-pass (l .text ∷ texts ls) s) p
     on t′ d (refused n q) f ih h = absurd (never n q p h)
     on t′ d (accepted q) f ih h =
-        rw (first-pass, body-is (l .text) s, d .flows, ← accepted-inj _ p h)
+        rw (first-pass, body-is (l .text) (first-free free) s, d .flows, ← accepted-inj _ p h)
         (combine (lineOf (l .text)) a low (task-low (l .text)) s (first-pass (texts ls) (d .state)) d q (ih q f))

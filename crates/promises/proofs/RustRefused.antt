@@ -2,6 +2,7 @@
 use Prim.Native.Nat.{ℕ, suc, _+_, _≤_, _<_}
 use mathlib.Core.Path.{_≡_, refl, ap, _∙_}
 use mathlib.Core.Logic.{_≢_}
+use mathlib.Core.Bool.{false}
 use mathlib.Core.Option.{Option, none, some}
 use mathlib.Core.List.{List, [], _∷_, map}
 use native.Mathlib.Omega.{arith}
@@ -19,7 +20,7 @@ use Rattle.promises.specs.Demand1.{SourceCondition, source-over, byte-ov
 use Rattle.promises.specs.RustStr.{split}
 use Rattle.promises.specs.RustAssembler.{State, continue, break, body}
 use Rattle.promises.specs.RustAssembler as Rust
-use Rattle.promises.specs.Demand2Rust.{withoutMark, performTask, insertAll, perform, initial, Looped, begun, further, keys, WithinLimits, WithinIsAccepted, AcceptedIsWithin, RustCondition, of-source, address-over, labels-over, atZero, RefusedByTheRust, ListIsTheRusts}
+use Rattle.promises.specs.Demand2Rust.{holdsBracket, withoutMark, performTask, insertAll, perform, initial, Looped, begun, further, keys, WithinLimits, WithinIsAccepted, AcceptedIsWithin, RustCondition, of-source, address-over, labels-over, atZero, RefusedByTheRust, ListIsTheRusts}
 use Rattle.promises.proofs.Compared.{clash, Compared, less, more, equal, compared}
 use Rattle.promises.proofs.Stages.{isChecked, not-checked, checked-by, apart, are-apart, Runs, done, and-then, refuses-exactly, none-holds}
 use Rattle.promises.proofs.Demand1Lines.{line-at, no-line, Lines, Either, six, five, either, Fine, fine-next, Through, stop-labels, stop-address, clear, putting-through, From}
@@ -30,11 +31,12 @@ use Rattle.promises.proofs.Tasks.{pass-line}
 use Rattle.promises.proofs.RustText.{split-is}
 use Rattle.promises.proofs.RustValue.{task-low}
 use Rattle.promises.proofs.RustLine.{body-is}
+use Rattle.promises.proofs.RustBrackets.{AllFree, free-of, free-lines, free-at}
 use Rattle.promises.proofs.RustPass.{Performed, performed}
 use Rattle.promises.proofs.RustLabels.{Level, Inserted, overflow, fits, inserted}
 use Rattle.promises.proofs.Demand2Rust.{empty-agrees, list-is-the-rusts}
 
-module _ (s : Text) where
+module _ (s : Text) (free : AllFree (split 10 s)) where
   abbrev C : ℕ → ℕ → Type 0
   C = RustCondition s
 
@@ -114,14 +116,14 @@ module _ (s : Text) where
     there k = performed (lineOf l) a (al .low) st (al .current) k (task-low l)
 
     looped-on : (d : Performed (lineOf l) a st) → Looped s (suc j) (d .state)
-    looped-on d = further (al .looped) is (body-is l st ∙ d .flows)
+    looped-on d = further (al .looped) is (body-is l (free-at free j is) st ∙ d .flows)
 
     labels-of : (d : Performed (lineOf l) a st) → Inserted (d .state .labels) (recordAll here a (lineOf l .names) t)
     labels-of d = rw (d .labels) (inserted here a (al .low) (lineOf l .names) t st (al .current) (al .level))
 
     breaks : lineOf l .task ≡ end → body l st ≡ break (insertAll (lineOf l .names) st)
     unfolding perform performTask
-    breaks k = body-is l st ∙ rw k
+    breaks k = body-is l (free-at free j is) st ∙ rw k
 
     level-after : (d : Performed (lineOf l) a st) (t′ : Table) → recordAll here a (lineOf l .names) t ≡ some t′ → Level (d .state .labels) t′
     level-after d t′ o = go t′ (rw o at (labels-of d))
@@ -202,9 +204,13 @@ module _ (s : Text) where
   unfolding assembleBy passAtBy refuseIf
   answered = and-then C [] (passAt 0 s) (encoded encode) (checks-run s C (λ n p. of-source) of-checks _ through) (λ p e. done)
 
+-- the lines of a source without `[`
+lines-free : (s : Text) → holdsBracket s ≡ false → AllFree (split 10 s)
+lines-free s b = rw (split-is 10 s) (free-lines (free-of s b))
+
 pub refused-by-the-rust : RefusedByTheRust
 unfolding RefusedByTheRust apart
-refused-by-the-rust s = refuses-exactly (RustCondition s) atZero (are-apart atZero refl) (known s) (assemble 0 s) (answered s)
+refused-by-the-rust s b = refuses-exactly (RustCondition s) atZero (are-apart atZero refl) (known s (lines-free s b)) (assemble 0 s) (answered s (lines-free s b))
 
 -- within the limits no condition holds
 none-within : (s : Text) → WithinLimits s → (n p : ℕ) → ¬ RustCondition s n p
@@ -216,11 +222,11 @@ none-within s w n p (labels-over {j = j} {st = st} r h) = omega (arith, w .label
 
 pub within-is-accepted : WithinIsAccepted
 unfolding WithinIsAccepted RefusedByTheRust ListIsTheRusts
-within-is-accepted s w = go (assemble 0 s) refl
+within-is-accepted s b w = go (assemble 0 s) refl
   where
     go : (r : Answer (List Place)) → assemble 0 s ≡ r → (l : List Place) × (assemble 0 s ≡ accepted l) × (map withoutMark l ≡ Rust.assemble (split 10 s))
-    go (refused n p) e = absurd (none-within s w n p (refused-by-the-rust s n p .0 e .0))
-    go (accepted l) e = (l, e, list-is-the-rusts s l e)
+    go (refused n p) e = absurd (none-within s w n p (refused-by-the-rust s b n p .0 e .0))
+    go (accepted l) e = (l, e, list-is-the-rusts s b l e)
 
 -- and what is accepted is within the limits
 not-above : (a b : ℕ) → ¬ (a < b) → b ≤ a
@@ -237,9 +243,9 @@ none-high s o (nowhere h) e i k = let g = not-above 127 (getD s i 0) (h i k) in 
 
 pub accepted-is-within : AcceptedIsWithin
 unfolding AcceptedIsWithin apart
-accepted-is-within s l e =
+accepted-is-within s b l e =
     let c = accepts size encode 0 s l e .through in
-    let clear = none-holds (RustCondition s) atZero (are-apart atZero refl) (known s) l (assemble 0 s) e (answered s) in
+    let clear = none-holds (RustCondition s) atZero (are-apart atZero refl) (known s (lines-free s b)) l (assemble 0 s) e (answered s (lines-free s b)) in
     record {
       size = ltb-false maxSource (length s) (c .size);
       ascii = none-high s (firstHigh 0 s) (high-found s) (c .ascii);

@@ -1,13 +1,16 @@
 -- A value that a line of data has is below 2^32, and no line takes more than 4 bytes, by paper 01's reading of a line. Assumes nothing.
 use Prim.Native.Nat.{ℕ, _^_, _≤_, _<_}
+use mathlib.Core.Path.{_≡_, refl}
 use mathlib.Core.Bool.{Bool, true, false, _||_, cond}
 use mathlib.Core.Option.{Option, none, some}
 use mathlib.Core.List.{List, [], _∷_}
 use native.Mathlib.Omega.{arith}
-use Rattle.rules.specs.Text.{Text, bytes, uppers, pieces, contains, nth, lastText}
-use Rattle.rules.specs.Number.{valueOf}
-use Rattle.rules.specs.Line.{Instruction, Task, skipped, end, org, noOrg, labelOnly, instruction, value, space, Line, readingIn, numberIn, dataSize, dataValue, sized, dataTask, orgTask, lineOf, isLong, instructionSize, size}
+use Rattle.rules.specs.Text.{Text, bytes, uppers, pieces, starts, contains, nth, lastText}
+use Rattle.rules.specs.Number.{Reading, read, failed, valueOf, reading32}
+use Rattle.rules.specs.Sum.{sumReading}
+use Rattle.rules.specs.Line.{Instruction, Task, skipped, end, org, noOrg, labelOnly, instruction, value, space, Line, valueReading, valueReadingIn, dataSize, dataValue, sized, dataTask, orgTask, lineOf, isLong, instructionSize, size}
 use Rattle.rules.proofs.Readings.{All, reading32-all}
+use Rattle.promises.proofs.Sums.{sum-low}
 use Rattle.promises.proofs.Shapes.{Shape, skips, ends, moves, names, codes, holds, shape}
 
 abbrev Value : ℕ → Type 0
@@ -37,15 +40,28 @@ data-size u =
     size-low (contains (bytes "DC.L") u || contains (bytes "DS.L") u) (contains (bytes "DC.W") u || contains (bytes "DS.W") u)
     (contains (bytes "DC.B") u || contains (bytes "DS.B") u)
 
+-- a sum's value, and so DC's
+value-all : (p : Text) → All Value (valueOf (valueReading p))
+unfolding valueReading valueOf
+value-all p = go (starts (bytes "[") p)
+  where
+    of-sum : (r : Reading ℕ) → sumReading p ≡ r → All Value (valueOf r)
+    of-sum (read v) e = sum-low p v e
+    of-sum (failed x) e = tt
+
+    go : (x : Bool) → All Value (valueOf (cond x (sumReading p) (reading32 p)))
+    go true = of-sum (sumReading p) refl
+    go false = reading32-all p
+
 data-value : (u d : Text) → All Value (dataValue u d)
-unfolding dataValue numberIn readingIn valueOf
+unfolding dataValue valueReadingIn valueOf
 data-value u d = go (contains (bytes "DC.") u)
   where
-    piece : (o : Option Text) → All Value (numberIn o)
+    piece : (o : Option Text) → All Value (valueOf (valueReadingIn o))
     piece none = tt
-    piece (some p) = reading32-all p
+    piece (some p) = value-all p
 
-    go : (x : Bool) → All Value (cond x (numberIn (nth 1 (pieces d))) none)
+    go : (x : Bool) → All Value (cond x (valueOf (valueReadingIn (nth 1 (pieces d)))) none)
     go true = piece (nth 1 (pieces d))
     go false = tt
 

@@ -6,13 +6,17 @@ use mathlib.Core.Bool.{Bool, true, false, cond}
 use mathlib.Core.Option.{Option, none, some}
 use native.Mathlib.Omega.{arith}
 use lib.Dec.{leb, ltb}
-use lib.IntN.{ℤ, pos, negsuc, subℕ, _+ℤ_, _-ℤ_, _*ℤ_}
+use lib.IntN.{ℤ, pos, negsuc, subℕ, _-ℤ_}
 use borrow.Author.Tests.{ltb-true, ltb-false, lt-ltb, le-ltb, leb-true, leb-false}
-use Rattle.rules.specs.Text.{Text, bytes, onFirst, cutWhere, after, firstText}
-use Rattle.rules.specs.Number.{digitValue, badDigit, outOfRange, Reading, read, failed, digits, someDigits, below, hexTail, byPrefix}
+use Rattle.rules.specs.Text.{Text, bytes, blank, upper, uppers, trimStart, keepEnd, trimEnd, trim, onFirst, cutWhere, dropEmpty, pieces, joinMore, joined, inFront, firstCut, starts, contains, after, nth, firstText}
+use Rattle.rules.specs.Number.{digitValue, badDigit, outOfRange, Reading, read, failed, digits, someDigits, ranged, below, without, unsignedReading, hexTail, byPrefix, reading32}
 use Rattle.rules.specs.Sum.{Expression, numeral, group, sum, difference, product, andParse, applied, chainBy, chain, series, isTimes, isSign, isOperator, plainNumber, asNumber, numberFirst, parenClosed, atomOf, ended, bracketed, stepped, sumStep, differenceStep, productStep, exactValue, ranging, evaluated, sumReading}
-use Rattle.promises.specs.Sums.{Derives, depth, wholeValue, Fits, InRange, MeansSum, has-value, leaves-range, no-sum, SumsMean, samplesOfSums, SumExamples}
+use Rattle.rules.specs.Line.{readingIn, valueReading, valueReadingIn, isDirective}
+use Rattle.rules.specs.Directive.{pieceDirective, directiveOf, dataReading, afterColon, trimmedReading, lineReading}
+use Rattle.promises.specs.Readings.{MeansPiece, missing, present}
+use Rattle.promises.specs.Sums.{Derives, depth, wholeValue, Fits, InRange, MeansSum, has-value, leaves-range, no-sum, MeansValue, bracket-first, no-bracket-first, SumsMean, samplesOfSums, samplesOfSumLines, SumExamples}
 use Rattle.promises.proofs.Compared.{clash}
+use Rattle.promises.proofs.Readings.{readings-mean}
 use Rattle.promises.proofs.SumRead.{bracketed-sound}
 use Rattle.promises.proofs.SumDerived.{bracketed-complete, one-expression}
 
@@ -127,10 +131,36 @@ only t r (no-sum n) = go (bracketed t) refl
     go none e = refl
     go (some a) e = let k = bracketed-sound t a e in absurd (n a (k .derives) (k .deep))
 
+-- ---- DC's value
+value-means : (t : Text) → MeansValue t (valueReading t)
+unfolding valueReading
+value-means t = go (starts (bytes "[") t) refl
+  where
+    go : (x : Bool) → starts (bytes "[") t ≡ x → MeansValue t (cond x (sumReading t) (reading32 t))
+    go true e = bracket-first e (means t)
+    go false e = no-bracket-first e (readings-mean .of-32-bits t (reading32 t) .0 refl)
+
+value-only : (t : Text) (r : Reading ℕ) → MeansValue t r → valueReading t ≡ r
+unfolding valueReading
+value-only t r (bracket-first e m) = rw e (only t r m)
+value-only t r (no-bracket-first e m) = rw e (readings-mean .of-32-bits t r .1 m)
+
+piece-means : (o : Option Text) → MeansPiece MeansValue o (valueReadingIn o)
+unfolding valueReadingIn
+piece-means none = missing
+piece-means (some t) = present (value-means t)
+
+piece-only : (o : Option Text) (r : Reading ℕ) → MeansPiece MeansValue o r → valueReadingIn o ≡ r
+unfolding valueReadingIn
+piece-only o r missing = refl
+piece-only o r (present {s} m) = value-only s r m
+
 pub sums-mean : SumsMean
 sums-mean =
     record {
       of-a-sum = λ t r. (λ e. subst (MeansSum t) e (means t), only t r);
+      of-a-value = λ t r. (λ e. subst (MeansValue t) e (value-means t), value-only t r);
+      of-a-piece = λ o r. (λ e. subst (MeansPiece MeansValue o) e (piece-means o), piece-only o r);
       one-expression = one-expression;
     }
 
@@ -149,5 +179,5 @@ sum-low t v e = go (bracketed t) e
 
 -- ---- the examples
 pub sum-examples : SumExamples
-unfolding samplesOfSums bytes onFirst cutWhere after firstText digitValue below digits someDigits hexTail byPrefix andParse applied chainBy chain series isTimes isSign isOperator plainNumber asNumber numberFirst parenClosed atomOf ended bracketed stepped sumStep differenceStep productStep exactValue ranging evaluated sumReading
-sum-examples = record { of-sums = refl }
+unfolding samplesOfSums samplesOfSumLines bytes blank upper uppers trimStart keepEnd trimEnd trim onFirst cutWhere dropEmpty pieces joinMore joined inFront firstCut starts contains after nth firstText digitValue below digits someDigits hexTail byPrefix andParse applied chainBy chain series isTimes isSign isOperator plainNumber asNumber numberFirst parenClosed atomOf ended bracketed stepped sumStep differenceStep productStep exactValue ranging evaluated sumReading without ranged unsignedReading reading32 readingIn valueReading valueReadingIn isDirective pieceDirective directiveOf dataReading afterColon trimmedReading lineReading
+sum-examples = record { of-sums = refl; of-lines = refl }

@@ -1,10 +1,12 @@
 -- Demand 2, the Rust: "for all ASCII sources within 01's limits every list is .. at base 0 that of the Rust `assemble`". The limits
--- are those of the source and of the Rust's own states, so that which sources are accepted does not rest on the rules. Assumes nothing.
+-- are those of the source and of the Rust's own states, so that which sources are accepted does not rest on the rules. Since W-211 the
+-- comparison is over sources without `[`. Assumes nothing.
 use Prim.Native.Nat.{ℕ, suc, _≤_, _<_}
 use mathlib.Core.Path.{_≡_}
-use mathlib.Core.Bool.{cond}
+use mathlib.Core.Bool.{Bool, false, _||_, cond}
 use mathlib.Core.Option.{none, some}
 use mathlib.Core.List.{List, [], _∷_, map}
+use lib.Dec.{eqb}
 use lib.ListN.{length, getD, getElem?}
 use Rattle.rules.specs.Limits.{maxSource, maxLines, maxLabels, addressLimit}
 use Rattle.rules.specs.Text.{Text}
@@ -16,6 +18,11 @@ use Rattle.promises.specs.Demand1.{SourceCondition}
 use Rattle.promises.specs.RustStr.{is-some, split, add-u32, HashMap, look-up}
 use Rattle.promises.specs.RustAssembler.{AssemblyInstruction, State, Flow, continue, break, set-address, insert-label, push-value, handle-instruction, handle-org, body}
 use Rattle.promises.specs.RustAssembler as Rust
+
+-- W-211: "Sources holding `[` leave the comparison with the Rust"
+unfoldable pub holdsBracket : Text → Bool
+holdsBracket [] = false
+holdsBracket (b ∷ s) = eqb b 91 || holdsBracket s
 
 -- what the Rust's loop does with a line of which the rules read so much: its task, its labels, the line
 abbrev pub instAt : ℕ → Said → AssemblyInstruction
@@ -40,7 +47,7 @@ perform r s = performTask (r .task) (insertAll (r .names) s)
 
 -- the rules read in each line what the Rust's loop does with it, in any state
 unfoldable pub LinesAreTheRusts : Type 0
-LinesAreTheRusts = (l : Text) (s : State) → body l s ≡ perform (lineOf l) s
+LinesAreTheRusts = (l : Text) → holdsBracket l ≡ false → (s : State) → body l s ≡ perform (lineOf l) s
 
 -- the state in which the Rust's loop begins
 abbrev pub initial : State
@@ -71,15 +78,15 @@ withoutMark p = (p .address, p .word)
 -- for every source that is accepted at base 0, the list, marks left out, is what the Rust makes of `split('\n')`. The Rust's sums
 -- are those of `u32` and `i32`, the rules' are unbounded: no list shows one that wraps
 unfoldable pub ListIsTheRusts : Type 0
-ListIsTheRusts = (s : Text) (l : List Place) → assemble 0 s ≡ accepted l → map withoutMark l ≡ Rust.assemble (split 10 s)
+ListIsTheRusts = (s : Text) → holdsBracket s ≡ false → (l : List Place) → assemble 0 s ≡ accepted l → map withoutMark l ≡ Rust.assemble (split 10 s)
 
 -- and every source within the limits is accepted
 unfoldable pub WithinIsAccepted : Type 0
-WithinIsAccepted = (s : Text) → WithinLimits s → (l : List Place) × (assemble 0 s ≡ accepted l) × (map withoutMark l ≡ Rust.assemble (split 10 s))
+WithinIsAccepted = (s : Text) → holdsBracket s ≡ false → WithinLimits s → (l : List Place) × (assemble 0 s ≡ accepted l) × (map withoutMark l ≡ Rust.assemble (split 10 s))
 
 -- and no other
 unfoldable pub AcceptedIsWithin : Type 0
-AcceptedIsWithin = (s : Text) (l : List Place) → assemble 0 s ≡ accepted l → WithinLimits s
+AcceptedIsWithin = (s : Text) → holdsBracket s ≡ false → (l : List Place) → assemble 0 s ≡ accepted l → WithinLimits s
 
 -- refusals 1 to 6 at base 0 (4 can't come), 5 and 6 by the Rust's own states
 pub data RustCondition (s : Text) : ℕ → ℕ → Type 0 where
@@ -94,4 +101,4 @@ atZero = all 1 ∷ all 2 ∷ all 3 ∷ byLine (6 ∷ 5 ∷ []) ∷ []
 
 -- at base 0 a source is refused exactly by the first of these
 unfoldable pub RefusedByTheRust : Type 0
-RefusedByTheRust = (s : Text) → RefusesExactly atZero (RustCondition s) (assemble 0 s)
+RefusedByTheRust = (s : Text) → holdsBracket s ≡ false → RefusesExactly atZero (RustCondition s) (assemble 0 s)

@@ -3,12 +3,16 @@
 use Prim.Native.Nat.{ℕ, suc, _+_, _^_, _<_, _≤_, max}
 use mathlib.Core.Path.{_≡_}
 use mathlib.Core.Logic.{_≢_}
+use mathlib.Core.Bool.{true, false}
+use mathlib.Core.Option.{Option, none, some}
 use mathlib.Core.List.{List, [], _∷_, _++_}
 use lib.IntN.{ℤ, pos, _+ℤ_, _-ℤ_, _*ℤ_}
-use Rattle.rules.specs.Text.{Text, bytes}
-use Rattle.rules.specs.Number.{badDigit, outOfRange, Reading, read, failed}
+use Rattle.rules.specs.Text.{Text, bytes, starts}
+use Rattle.rules.specs.Number.{noDigits, badDigit, outOfRange, Reading, read, failed}
 use Rattle.rules.specs.Sum.{Expression, numeral, group, sum, difference, product, sumReading}
-use Rattle.promises.specs.Readings.{Prefix, BadDigit, worth, Exactly, Sample, _reads_, SamplesHold}
+use Rattle.rules.specs.Line.{valueReading, valueReadingIn}
+use Rattle.rules.specs.Directive.{lineReading}
+use Rattle.promises.specs.Readings.{Prefix, BadDigit, worth, Means32, MeansPiece, Exactly, Sample, _reads_, SamplesHold}
 
 -- ---- which texts are sums
 -- a text derives an expression: a sum of products, from the left; a product of atoms, from the left; a number "as in DC, without a
@@ -71,9 +75,16 @@ pub data MeansSum (t : Text) : Reading ℕ → Type 0 where
   leaves-range : {a : Expression} → Derives t a → depth a ≤ 16 → ¬ InRange a → MeansSum t (failed outOfRange)
   no-sum : ((a : Expression) → Derives t a → ¬ (depth a ≤ 16)) → MeansSum t (failed badDigit)
 
--- a sum reads exactly so; and the grammar is unambiguous: a text derives one expression at most, and so it has one value
+-- ---- DC's value: "may be a sum in square brackets", and is one if its first byte is `[`; else it is a number, as W-204 has it
+pub data MeansValue (t : Text) (r : Reading ℕ) : Type 0 where
+  bracket-first : starts (bytes "[") t ≡ true → MeansSum t r → MeansValue t r
+  no-bracket-first : starts (bytes "[") t ≡ false → Means32 t r → MeansValue t r
+
+-- a sum, DC's value and DC's piece read exactly so; and the grammar is unambiguous: a text derives one expression at most, and so it has one value
 pub record SumsMean : Type 0 where
   pub of-a-sum : Exactly sumReading MeansSum
+  pub of-a-value : Exactly valueReading MeansValue
+  pub of-a-piece : Exactly valueReadingIn (MeansPiece MeansValue)
   pub one-expression : (t : Text) (a b : Expression) → Derives t a → Derives t b → a ≡ b
 
 -- ---- examples: texts, and what they read as
@@ -93,5 +104,12 @@ samplesOfSums =
     ∷ bytes "[((((((((((((((((1))))))))))))))))]" reads read 1 ∷ bytes "[(((((((((((((((((1)))))))))))))))))]" reads bad
     ∷ bytes "[(1)+(1)+(1)+(1)+(1)+(1)+(1)+(1)+(1)+(1)+(1)+(1)+(1)+(1)+(1)+(1)+(1)]" reads read 17 ∷ []
 
+-- "in DC" alone, one piece: a blank cuts it, and a colon the line
+unfoldable pub samplesOfSumLines : List (Sample (Option (Reading ℕ)))
+samplesOfSumLines =
+    bytes "DC.L [2+3*4]" reads some (read 14) ∷ bytes "x: dc.b [(2+3)*4] ; note" reads some (read 20) ∷ bytes "LIM DC.W [1-2+3]" reads some far
+    ∷ bytes "DC.L [1 +2]" reads some bad ∷ bytes "X: DC.L [1:2]" reads some (failed noDigits) ∷ bytes "ORG [2]" reads some bad ∷ bytes "DS.L [5]" reads none ∷ []
+
 pub record SumExamples : Type 0 where
   pub of-sums : SamplesHold sumReading samplesOfSums
+  pub of-lines : SamplesHold lineReading samplesOfSumLines
