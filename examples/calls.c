@@ -53,6 +53,9 @@ static void line_number(void)
         {"DC.W 3O0", LAGVETTU_BAD_DIGIT, 0},
         {"DC.B 4294967296", LAGVETTU_OUT_OF_RANGE, 0},
         {"MOVEQ #3O,D1", LAGVETTU_NO_NUMBER, 0},
+        {"DC.L [2+3*4]", LAGVETTU_READ, 14},
+        {"DC.L [(2+3)*4]", LAGVETTU_READ, 20},
+        {"DC.L [1-2+3]", LAGVETTU_OUT_OF_RANGE, 0},
     };
     for (size_t i = 0; i < sizeof examples / sizeof *examples; i++) {
         uint32_t value = 1;

@@ -65,8 +65,9 @@ enum lagvettu_refusal {
 enum lagvettu_reading {
     LAGVETTU_READ = 0,
     LAGVETTU_NO_DIGITS = 1,     /* nothing after the prefix and an allowed sign, or no piece at all */
-    LAGVETTU_BAD_DIGIT = 2,     /* a byte, however late, that is no digit of the radix; a sign that is not allowed too */
-    LAGVETTU_OUT_OF_RANGE = 3,  /* the value does not fit into 32 bits */
+    LAGVETTU_BAD_DIGIT = 2,     /* a byte, however late, that is no digit of the radix; a sign that is not allowed too; a sum that is
+                                   malformed or nests deeper than LAGVETTU_MAX_NESTING */
+    LAGVETTU_OUT_OF_RANGE = 3,  /* the value does not fit into 32 bits; in a sum, a number or a step */
     LAGVETTU_NO_NUMBER = 4      /* the line reads no number: it is no ORG, and has no `DC.` */
 };
 
@@ -90,6 +91,9 @@ enum lagvettu_verdict {
 
 /* The most labels that a source has. */
 #define LAGVETTU_MAX_LABELS 256
+
+/* No sum has more parentheses open at once. */
+#define LAGVETTU_MAX_NESTING 16
 
 /* The most places that a list has: three slices of this length are never refused as too short. */
 #define LAGVETTU_MAX_PLACES 8192
@@ -176,6 +180,11 @@ uint8_t lagvettu_symbols(const uint8_t *source, size_t source_length,
  *
  *     "X: DC.L $10": LAGVETTU_READ, 16.   "ORG": LAGVETTU_NO_DIGITS.   "DC.W 3O0": LAGVETTU_BAD_DIGIT.
  *     "DC.B 4294967296": LAGVETTU_OUT_OF_RANGE.   "MOVEQ #3O,D1": LAGVETTU_NO_NUMBER.
+ *
+ * In the source of every call the value of DC may be a sum in square brackets, without blanks: numbers without a sign, `*` before `+`
+ * and `-`, equal rank from the left, and parentheses.
+ *
+ *     "DC.L [2+3*4]": LAGVETTU_READ, 14.   "DC.L [(2+3)*4]": LAGVETTU_READ, 20.   "DC.L [1-2+3]": LAGVETTU_OUT_OF_RANGE.
  */
 uint8_t lagvettu_line_number(const uint8_t *line, size_t line_length, uint32_t *value);
 
