@@ -60,6 +60,7 @@ extern "C" {
         distance: *mut u32,
         place: *mut usize,
     ) -> u8;
+    fn lagvettu_line_number(line: *const u8, line_len: usize, value: *mut u32) -> u8;
     fn lagvettu_explain(source: *const u8, source_len: usize, base: u32, line: usize, verdict: *mut u8, place: *mut usize) -> u8;
     fn lagvettu_assemble_branches(
         names: *const u8,
@@ -237,6 +238,13 @@ pub struct Explained {
     pub number: u8,
     pub verdict: u8,
     pub place: usize,
+}
+
+/// What the number of a line said, and its value.
+pub fn line_number(line: &[u8]) -> (u8, u32) {
+    let mut value = u32::MAX;
+    let number = unsafe { lagvettu_line_number(line.as_ptr(), line.len(), &mut value) };
+    (number, value)
 }
 
 pub fn explain(source: &[u8], base: u32, line: usize) -> Explained {

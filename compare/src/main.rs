@@ -11,6 +11,7 @@
 //!   compare lands N [SEED]          N random sources: each branch word to a label in reach leads there, also after moves
 //!   compare branches N [SEED]       N random branch tables and scripts, against a second reading of the table and the original
 //!   compare gas N [SEED]            N random scripts of the manual's call, and N of 01's listed forms, against GNU as and ld
+//!   compare sums N [SEED]           N random sums, good and damaged, against Python's own parser and whole numbers
 mod branches;
 #[cfg(linked)]
 mod explain;
@@ -39,6 +40,8 @@ mod requests;
 mod silence;
 #[cfg(linked)]
 mod speed;
+#[cfg(linked)]
+mod sums;
 #[cfg(linked)]
 mod symbols;
 #[cfg(linked)]
@@ -70,6 +73,8 @@ fn main() {
         Some("branches") => under::compare(number(2, 100_000) as usize, number(3, 20261123)),
         #[cfg(linked)]
         Some("gas") => gas::compare(number(2, 1_000) as usize, number(3, 20261120)),
-        _ => eprintln!("usage: compare record FILE [COUNT] | lists N [SEED] | moves N [SEED] | nearest N [SEED] | symbols N [SEED] | explain N [SEED] | gas N [SEED] | lands N [SEED] | branches N [SEED] | speed; all but record want the static library: see ./run"),
+        #[cfg(linked)]
+        Some("sums") => sums::compare(number(2, 100_000) as usize, number(3, 20261122)),
+        _ => eprintln!("usage: compare record FILE [COUNT] | lists N [SEED] | moves N [SEED] | nearest N [SEED] | symbols N [SEED] | explain N [SEED] | gas N [SEED] | lands N [SEED] | branches N [SEED] | sums N [SEED] | speed; all but record want the static library: see ./run"),
     }
 }

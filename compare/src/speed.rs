@@ -174,6 +174,28 @@ fn manual_table() {
     }
 }
 
+/// Sums (W-211): a line of 32 KB takes about twice as long as one of 16 KB.
+fn sums_table() {
+    println!("| one line of sums | 16 KB | 32 KB | times as long |");
+    println!("|---|---|---|---|");
+    let (mut x, mut y) = (Slices::old([8192; 3]), Slices::old([8192; 3]));
+    for (name, item) in [("chained", "1+2*3-"), ("nested", "((((((((((((((((1))))))))))))))))+")] {
+        let line = |n: usize| format!("DC.L [{}1]", item.repeat((n - 8) / item.len()));
+        let (half, whole) = (line(16_384), line(32_768));
+        for s in [&half, &whole] {
+            assert!(assemble(s.as_bytes(), 0, &mut y) == (0, 2), "{name}: the sum is read");
+        }
+        let short = || {
+            black_box(assemble(black_box(half.as_bytes()), 0, &mut x));
+        };
+        let long = || {
+            black_box(assemble(black_box(whole.as_bytes()), 0, &mut y));
+        };
+        let [long, short, times] = medians(long, short);
+        println!("| {name} | {:.2} µs | {:.2} µs | {times:.2} |", short / 1000.0, long / 1000.0);
+    }
+}
+
 fn mover_table() {
     println!("| mover, places | plain Rust loop | Lagvettu | times as fast |");
     println!("|---|---|---|---|");
@@ -202,6 +224,8 @@ pub fn table() {
     rust_table();
     println!();
     manual_table();
+    println!();
+    sums_table();
     println!();
     mover_table();
 }
