@@ -12,6 +12,7 @@
 //!   compare branches N [SEED]       N random branch tables and scripts, against a second reading of the table and the original
 //!   compare gas N [SEED]            N random scripts of the manual's call, and N of 01's listed forms, against GNU as and ld
 //!   compare sums N [SEED]           N random sums, good and damaged, against Python's own parser and whole numbers
+mod brackets;
 mod branches;
 #[cfg(linked)]
 mod explain;

@@ -172,10 +172,34 @@ pub const READINGS: [&str; 41] = [
     "a:b:c: NOP\nMOVE.L a,D0\nMOVE.L b:c,D0",
 ];
 
+/// Sums (W-211), which the original does not read: each list is written out from the words of 02 and 01.
+fn sums(out: &mut Vec<Record>) {
+    for (source, list) in SUMS {
+        for base in [0, 0x2000] {
+            let moved = |&(address, word, mark): &(u32, u16, u8)| (address + base, word + mark as u16 * base as u16, mark);
+            let place = list.len() as u32;
+            out.push(Record { source: source.as_bytes().to_vec(), base, lent: [place; 3], number: 0, place, list: list.iter().map(moved).collect() });
+        }
+    }
+}
+
+const SUMS: [(&str, &[(u32, u16, u8)]); 7] = [
+    ("LIM: DC.L [2+3*4]\nMOVE.L LIM,D0", &[(0, 0, 0), (2, 14, 0), (4, 0x2078, 0), (6, 0, 1)]),
+    ("DC.B [65536*2+1]\nNOP", &[(0, 2, 0), (2, 1, 0), (1, 0x4E71, 0)]),
+    // No value: no word, and the size all the same.
+    ("DC.W [1-2+3]\nNOP", &[(2, 0x4E71, 0)]),
+    ("DC.L [\nNOP", &[(4, 0x4E71, 0)]),
+    ("X: DC.L [5]", &[(0, 0, 0), (2, 5, 0)]),
+    // In DC only: as an immediate and in ORG nothing is read.
+    ("ORG [8]\nNOP", &[(0, 0x4E71, 0)]),
+    ("MOVEQ #[5],D0\nNOP", &[(2, 0x4E71, 0)]),
+];
+
 /// All records of call 1: the limits, the papers' examples and readings, and `count` random scripts.
 pub fn records(count: usize) -> Vec<Record> {
     let mut out = Vec::new();
     limits(&mut out);
+    sums(&mut out);
     for base in [0, 0x2000, 65536, 12345] {
         out.push(accepted(BEZEL, base, [0; 3]));
         for s in READINGS {

@@ -1,7 +1,8 @@
-//! Recorded calls of paper 02, a function a request; W-205's are in verdicts.rs, W-207's in manual.rs, W-210's in branches.rs. Each answer is written out here from 02's words and
-//! READINGS.md's examples of them, or comes from the Rust original's own label map or list where that leaves no choice, or from GNU as; none
-//! is made by the Rattle code.
+//! Recorded calls of paper 02, a function a request; W-205's are in verdicts.rs, W-207's in manual.rs, W-210's in branches.rs, W-211's in brackets.rs.
+//! Each answer is written out here from 02's words and READINGS.md's examples of them, or comes from the Rust original's own label map or list
+//! where that leaves no choice, or from GNU as; none is made by the Rattle code.
 
+use crate::brackets::sums;
 use crate::branches::branch_calls;
 use crate::generate::{script, Random};
 use crate::manual::manual_lists;
@@ -30,6 +31,7 @@ pub fn calls() -> Vec<Call> {
     digit_values(&mut out);
     manual_lists(&mut out);
     branch_calls(&mut out);
+    sums(&mut out);
     out
 }
 
@@ -335,7 +337,7 @@ const LINE_NUMBERS: [(&str, &str); 68] = [
     ("ORG $100000000z", "bad digit"),
     ("ORG x", "bad digit"),
     ("DC.L #5", "bad digit"),
-    ("DC.L [5]", "bad digit"),
+    ("ORG [5]", "bad digit"),
     // Too large.
     ("DC.L 4294967296", "out of range"),
     ("DC.B 4294967296", "out of range"),
