@@ -4,3 +4,4 @@ pub mod Explain
 pub mod Branches
 pub mod ManualCall
 pub mod ManualAssemble
+pub mod Tidy
