@@ -27,3 +27,5 @@ pub mod Lands
 pub mod Branches
 pub mod BranchCalls
 pub mod BranchCases
+pub mod Tidy
+pub mod TidyExamples

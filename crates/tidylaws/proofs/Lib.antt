@@ -1,0 +1,15 @@
+pub mod Hits
+pub mod Neat
+pub mod Cuts
+pub mod Shapes
+pub mod Reading
+pub mod Again
+pub mod Within
+pub mod Short
+pub mod Solid
+pub mod Tables
+pub mod Passes
+pub mod Spaced
+pub mod Says
+pub mod Call
+pub mod Examples
