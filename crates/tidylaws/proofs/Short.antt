@@ -63,7 +63,7 @@ rest-le {s} (data-whole e f) = squeezed-le s
 rest-le {s} (data-parts {l} {r} e f) =
     rw (around-of s l r f .whole, length-append (trim l) (58 ∷ squeezed (trim r)), length-append l (58 ∷ r)) (omega (arith, trim-le l, squeezed-le (trim r), trim-le r))
 
-open-le : {s t : Text} → Open s t → length t ≤ length s
+pub open-le : {s t : Text} → Open s t → length t ≤ length s
 open-le {s} (open-whole f) = squeezed-le s
 open-le {s} (open-parts {l} {r} {t} f q) =
     rw (around-of s l r f .whole, length-append (trim l) (58 ∷ t), length-append l (58 ∷ r)) (omega (arith, trim-le l, rest-le q, trim-le r))

@@ -1,0 +1,4 @@
+pub mod Adding
+pub mod Colons
+pub mod Copying
+pub mod Answers
