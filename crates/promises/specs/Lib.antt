@@ -28,4 +28,3 @@ pub mod Branches
 pub mod BranchCalls
 pub mod BranchCases
 pub mod Tidy
-pub mod TidyExamples

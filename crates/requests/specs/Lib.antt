@@ -5,3 +5,4 @@ pub mod Branches
 pub mod ManualCall
 pub mod ManualAssemble
 pub mod Tidy
+pub mod TidyExamples

@@ -19,19 +19,19 @@ pub record Adds (t : Text) (n : ℕ) (old : Text) (r : ℕ) (new : Text) : Type 
 abbrev pub named : Text → Text
 named l = trim l ++ (58 ∷ [])
 
-abbrev way : Bool → Bool → Way
-way k p = record { kept = k; parted = p }
+abbrev pub wayBy : Bool → Bool → Way
+wayBy k p = record { kept = k; parted = p }
 
 -- whether a line of a task is copied, and whether it reaches step 4, so that its colons are treated
 unfoldable pub wayOf : Task → Way
-wayOf skipped = way false false
-wayOf end = way true false
-wayOf (org v) = way true false
-wayOf noOrg = way true false
-wayOf labelOnly = way true true
-wayOf (instruction i) = way true true
-wayOf (value n v) = way true true
-wayOf (space n) = way true true
+wayOf skipped = wayBy false false
+wayOf end = wayBy true false
+wayOf (org v) = wayBy true false
+wayOf noOrg = wayBy true false
+wayOf labelOnly = wayBy true true
+wayOf (instruction i) = wayBy true true
+wayOf (value n v) = wayBy true true
+wayOf (space n) = wayBy true true
 
 -- the byte 10 after n bytes: none where nothing is written yet
 abbrev pub lineBreak : ℕ → Text

@@ -13,7 +13,7 @@ ghost use Rattle.rules.specs.Line.{isData};
 ghost use Rattle.answer.specs.Answer.{answerOf};
 ghost use Rattle.line.specs.Line.{taskAt};
 ghost use Rattle.requests.specs.Tidy.{squeezed, aroundColon, tidyRest, tidy, roomFor, tidyAnswer, writeCopy, tidySlice};
-ghost use Rattle.tidied.specs.Copy.{Adds, named, wayOf, lineBreak, addition};
+ghost use Rattle.tidied.specs.Copy.{Adds, named, wayBy, wayOf, lineBreak, addition};
 
 // ---- One line.
 
@@ -86,43 +86,25 @@ struct Way {
     parted: bool,
 }
 
+fn way_by(kept: bool, parted: bool) -> Way
+    ensures { λ r. ⌜ r ≡ wayBy kept parted ⌝ }
+{
+    Way { kept, parted }
+}
+
 // The way of a line, by its task.
 fn way_of(task: Task) -> Way
     ensures { λ r. ⌜ ((source : Text) → r ≡ wayOf (taskAt source task)) ⌝ }
 {
     match task {
-        Task::Skipped => Way {
-            kept: false,
-            parted: false,
-        },
-        Task::End => Way {
-            kept: true,
-            parted: false,
-        },
-        Task::Org(_) => Way {
-            kept: true,
-            parted: false,
-        },
-        Task::NoOrg => Way {
-            kept: true,
-            parted: false,
-        },
-        Task::LabelOnly => Way {
-            kept: true,
-            parted: true,
-        },
-        Task::Instruction(_) => Way {
-            kept: true,
-            parted: true,
-        },
-        Task::Value(_, _) => Way {
-            kept: true,
-            parted: true,
-        },
-        Task::Space(_) => Way {
-            kept: true,
-            parted: true,
-        },
+        Task::Skipped => way_by(false, false),
+        Task::End => way_by(true, false),
+        Task::Org(_) => way_by(true, false),
+        Task::NoOrg => way_by(true, false),
+        Task::LabelOnly => way_by(true, true),
+        Task::Instruction(_) => way_by(true, true),
+        Task::Value(_, _) => way_by(true, true),
+        Task::Space(_) => way_by(true, true),
     }
 }
 

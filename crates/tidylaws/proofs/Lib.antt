@@ -12,4 +12,3 @@ pub mod Passes
 pub mod Spaced
 pub mod Says
 pub mod Call
-pub mod Examples
