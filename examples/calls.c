@@ -140,6 +140,24 @@ static void move_pair(void)
     expect(number == LAGVETTU_ACCEPTED && place == 2 && words[0] == 0x0002 && words[1] == 0x0000, "lagvettu_move of a pair");
 }
 
+static void tidy(void)
+{
+    static const struct { const char *script, *copy; } examples[] = {
+        {" x  y\t: NOP ; a\n\n; b\n", "x  y:NOP ; a"},
+        {"x : y  z : DC.L   5", "x:y  z:DC.L 5"},
+    };
+    for (size_t i = 0; i < sizeof examples / sizeof *examples; i++) {
+        const char *script = examples[i].script, *copy = examples[i].copy;
+        uint8_t out[32];
+        size_t length;
+        memset(out, 0xAA, sizeof out);
+        uint8_t number = lagvettu_tidy(bytes(script), strlen(script), out, strlen(copy) - 1, &length);
+        expect(number == LAGVETTU_COPY_TOO_LONG && length == strlen(copy) && out[0] == 0xAA, "lagvettu_tidy, refused");
+        number = lagvettu_tidy(bytes(script), strlen(script), out, sizeof out, &length);
+        expect(number == LAGVETTU_ACCEPTED && length == strlen(copy) && memcmp(out, copy, length) == 0 && out[length] == 0xAA, script);
+    }
+}
+
 int main(void)
 {
     nearest();
@@ -150,5 +168,6 @@ int main(void)
     assemble_branches();
     explain_branches();
     move_pair();
+    tidy();
     return wrong;
 }

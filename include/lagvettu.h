@@ -57,8 +57,11 @@ enum lagvettu_refusal {
 
     /* From a branch table. */
     LAGVETTU_BAD_COMMAND = 16,      /* a cut, missing or unknown command, a 17th row or a condition over 15; place its offset */
-    LAGVETTU_BAD_BRANCH_NAME = 17   /* a name starting with a blank, with a lower-case letter, in an earlier row, or a mnemonic
+    LAGVETTU_BAD_BRANCH_NAME = 17,  /* a name starting with a blank, with a lower-case letter, in an earlier row, or a mnemonic
                                        other than the eleven; place the row's offset */
+
+    /* Of the tidy copy. */
+    LAGVETTU_COPY_TOO_LONG = 18     /* the lent slice is too short; place the length needed */
 };
 
 /* What the number of a line said. */
@@ -230,6 +233,20 @@ uint8_t lagvettu_explain_branches(const uint8_t *names, size_t names_length,
                                   size_t line,
                                   uint8_t *verdict,
                                   size_t *place);
+
+/*
+ * The tidy copy of a source, put into the first bytes of out; its length is in *place. Each line that is read is copied, the END line
+ * too, without skipped lines, parted by one byte 10 and none at the end. Outer blanks go and blank runs become one space. Before the
+ * first colon of a line that is no END and no ORG blanks inside the name are kept, and those around that colon go; so it is with the
+ * second colon where what follows the first is data. At every base where the source is accepted its copy gives the same list. A copy is
+ * never longer than its source: out with room for the source is never too short. Checks 1 to 3 as lagvettu_assemble, then 18. Bytes of
+ * out after the copy stay.
+ *
+ *     " x  y\t: NOP ; a\n\n; b\n": "x  y:NOP ; a", length 12.   "x : y  z : DC.L   5": "x:y  z:DC.L 5", length 13.
+ */
+uint8_t lagvettu_tidy(const uint8_t *source, size_t source_length,
+                      uint8_t *out, size_t out_length,
+                      size_t *place);
 
 #ifdef __cplusplus
 }

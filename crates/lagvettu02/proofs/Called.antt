@@ -2,11 +2,12 @@
 use Prim.Native.Nat.{ℕ}
 use mathlib.Core.Path.{_≡_, sym, ap, _∙_}
 use mathlib.Core.Option.{Option}
+use lib.ListN.{length}
 use Rattle.rules.specs.Text.{Text}
 use Rattle.rules.specs.Number.{Reading}
 use Rattle.rules.specs.Answer.{Answer as Ruled}
 use Rattle.answer.specs.declared.Answer.{Answer}
-use Rattle.answer.specs.Answer.{answerNumber, answerPlace}
+use Rattle.answer.specs.Answer.{answerOf, answerNumber, answerPlace}
 use Rattle.answer.proofs.Called.{passed-on}
 use Rattle.requests.specs.Nearest.{Nearest}
 use Rattle.nearest.specs.Nearest.{nearestOf}
@@ -18,7 +19,8 @@ use Rattle.numeral.specs.declared.Failure.{Failure}
 use Rattle.directive.specs.declared.LineNumber.{LineNumber}
 use Rattle.directive.specs.declared.LineNumber.the-variants.{Failed}
 use Rattle.directive.specs.Directive.{lineNumberOf}
-use Rattle.lagvettu02.specs.Called.{Lists, Nears, of-label, of-refusal, failureNumber, saidNumber, saidValue, SaysNumber}
+use Rattle.requests.specs.Tidy.{tidyAnswer, tidySlice}
+use Rattle.lagvettu02.specs.Called.{Lists, Nears, of-label, of-refusal, failureNumber, saidNumber, saidValue, SaysNumber, Tidies}
 
 pub lists : {r : Answer} {n p : ℕ} → n ≡ answerNumber r → p ≡ answerPlace r
     → {base : ℕ} {source : Text} {x y : Rows} → ListSymbolsGives base source x r y → Lists base source x n p y
@@ -35,3 +37,7 @@ says e f = record { number = ap saidNumber (sym f ∙ e); value = ap saidValue (
 
 pub says-failed : {o : Option (Reading ℕ)} {x : LineNumber} {f : Failure} {n : ℕ} → x ≡ lineNumberOf o → x ≡ Failed f → n ≡ failureNumber f → SaysNumber o n 0
 says-failed e f g = rw g (says e f)
+
+pub tidies : {r : Answer} {n p : ℕ} → n ≡ answerNumber r → p ≡ answerPlace r → (source out : Text) {last : Text}
+    → (r ≡ answerOf (tidyAnswer (length out) source)) × (last ≡ tidySlice source out) → Tidies source out n p last
+tidies hn hp source out h = record { answer = passed-on hn hp (h .0); slice = h .1 }

@@ -2,11 +2,13 @@
 use Prim.Native.Nat.{ℕ}
 use mathlib.Core.Path.{_≡_}
 use mathlib.Core.Option.{Option}
+use lib.ListN.{length}
 use Rattle.rules.specs.Text.{Text}
 use Rattle.rules.specs.Number.{Reading}
 use Rattle.rules.specs.Answer.{Answer, accepted, refused}
 use Rattle.requests.specs.Nearest.{Nearest}
 use Rattle.requests.specs.Symbols.{Rows, symbolsAnswer, symbolsRows}
+use Rattle.requests.specs.Tidy.{tidyAnswer, tidySlice}
 use Rattle.answer.specs.Called.{Answers}
 use Rattle.numeral.specs.declared.Failure.{Failure}
 use Rattle.numeral.specs.declared.Failure.the-variants.{NoDigits, BadDigit, OutOfRange}
@@ -45,3 +47,8 @@ saidValue Nothing = 0
 pub record SaysNumber (o : Option (Reading ℕ)) (n v : ℕ) : Type 0 where
   pub number : n ≡ saidNumber (lineNumberOf o)
   pub value : v ≡ saidValue (lineNumberOf o)
+
+-- the contract of `lagvettu_tidy`, lent the slice out, which it leaves as last
+pub record Tidies (source out : Text) (n p : ℕ) (last : Text) : Type 0 where
+  pub answer : Answers (tidyAnswer (length out) source) n p
+  pub slice : last ≡ tidySlice source out

@@ -10,7 +10,7 @@ ghost use Rattle.requests.specs.Nearest.{nearest};
 ghost use Rattle.requests.specs.Symbols.{rows};
 ghost use Rattle.requests.specs.Explain.{explain};
 ghost use Rattle.explain.specs.Called.{Explains};
-ghost use Rattle.lagvettu02.specs.Called.{Nears, Lists, failureNumber, SaysNumber};
+ghost use Rattle.lagvettu02.specs.Called.{Nears, Lists, failureNumber, SaysNumber, Tidies};
 
 // Names the label that an address is near, in a source at a base: its start and length in the source, where it was recorded
 // last, and the distance from it; or refuses. The numbers that an answer does not have are 0.
@@ -119,4 +119,14 @@ pub extern "C" fn lagvettu_explain(
             n
         }
     }
+}
+
+// Puts the tidy copy of a source at the front of `out`, its length in the number lent; or refuses, with nothing written.
+#[no_mangle]
+pub extern "C" fn lagvettu_tidy(source: &[u8], out: &mut [u8], place: &mut usize) -> u8
+    ensures { λ r. ⌜ Tidies (now (source .entry)) (now (out .entry)) r (now (place .exit)) (now (out .exit)) ⌝ }
+{
+    let answer = tidied::tidy_copy(source, out);
+    *place = answer::place(answer);
+    answer::number(answer)
 }
