@@ -86,6 +86,7 @@ struct Way {
     parted: bool,
 }
 
+// A way, by its two parts.
 fn way_by(kept: bool, parted: bool) -> Way
     ensures { λ r. ⌜ r ≡ wayBy kept parted ⌝ }
 {
