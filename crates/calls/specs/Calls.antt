@@ -19,6 +19,7 @@ use Rattle.symtext.specs.Symlist.{symbolsText}
 use Rattle.whytext.specs.WhyLine.{lineText}
 use Rattle.mantext.specs.Manlist.{manualText}
 use Rattle.branchtext.specs.BranchText.{listUnderText, linesUnderText}
+use Rattle.tidytext.specs.Tidy.{tidiedText}
 
 -- ---- texts
 
@@ -53,8 +54,8 @@ saidText Nothing = bytes "no number\n"
 
 -- 2 is W-201, x its base and y its address; 3 is W-202, x its base, as `symlist` prints it; 4 is W-204, s a line; 5 is W-205, x its base
 -- and y its line, as `whyline` prints it; 6 is W-207, x its base, as `manlist` prints it; 7 and 8 are W-210, x the base and y how many bytes of s are a
--- branch table, behind which the source stands: the list as `asmlist` prints it, and the verdict on every line as `whyline` does; a call that is
--- not known has no text
+-- branch table, behind which the source stands: the list as `asmlist` prints it, and the verdict on every line as `whyline` does; 9 is W-212, x the room
+-- lent, a copy or a refusal; a call that is not known has no text
 unfoldable pub callText : ℕ → ℕ → ℕ → Text → Text
 callText call x y s =
     cond (eqb call 2) (answeredText nearestText (nearest x s y))
@@ -63,11 +64,12 @@ callText call x y s =
     (cond (eqb call 5) (lineText x y s)
     (cond (eqb call 6) (manualText x s)
     (cond (eqb call 7) (listUnderText (take y s) x (drop y s))
-    (cond (eqb call 8) (linesUnderText (take y s) x (drop y s)) []))))))
+    (cond (eqb call 8) (linesUnderText (take y s) x (drop y s))
+    (cond (eqb call 9) (tidiedText x s) [])))))))
 
 -- the calls' numbers go on from the assembler's, which is 1, to the last one's
 abbrev lastCall : ℕ
-lastCall = 8
+lastCall = 9
 
 unfoldable pub isCall : ℕ → Bool
 isCall call = leb 2 call && leb call lastCall

@@ -12,6 +12,7 @@ use nearest::nearest_label;
 use numeral::Failure;
 use symtext::write_symbols;
 use text::starts_with;
+use tidytext::write_tidied;
 use whytext::write_line_verdict;
 ghost use mathlib.Core.Path.{_≡_};
 ghost use mathlib.Core.Bool.{true};
@@ -33,7 +34,7 @@ pub const ROOM: usize = station::TEXT;
 // The calls' numbers go on from the assembler's, which is 1.
 const FIRST: u8 = 2;
 
-const LAST: u8 = 8;
+const LAST: u8 = 9;
 
 // ---- Texts.
 
@@ -143,6 +144,7 @@ pub fn call_text(call: u8, x: u32, y: u32, source: &[u8], out: &mut [u8; ROOM]) 
         6 => write_manual(source, x, out),
         7 => list_under_text(source, x, y, out),
         8 => lines_under_text(source, x, y, out),
+        9 => write_tidied(source, x as usize, out),
         _ => 0,
     }
 }

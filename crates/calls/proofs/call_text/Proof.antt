@@ -36,15 +36,20 @@ returns-7 c = rw (c .before .before .match .keys7) (c .lines-under-text .ensures
 
 returns-8 : tie.Need-returns-8
 unfolding callText
-returns-8 c =
+returns-8 c = rw (c .before .before .match .keys8) (c .write-tidied .ensures)
+
+returns-9 : tie.Need-returns-9
+unfolding callText
+returns-9 c =
     rw
-    (ne-eqb _ 2 (c .match .rest .0 .0 .0 .0 .0 .0 .1), ne-eqb _ 3 (c .match .rest .0 .0 .0 .0 .0 .1), ne-eqb _ 4 (c .match .rest .0 .0 .0 .0 .1), ne-eqb _ 5 (c .match .rest .0 .0 .0 .1), ne-eqb _ 6 (c .match .rest .0 .0 .1), ne-eqb _ 7 (c .match .rest .0 .1), ne-eqb _ 8 (c .match .rest .1))
+    (ne-eqb _ 2 (c .match .rest .0 .0 .0 .0 .0 .0 .0 .1), ne-eqb _ 3 (c .match .rest .0 .0 .0 .0 .0 .0 .1), ne-eqb _ 4 (c .match .rest .0 .0 .0 .0 .0 .1), ne-eqb _ 5 (c .match .rest .0 .0 .0 .0 .1), ne-eqb _ 6 (c .match .rest .0 .0 .0 .1), ne-eqb _ 7 (c .match .rest .0 .0 .1), ne-eqb _ 8 (c .match .rest .0 .1), ne-eqb _ 9 (c .match .rest .1))
     (printed-none _)
 
 pub call-text-spec : {M : Type 1} → statement M
 call-text-spec =
     tie.close
     (tie.spec
+    (λ c κs. search needs)
     (λ c κs. search needs)
     (λ c κs. search needs)
     (λ c κs. search needs)
@@ -59,4 +64,5 @@ call-text-spec =
     returns-5
     returns-6
     returns-7
-    returns-8)
+    returns-8
+    returns-9)
