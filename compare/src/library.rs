@@ -61,6 +61,7 @@ extern "C" {
         place: *mut usize,
     ) -> u8;
     fn lagvettu_line_number(line: *const u8, line_len: usize, value: *mut u32) -> u8;
+    fn lagvettu_tidy(source: *const u8, source_len: usize, out: *mut u8, out_len: usize, place: *mut usize) -> u8;
     fn lagvettu_explain(source: *const u8, source_len: usize, base: u32, line: usize, verdict: *mut u8, place: *mut usize) -> u8;
     fn lagvettu_assemble_branches(
         names: *const u8,
@@ -282,4 +283,11 @@ pub fn explain_branches(names: &[u8], source: &[u8], base: u32, line: usize) -> 
         lagvettu_explain_branches(names.as_ptr(), names.len(), source.as_ptr(), source.len(), base, line, &mut e.verdict, &mut e.place)
     };
     e
+}
+
+/// The tidy copy of a source, put into the slice.
+pub fn tidy(source: &[u8], out: &mut [u8]) -> Answer {
+    let mut place = usize::MAX;
+    let number = unsafe { lagvettu_tidy(source.as_ptr(), source.len(), out.as_mut_ptr(), out.len(), &mut place) };
+    (number, place)
 }

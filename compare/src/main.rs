@@ -10,10 +10,13 @@
 //!   compare explain N [SEED]        N random sources: why each line has no word, against the original's list without that line
 //!   compare lands N [SEED]          N random sources: each branch word to a label in reach leads there, also after moves
 //!   compare branches N [SEED]       N random branch tables and scripts, against a second reading of the table and the original
+//!   compare tidy N [SEED]           N random sources: the tidy copy, byte for byte, and its list and labels by the original
 //!   compare gas N [SEED]            N random scripts of the manual's call, and N of 01's listed forms, against GNU as and ld
 //!   compare sums N [SEED]           N random sums, good and damaged, against Python's own parser and whole numbers
 mod brackets;
 mod branches;
+mod copied;
+mod copies;
 #[cfg(linked)]
 mod explain;
 #[cfg(linked)]
@@ -46,6 +49,8 @@ mod sums;
 #[cfg(linked)]
 mod symbols;
 #[cfg(linked)]
+mod tidy;
+#[cfg(linked)]
 mod under;
 mod verdicts;
 
@@ -73,9 +78,11 @@ fn main() {
         #[cfg(linked)]
         Some("branches") => under::compare(number(2, 100_000) as usize, number(3, 20261123)),
         #[cfg(linked)]
+        Some("tidy") => tidy::compare(number(2, 100_000) as usize, number(3, 20261123)),
+        #[cfg(linked)]
         Some("gas") => gas::compare(number(2, 1_000) as usize, number(3, 20261120)),
         #[cfg(linked)]
         Some("sums") => sums::compare(number(2, 100_000) as usize, number(3, 20261122)),
-        _ => eprintln!("usage: compare record FILE [COUNT] | lists N [SEED] | moves N [SEED] | nearest N [SEED] | symbols N [SEED] | explain N [SEED] | gas N [SEED] | lands N [SEED] | branches N [SEED] | sums N [SEED] | speed; all but record want the static library: see ./run"),
+        _ => eprintln!("usage: compare record FILE [COUNT] | lists N [SEED] | moves N [SEED] | nearest N [SEED] | symbols N [SEED] | explain N [SEED] | gas N [SEED] | lands N [SEED] | branches N [SEED] | sums N [SEED] | tidy N [SEED] | speed; all but record want the static library: see ./run"),
     }
 }

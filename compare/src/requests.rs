@@ -1,9 +1,10 @@
-//! Recorded calls of paper 02, a function a request; W-205's are in verdicts.rs, W-207's in manual.rs, W-210's in branches.rs, W-211's in brackets.rs.
-//! Each answer is written out here from 02's words and READINGS.md's examples of them, or comes from the Rust original's own label map or list
+//! Recorded calls of paper 02, a function a request; W-205's are in verdicts.rs, W-207's in manual.rs, W-210's in branches.rs, W-211's in brackets.rs, W-212's
+//! in copies.rs. Each answer is written out here from 02's words and READINGS.md's examples of them, or comes from the Rust original's own label map or list
 //! where that leaves no choice, or from GNU as; none is made by the Rattle code.
 
 use crate::brackets::sums;
 use crate::branches::branch_calls;
+use crate::copies::copies;
 use crate::generate::{script, Random};
 use crate::manual::manual_lists;
 use crate::verdicts::verdicts;
@@ -32,6 +33,7 @@ pub fn calls() -> Vec<Call> {
     manual_lists(&mut out);
     branch_calls(&mut out);
     sums(&mut out);
+    copies(&mut out);
     out
 }
 

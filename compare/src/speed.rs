@@ -1,6 +1,7 @@
 //! Speed: the same inputs through the Rust original and through the static library, in one run. Each figure is the
 //! median of many repetitions, taken in turns; the ratio, the original's time over ours, is the median of its own.
-use crate::library::{assemble, assemble_manual, relocate, Slices};
+use crate::copied::copied;
+use crate::library::{assemble, assemble_manual, relocate, tidy, Slices};
 use crate::{oracle, record};
 use std::hint::black_box;
 use std::time::Instant;
@@ -196,6 +197,32 @@ fn sums_table() {
     }
 }
 
+/// Tidy copies (W-212): a source takes about twice as long as its first half, with room for the source and with just enough.
+fn copies_table() {
+    println!("| tidy copy | of the first half | of the whole | times as long |");
+    println!("|---|---|---|---|");
+    let long = ["32 KB, every form", "4,096 short lines", "one line of 32 KB"];
+    for (name, s) in inputs().iter().filter(|(name, _)| long.contains(name)) {
+        let (half, whole) = (&s.as_bytes()[..s.len() / 2], s.as_bytes());
+        for (room, apart) in [("", false), (", made apart", true)] {
+            let lent = |t: &[u8]| vec![0u8; if apart { copied(t).len() } else { t.len() }];
+            let (mut x, mut y) = (lent(half), lent(whole));
+            if apart && y.len() == whole.len() {
+                continue;
+            }
+            assert!(tidy(half, &mut x).0 == 0 && tidy(whole, &mut y).0 == 0, "{name}: there is room");
+            let short = || {
+                black_box(tidy(black_box(half), &mut x));
+            };
+            let long = || {
+                black_box(tidy(black_box(whole), &mut y));
+            };
+            let [long, short, times] = medians(long, short);
+            println!("| {name}{room} | {:.2} µs | {:.2} µs | {times:.2} |", short / 1000.0, long / 1000.0);
+        }
+    }
+}
+
 fn mover_table() {
     println!("| mover, places | plain Rust loop | Lagvettu | times as fast |");
     println!("|---|---|---|---|");
@@ -226,6 +253,8 @@ pub fn table() {
     manual_table();
     println!();
     sums_table();
+    println!();
+    copies_table();
     println!();
     mover_table();
 }
