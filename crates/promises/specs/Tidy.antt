@@ -15,6 +15,7 @@ use Rattle.rules.specs.Answer.{accepted, refused}
 use Rattle.rules.specs.Assemble.{Sizes, Encoder, Pass, Place, passAtBy, assemble, assembleBy}
 use Rattle.requests.specs.ManualCall.{manualEncode}
 use Rattle.requests.specs.ManualAssemble.{assembleManual}
+use Rattle.requests.specs.Branches.{assembleUnder}
 use Rattle.requests.specs.Tidy.{tidyLine, tidy, tidyAnswer, tidySlice}
 use Rattle.promises.specs.Stages.{Stage, all, RefusesExactly}
 use Rattle.promises.specs.Demand1.{SourceCondition, checking, namesOf}
@@ -106,14 +107,15 @@ CopyReadsAlike = (l : Text) → ReadsAlike l
 unfoldable pub ByFind : Encoder → Type 0
 ByFind e = (t u : Table) → ((n : Text) → find n t ≡ find n u) → (a : ℕ) (i : Instruction) → e t a i ≡ e u a i
 
--- "At every base where the original is accepted, the copy gives the same list": of whatever sizes and such an encoder; in 01's call, and
--- with whatever mnemonics in use (W-210); and in the manual's call (W-207)
+-- "At every base where the original is accepted, the copy gives the same list": of whatever sizes and such an encoder; in 01's call, with
+-- whatever mnemonics in use and under every branch table (W-210); and in the manual's call (W-207)
 pub record CopyGivesList : Type 0 where
   pub by-find : (z : Sizes) (e : Encoder) → ByFind e → (base : ℕ) (s : Text) (l : List Place)
       → assembleBy z e base s ≡ accepted l → assembleBy z e base (tidy s) ≡ accepted l
   pub rules : (base : ℕ) (s : Text) (l : List Place) → assemble base s ≡ accepted l → assemble base (tidy s) ≡ accepted l
   pub mnemonics : (names : List Mnemonic) (base : ℕ) (s : Text) (l : List Place)
       → assembleBy size (encodeBy names) base s ≡ accepted l → assembleBy size (encodeBy names) base (tidy s) ≡ accepted l
+  pub table : (t : Text) (base : ℕ) (s : Text) (l : List Place) → assembleUnder t base s ≡ accepted l → assembleUnder t base (tidy s) ≡ accepted l
   pub manual : (base : ℕ) (s : Text) (l : List Place) → assembleManual base s ≡ accepted l → assembleManual base (tidy s) ≡ accepted l
 
 pub record EncodersFind : Type 0 where

@@ -12,11 +12,12 @@ use Rattle.rules.specs.Limits.{maxSource, maxLines, addressLimit}
 use Rattle.rules.specs.Text.{Text, trim, trimStart, trimEnd, cutWhere, cutAt}
 use Rattle.rules.specs.Line.{SourceLine, numbered, linesOf, Task, skipped, end, Line, line, trimmedLine, lineOf, size}
 use Rattle.rules.specs.Label.{Table, recordAll}
-use Rattle.rules.specs.Encode.{encodeBy, mnemonics}
+use Rattle.rules.specs.Encode.{Mnemonic, encodeBy, mnemonics}
 use Rattle.rules.specs.Answer.{Answer, accepted, refused, refuseIf, andThen}
 use Rattle.rules.specs.Assemble.{Sizes, Encoder, Put, Pass, Step, halt, full, next, addressAfter, isEnd, leaving, stepBy, putting, firstPassBy, placesAt, dataContents, codeContentsBy, dataPlaces, codePlacesBy, secondPassBy, firstHigh, passAtBy, encoded, assembleBy, Place}
 use Rattle.requests.specs.ManualCall.{manualSize, manualEncode}
 use Rattle.requests.specs.ManualAssemble.{taskFault, faultless, encodedManual, assembleManual}
+use Rattle.requests.specs.Branches.{loaded, namesWith, under, assembleUnder}
 use Rattle.requests.specs.Tidy.{tidyLine, tidyLines, parted, tidy}
 use Rattle.promises.specs.Tidy.{Kind, skip, fin, origin, step4, kindOf, ByFind, CopyIsShort, CopyGivesList, CopyKeepsLabels}
 use Rattle.promises.proofs.Accepted.{LetThrough, not-refused, checks-passed, checks-pass}
@@ -312,6 +313,16 @@ lists-by : (z : Sizes) (e : Encoder) → ByFind e → (base : ℕ) (s : Text) (l
 unfolding assembleBy
 lists-by z e b = follows z (encoded e) (λ p q s l h. rw (second-same e b s) at h)
 
+-- under a branch table: the names that it gives are the same for both
+table-lists : (t : Text) (base : ℕ) (s : Text) (l : List Place) → assembleUnder t base s ≡ accepted l → assembleUnder t base (tidy s) ≡ accepted l
+unfolding under andThen
+table-lists t base s l h = go (loaded t) h
+  where
+    go : (x : Answer (List Mnemonic)) → andThen x (λ rs. assembleBy size (encodeBy (namesWith rs)) base s) ≡ accepted l
+        → andThen x (λ rs. assembleBy size (encodeBy (namesWith rs)) base (tidy s)) ≡ accepted l
+    go (accepted rs) k = lists-by size (encodeBy (namesWith rs)) (encoders-find .rules (namesWith rs)) base s l k
+    go (refused n i) k = clash cc
+
 manual-lists : (base : ℕ) (s : Text) (l : List Place) → assembleManual base s ≡ accepted l → assembleManual base (tidy s) ≡ accepted l
 unfolding assembleManual encodedManual
 manual-lists = follows manualSize encodedManual (λ p q s l h. faults-same (s .labels-alike) (s .puts-same) 1 1 _ l (rw (second-same manualEncode (encoders-find .manual) s) at h))
@@ -322,6 +333,7 @@ copy-gives-list =
       by-find = lists-by;
       rules = lists-by size (encodeBy mnemonics) (encoders-find .rules mnemonics);
       mnemonics = λ names. lists-by size (encodeBy names) (encoders-find .rules names);
+      table = table-lists;
       manual = manual-lists;
     }
 
