@@ -91,3 +91,8 @@ pub mod BranchEleven
 pub mod BranchCalls
 pub mod BranchLands
 pub mod BranchCases
+pub mod BenchTexts
+pub mod BenchWords
+pub mod BenchRun
+pub mod BenchFill
+pub mod Bench

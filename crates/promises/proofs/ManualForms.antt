@@ -36,11 +36,11 @@ unfolding find same bytes
 not-in-reach y r = apart (cc (r .found))
 
 -- the line of a branch with one operand
-abbrev BranchLine : Branch → Text → Type 0
+abbrev pub BranchLine : Branch → Text → Type 0
 BranchLine c s = lineOf (branchName c ++ (32 ∷ s)) .task ≡ instruction (said (branchName c) none (s ∷ []))
 
 -- the two lines of each branch
-branch-lines : (c : Branch) → BranchLine c (bytes "X") × BranchLine c (bytes "-2")
+pub branch-lines : (c : Branch) → BranchLine c (bytes "X") × BranchLine c (bytes "-2")
 unfolding bytes blank upper uppers leading trimStart keepEnd trimEnd trim onFirst cutWhere cutAt dropEmpty pieces joinMore joined inFront firstCut starts contains nth firstText otherTexts instructionOf operandsOf isData restLine afterLabel labelLine trimmedLine lineOf branchName
 branch-lines BRA = (refl, refl)
 branch-lines BCC = (refl, refl)

@@ -28,3 +28,4 @@ pub mod Branches
 pub mod BranchCalls
 pub mod BranchCases
 pub mod Tidy
+pub mod Bench
