@@ -1,0 +1,2 @@
+-- Laws for decoding. Assumes nothing.
+pub mod Rows
