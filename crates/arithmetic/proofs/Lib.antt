@@ -1,0 +1,3 @@
+-- Laws of signed numbers and of conditions. Assumes nothing.
+pub mod Signs
+pub mod Conditions
