@@ -1,0 +1,2 @@
+-- Laws of judging a step. Assumes nothing.
+pub mod Judging
