@@ -1,0 +1,3 @@
+-- Laws of a run. Assumes nothing.
+pub mod Going
+pub mod Checks
