@@ -158,6 +158,24 @@ static void tidy(void)
     }
 }
 
+static void run(void)
+{
+    static const uint16_t words[4] = {0x7003, 0x5380, 0x66FC, 0x4E72};
+    uint32_t addresses[4] = {0, 2, 4, 6};
+    const uint32_t a[8] = {0};
+    uint32_t d[8] = {1, 1}, pc;
+    uint8_t memory[LAGVETTU_MEMORY] = {1}, end, flags;
+    uint64_t steps;
+    size_t place;
+    uint8_t number = lagvettu_run(addresses, 4, words, 4, 4, a, 0, 100, d, memory, &end, &steps, &pc, &flags, &place);
+    expect(number == LAGVETTU_ACCEPTED && end == LAGVETTU_ON_HALT && steps == 7 && pc == 6 && flags == LAGVETTU_Z && d[0] == 0 && d[1] == 0
+           && memory[0] == 0x70 && memory[8] == 0 && place == 0, "lagvettu_run");
+    addresses[2] = 16384;
+    number = lagvettu_run(addresses, 4, words, 4, 4, a, 0, 100, d, memory, &end, &steps, &pc, &flags, &place);
+    expect(number == LAGVETTU_MISPLACED && end == LAGVETTU_NO_END && steps == 0 && pc == 0 && flags == 0 && memory[4] == 0x66 && place == 2,
+           "lagvettu_run, refused");
+}
+
 int main(void)
 {
     nearest();
@@ -169,5 +187,6 @@ int main(void)
     explain_branches();
     move_pair();
     tidy();
+    run();
     return wrong;
 }

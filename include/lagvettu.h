@@ -61,7 +61,10 @@ enum lagvettu_refusal {
                                        other than the eleven; place the row's offset */
 
     /* Of the tidy copy. */
-    LAGVETTU_COPY_TOO_LONG = 18     /* the lent slice is too short; place the length needed */
+    LAGVETTU_COPY_TOO_LONG = 18,    /* the lent slice is too short; place the length needed */
+
+    /* From the bench. */
+    LAGVETTU_MISPLACED = 19         /* a list address that is odd or above 16,382; place the lowest such index */
 };
 
 /* What the number of a line said. */
@@ -88,6 +91,27 @@ enum lagvettu_verdict {
     LAGVETTU_DISPLACEMENT_OUT_OF_RANGE = 9,
     LAGVETTU_NO_VERDICT = 255            /* the call was refused */
 };
+
+/* Why a run ended. */
+enum lagvettu_end {
+    LAGVETTU_ON_HALT = 0,    /* $4E72 */
+    LAGVETTU_ON_WORD = 1,    /* a word that is not run */
+    LAGVETTU_ON_ACCESS = 2,  /* an odd or outside access; a fetch is one */
+    LAGVETTU_ON_LIMIT = 3,   /* the limit was spent, and the next step would have been made */
+    LAGVETTU_NO_END = 255    /* the call was refused */
+};
+
+/* The condition flags, as in the manual's condition code register. */
+enum lagvettu_flag {
+    LAGVETTU_X = 16,
+    LAGVETTU_N = 8,
+    LAGVETTU_Z = 4,
+    LAGVETTU_V = 2,
+    LAGVETTU_C = 1
+};
+
+/* The bytes of memory that a run has. */
+#define LAGVETTU_MEMORY 16384
 
 /* The longest source that is not refused, in bytes. */
 #define LAGVETTU_MAX_SOURCE 32768
@@ -247,6 +271,29 @@ uint8_t lagvettu_explain_branches(const uint8_t *names, size_t names_length,
 uint8_t lagvettu_tidy(const uint8_t *source, size_t source_length,
                       uint8_t *out, size_t out_length,
                       size_t *place);
+
+/*
+ * Tries a list on the bench. The memory is cleared and filled with the first count words, each at its address, high byte first, later
+ * ones over earlier; D0 to D7 and the flags start at 0, A0 to A7 and the program counter are given. It runs MOVEQ; MOVE.L (An),Dm
+ * and Dn,(Am); MOVE.W Dn,Dm; MULS.W; ADD.W, SUB.W and CMP.W of data registers; TST.L, SUBQ.L and ASL.L of one; NOP; and BRA, BCC, BCS,
+ * BNE, BEQ, BGE, BLT, BGT and BLE by a byte that is neither 0 nor -1, each step as the manual says. It stops on $4E72, on any other
+ * word, on an odd or outside access, or when limit steps are made, which comes last; the step that stops changes nothing and is
+ * not counted. *end says why, *steps how many steps were made, d, memory, *pc and *flags are as they are then. Checks 9, of both
+ * slices, then 19. When it accepts, *place is 0; when it refuses, d and memory stay as they were, *end is LAGVETTU_NO_END, and
+ * *steps, *pc and *flags are 0.
+ *
+ *     Words $7003, $5380, $66FC, $4E72 at 0 to 6, from 0, limit 100: LAGVETTU_ON_HALT, 7 steps, pc 6, flags LAGVETTU_Z, d[0] 0.
+ */
+uint8_t lagvettu_run(const uint32_t *addresses, size_t addresses_length,
+                     const uint16_t *words, size_t words_length,
+                     size_t count,
+                     const uint32_t a[8],
+                     uint32_t start,
+                     uint64_t limit,
+                     uint32_t d[8],
+                     uint8_t memory[LAGVETTU_MEMORY],
+                     uint8_t *end, uint64_t *steps, uint32_t *pc, uint8_t *flags,
+                     size_t *place);
 
 #ifdef __cplusplus
 }
