@@ -73,15 +73,20 @@ read-front (suc room) n (suc m) (b ∷ s) h = go (isLine (b ∷ s)) refl (read-f
         read-bad (suc room) n (take (suc m) (b ∷ s)) (omega arith) (line-front (suc m) (b ∷ s) (omega arith) ∙ q)
         ∙ sym (read-bad (suc room) n (b ∷ s) (omega arith) q)
 
-list-front : (d : ℤ) (m : ℕ) (t : Text) → 196608 < m → movedText d (take m t) ≡ movedText d t
-unfolding movedText parsedText
-list-front d m t h = rw (read-front 12288 0 m t h) (go (readList 12288 t) refl)
+-- whatever is made of a text as it is read, where one that is no list does not count but for its wrong line
+pub parsed-front : {A : Type 0} (f : Text → Parsed → A) → ((t u : Text) (n : ℕ) → f t (Bad n) ≡ f u (Bad n)) → (m : ℕ) (t : Text) → 196608 < m
+    → f (take m t) (readList 12288 (take m t)) ≡ f t (readList 12288 t)
+parsed-front f bad m t h = rw (read-front 12288 0 m t h) (go (readList 12288 t) refl)
   where
-    go : (a : Parsed) → readList 12288 t ≡ a → parsedText d (take m t) a ≡ parsedText d t a
+    go : (a : Parsed) → readList 12288 t ≡ a → f (take m t) a ≡ f t a
     go (Count n) e =
         let short : length t ≤ m = omega (arith, read-length t 12288 n e, read-within t 12288 n e) in
-        ap (λ (u : Text). parsedText d u (Count n)) (take-all m t short)
-    go (Bad n) e = refl
+        ap (λ (u : Text). f u (Count n)) (take-all m t short)
+    go (Bad n) e = bad (take m t) t n
+
+list-front : (d : ℤ) (m : ℕ) (t : Text) → 196608 < m → movedText d (take m t) ≡ movedText d t
+unfolding movedText parsedText
+list-front d m t h = parsed-front (parsedText d) (λ t u n. refl) m t h
 
 -- ---- an input, by where its reader stands
 module _ (d : ℤ) (i : Input) (buffer : List ℕ) where

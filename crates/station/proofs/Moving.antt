@@ -31,7 +31,7 @@ abbrev filledThen : List Place → List ℕ → List ℕ → List ℕ → Slices
 filledThen l xs ws ms =
     slices (map (λ (p : Place). p .address) l ++ xs) (map (λ (p : Place). p .word) l ++ ws) (map (λ (p : Place). p .mark) l ++ ms)
 
-first-front : (f : ℕ → Bool) (i : ℕ) (xs ys : List ℕ) (n : ℕ) → n ≤ length xs → firstIndex f i n (xs ++ ys) ≡ firstIndex f i n xs
+pub first-front : (f : ℕ → Bool) (i : ℕ) (xs ys : List ℕ) (n : ℕ) → n ≤ length xs → firstIndex f i n (xs ++ ys) ≡ firstIndex f i n xs
 unfolding firstIndex
 first-front f i xs ys zero h = refl
 first-front f i [] ys (suc n) h = absurd (omega arith)

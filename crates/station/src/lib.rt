@@ -41,7 +41,7 @@ pub const LIST: usize = TEXT + 1;
 pub const TABLE: usize = 97;
 
 // The lesser of two numbers.
-fn lesser(a: usize, b: usize) -> usize
+pub fn lesser(a: usize, b: usize) -> usize
     ensures { λ r. ⌜ r ≡ min a b ⌝ }
 {
     if a < b { a } else { b }
@@ -91,7 +91,7 @@ pub fn script_text(script: &[u8; SCRIPT], input: Input, out: &mut [u8; TEXT]) ->
 }
 
 // Puts the line for a text that is no list's at the front, and answers its length.
-fn write_wrong_line(n: usize, out: &mut [u8; TEXT]) -> usize
+pub fn write_wrong_line(n: usize, out: &mut [u8; TEXT]) -> usize
     ensures { λ r. ⌜ Printed (wrongLineText n) r (now (out .entry)) (now (out .exit)) ⌝ }
 {
     write_bytes(out, 0, b"not a list: line ");

@@ -1,0 +1,4 @@
+pub mod Puts
+pub mod Arguments
+pub mod BenchText
+pub mod Examples
