@@ -1,4 +1,5 @@
 //! The Rattle code through its C interface, wrapped so that a call is safe.
+use crate::interpreter::{Left, MEMORY};
 
 extern "C" {
     fn lagvettu_assemble(
@@ -85,6 +86,23 @@ extern "C" {
         base: u32,
         line: usize,
         verdict: *mut u8,
+        place: *mut usize,
+    ) -> u8;
+    fn lagvettu_run(
+        addresses: *const u32,
+        addresses_len: usize,
+        words: *const u16,
+        words_len: usize,
+        count: usize,
+        a: *const u32,
+        start: u32,
+        limit: u64,
+        d: *mut u32,
+        memory: *mut u8,
+        end: *mut u8,
+        steps: *mut u64,
+        pc: *mut u32,
+        flags: *mut u8,
         place: *mut usize,
     ) -> u8;
 }
@@ -290,4 +308,31 @@ pub fn tidy(source: &[u8], out: &mut [u8]) -> Answer {
     let mut place = usize::MAX;
     let number = unsafe { lagvettu_tidy(source.as_ptr(), source.len(), out.as_mut_ptr(), out.len(), &mut place) };
     (number, place)
+}
+
+/// A run of a list on the bench that is not refused.
+pub fn run(addresses: &[u32], words: &[u16], a: &[u32; 8], start: u32, limit: u64) -> Left {
+    let mut left = Left { end: 0xAA, steps: 0, pc: 0, flags: 0, d: [0xAAAA_AAAA; 8], memory: Box::new([0xAA; MEMORY]) };
+    let mut place = usize::MAX;
+    let number = unsafe {
+        lagvettu_run(
+            addresses.as_ptr(),
+            addresses.len(),
+            words.as_ptr(),
+            words.len(),
+            words.len(),
+            a.as_ptr(),
+            start,
+            limit,
+            left.d.as_mut_ptr(),
+            left.memory.as_mut_ptr(),
+            &mut left.end,
+            &mut left.steps,
+            &mut left.pc,
+            &mut left.flags,
+            &mut place,
+        )
+    };
+    assert!(number == 0, "refused {number} {place}");
+    left
 }

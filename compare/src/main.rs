@@ -25,6 +25,8 @@ mod generate;
 mod gnu;
 mod heard;
 #[cfg(linked)]
+mod interpreter;
+#[cfg(linked)]
 mod lands;
 #[cfg(linked)]
 mod library;

@@ -2,7 +2,7 @@
 //! median of many repetitions, taken in turns; the ratio, the original's time over ours, is the median of its own.
 use crate::copied::copied;
 use crate::library::{assemble, assemble_manual, relocate, tidy, Slices};
-use crate::{oracle, record};
+use crate::{interpreter, library, oracle, record};
 use std::hint::black_box;
 use std::time::Instant;
 
@@ -247,6 +247,41 @@ fn mover_table() {
     }
 }
 
+/// Programs for the bench that run on, from address 0.
+fn programs() -> Vec<(&'static str, Vec<u16>)> {
+    vec![
+        ("two forms: SUBQ, BNE", vec![0x5380, 0x66FC, 0x60FA]),
+        ("MULS #", vec![0xC1FC, 0x0003, 0x60FA]),
+        // MOVEQ; MOVE.L (A0),D1; ADD; SUB; CMP; BGE +2; NOP; MOVE.W; MULS; ASL; TST; SUBQ; MOVE.L D5,(A1); BRA back
+        (
+            "every form but MULS #",
+            vec![0x7405, 0x2210, 0xD441, 0x9842, 0xB441, 0x6C02, 0x4E71, 0x3602, 0xCDC3, 0xE586, 0x4A86, 0x5385, 0x2285, 0x60E4],
+        ),
+    ]
+}
+
+/// The bench's steps against those of a plain interpreter on the same list; both fill the memory first.
+fn bench_table() {
+    println!("| bench, 100,000 steps of | plain interpreter, steps a second | Lagvettu | times its time |");
+    println!("|---|---|---|---|");
+    let (a, limit) = ([0x1000, 0x1004, 0, 0, 0, 0, 0, 0], 100_000);
+    for (name, mut words) in programs() {
+        let mut addresses: Vec<u32> = (0..words.len() as u32).map(|i| 2 * i).collect();
+        addresses.extend([0x1000, 0x1002]);
+        words.extend([0x1234, 0x5678]);
+        assert!(interpreter::run(&addresses, &words, &a, 0, limit) == library::run(&addresses, &words, &a, 0, limit), "{name}");
+        let ours = || {
+            black_box(library::run(black_box(&addresses), &words, &a, 0, limit));
+        };
+        let plain = || {
+            black_box(interpreter::run(black_box(&addresses), &words, &a, 0, limit));
+        };
+        let [ours, plain, times] = medians(ours, plain);
+        let millions = |t: f64| limit as f64 / t * 1000.0;
+        println!("| {name} | {:.0} million | {:.0} million | {times:.2} |", millions(plain), millions(ours));
+    }
+}
+
 pub fn table() {
     rust_table();
     println!();
@@ -257,4 +292,6 @@ pub fn table() {
     copies_table();
     println!();
     mover_table();
+    println!();
+    bench_table();
 }
