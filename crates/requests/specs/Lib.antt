@@ -6,3 +6,4 @@ pub mod ManualCall
 pub mod ManualAssemble
 pub mod Tidy
 pub mod TidyExamples
+pub mod Sheet
