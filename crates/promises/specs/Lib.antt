@@ -29,3 +29,4 @@ pub mod BranchCalls
 pub mod BranchCases
 pub mod Tidy
 pub mod Bench
+pub mod Sheet
