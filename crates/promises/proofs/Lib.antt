@@ -96,3 +96,8 @@ pub mod BenchWords
 pub mod BenchRun
 pub mod BenchFill
 pub mod Bench
+pub mod SheetLines
+pub mod SheetSums
+pub mod SheetClasses
+pub mod Sheet
+pub mod SheetExamples

@@ -30,3 +30,4 @@ pub mod BranchCases
 pub mod Tidy
 pub mod Bench
 pub mod Sheet
+pub mod SheetExamples
