@@ -144,7 +144,7 @@ own-sheet s = go (passAt 0 s) refl
     go (accepted p) e = rw (by-answer s (accepted p) e) (of-accepted (accepted-own s p e))
     go (refused n q) e = rw (by-answer s (refused n q) e) (of-refused (record { number = n; place = q; condition = refused-by s n q e; adds-only = refl }))
 
-own-within : (s : Text) → Within 1 (sourceSheet s)
+pub own-within : (s : Text) → Within 1 (sourceSheet s)
 unfolding answerSheet
 own-within s = go (passAt 0 s) refl
   where

@@ -121,7 +121,7 @@ module _ (s : Text) (p : Pass) (accepts : passAt 0 s ≡ accepted p) where
   unfolding passAtBy
   passed = not-refused _ 4 0 _ p (checks-passed s _ p accepts .1) .1
 
-  read-few : length (p .puts) ≤ length (cutAt 10 s)
+  pub read-few : length (p .puts) ≤ length (cutAt 10 s)
   unfolding linesOf
   read-few = let h = rw passed at (few 0 [] (linesOf s)) in omega (arith, as-many-lines 1 0 (cutAt 10 s))
 
