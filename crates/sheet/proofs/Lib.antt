@@ -1,0 +1,4 @@
+pub mod Tallies
+pub mod Adding
+pub mod Reading
+pub mod Owning

@@ -1,0 +1,3 @@
+pub mod Totals
+pub mod Lines
+pub mod Source
