@@ -14,7 +14,7 @@ ghost use Rattle.first.specs.Pass.{passIn};
 ghost use Rattle.sheet.specs.Totals.{said, answered};
 ghost use Rattle.sheet.specs.Source.{wholeTotals, PassTotalsNeeds, Starting, shortLines, TotalsInNeeds};
 
-mod sums; // sums.rt: totals added up and looked at
+pub mod sums; // sums.rt: totals added up and looked at
 mod lines; // lines.rt: the totals of the lines that are read
 
 // The most sources of a series.

@@ -1,0 +1,4 @@
+pub mod RowsPut
+pub mod ReadBack
+pub mod RoundTrip
+pub mod Stepping

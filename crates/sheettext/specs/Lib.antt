@@ -1,0 +1,4 @@
+pub mod Rows
+pub mod Back
+pub mod Steps
+pub mod Trips
