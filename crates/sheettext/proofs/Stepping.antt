@@ -189,3 +189,10 @@ module _ (held byte : ℕ) (x : List ℕ) where
 
   pub name-more : held < 4097 → NameKept held byte (held + 1) x (set x held byte)
   name-more h = record { count = rw (lt-ltb held 4097 h); after = rw (lt-ltb held 4097 h) }
+
+pub name-short : {held byte r : ℕ} {x y : List ℕ} → NameKept held byte r x y → held ≤ 4097 → r ≤ 4097
+name-short {held} {r = r} k h = go (ltb held 4097) refl (k .count)
+  where
+    go : (b : Bool) → ltb held 4097 ≡ b → r ≡ cond b (held + 1) held → r ≤ 4097
+    go true e f = let l = ltb-true held 4097 e in omega arith
+    go false e f = omega arith

@@ -1,0 +1,4 @@
+NOP
+END
+NOP
+

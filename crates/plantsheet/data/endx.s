@@ -1,0 +1,1 @@
+ENDX: NOP

@@ -1,0 +1,5 @@
+X:JMP X
+MOVE X,D0
+MOVE Y,D0
+FOO
+; a note
