@@ -5,142 +5,89 @@ use Prim.Native.Nat.{ℕ, suc, _+_, _*_, _^_, _≤_, _<_}
 use native.Mathlib.Numerals.{add-one}
 use native.Mathlib.Omega.{arith}
 use lib.ListN.{length, length-take, length-drop}
-use types.Run.{OneOf, miss}
-use denote.Enum.Declared.{tagOf}
 use Rattle.rules.specs.Limits.{maxSource, maxLines}
 use Rattle.rules.specs.Text.{Text}
 use Rattle.rules.specs.Line.{instructionOf, size}
 use Rattle.rules.specs.Label.{Table}
 use Rattle.rules.specs.Encode.{encode}
-use Rattle.rules.specs.Assemble.{placesAt, codeContentsBy, codePlacesBy, codePlaces}
-use Rattle.requests.specs.Sheet.{Totals as Said, noTotals, howMany, markedIn, readClasses, plus}
+use Rattle.rules.specs.Assemble.{codeContentsBy, codePlacesBy}
+use Rattle.requests.specs.Sheet.{Totals as Said, totals, noTotals, howMany, markedIn, readClasses, plus}
 use Rattle.label.specs.Table.{tableOf}
 use Rattle.text.specs.declared.Span.{Span}
 use Rattle.text.specs.Spans.{spanText, SpanIn}
-use Rattle.line.specs.Line.{TaskIn}
 use Rattle.line.specs.declared.Task.{Task}
 use Rattle.line.specs.declared.Task.the-variants.{Skipped, End, Org, NoOrg, LabelOnly, Instruction, Value, Space}
-use Rattle.line.proofs.Task.{the-type}
-use Rattle.cells.specs.Cells.{dataWords, afterBy, keptAt}
+use Rattle.cells.specs.Cells.{afterBy, keptAt}
 use Rattle.cells.specs.Puts.{addressAt, putAt, putsOf}
 use Rattle.cells.specs.declared.Kept.{Kept}
 use Rattle.cells.proofs.Tasks.{after-kept}
 use Rattle.first.specs.Pass.{Holds}
 use Rattle.first.specs.declared.Pass.{Pass}
 use Rattle.first.proofs.Callers.{bounded}
-use Rattle.encode.specs.Code.{codeOf, placesOf}
+use Rattle.encode.specs.Code.{codeOf}
 use Rattle.encode.specs.Near.{Near}
 use Rattle.encode.specs.declared.Code.{Code}
 use Rattle.encode.specs.declared.Code.the-variants.{Nothing, Word, Value as WithValue, Label}
 use Rattle.encode.proofs.Callers.{encode-places}
 use Rattle.sheet.specs.Totals.{said, SumFits, UpTo}
-use Rattle.sheet.specs.Lines.{skippedLine, orgLine, labelLine, dataLine, endLine, wordLine, wordlessLine, secondWords, markedWords, countedLine, putOf, tallyOf, CodeOfNeeds, ReadTotalsNeeds, ReadTotalsGives}
+use Rattle.sheet.specs.Lines.{countedCode, putOf, tallyOf, AddLineNeeds, ReadTotalsNeeds, ReadTotalsGives}
 use Rattle.sheet.specs.declared.Totals.{Totals}
-use Rattle.sheet.proofs.Tallies.{same-totals, tally-more, line-counted}
+use Rattle.sheet.proofs.Tallies.{tally-more, OneLine, code-line, skipped-line, end-line, org-line, no-org-line, label-line, value-line, space-line}
 use Rattle.sheet.proofs.Adding.{sum-fits}
 
--- ---- one line's code
-abbrev pub NoInstruction : Task → Type 0
-NoInstruction task = OneOf (0 ∷ 1 ∷ 2 ∷ 3 ∷ 4 ∷ 6 ∷ 7 ∷ []) (tagOf the-type task)
-
-module _ (t : Table) (source : Text) (a : ℕ) where
-  pub no-code : (task : Task) → NoInstruction task → placesOf a Nothing ≡ codePlaces t (putOf source a task)
-  unfolding codePlacesBy codeContentsBy placesAt
-  no-code Skipped h = refl
-  no-code End h = refl
-  no-code (Org v) h = refl
-  no-code NoOrg h = refl
-  no-code LabelOnly h = refl
-  no-code (Instruction s) h = absurd (miss (0 ∷ 1 ∷ 2 ∷ 3 ∷ 4 ∷ 6 ∷ 7 ∷ []) 5 tt h)
-  no-code (Value n v) h = refl
-  no-code (Space n) h = refl
-
-  pub code-is : (task : Task) (s : Span) {r : Code} → task ≡ Instruction s → r ≡ codeOf (encode t a (instructionOf (spanText source s))) → placesOf a r ≡ codePlaces t (putOf source a task)
-  unfolding codePlacesBy codeContentsBy
-  code-is task s e f = rw (e, f) (encode-places t a (instructionOf (spanText source s)))
-
--- its text
-module _ {source : Text} {table : List ℕ} {labels a : ℕ} {task : Task} (n : CodeOfNeeds source table labels a task) {s : Span} (e : task ≡ Instruction s) where
+-- ---- one line
+-- an instruction's text and its code
+module _ {t : Said} {source : Text} {table : List ℕ} {labels a : ℕ} {task : Task} (n : AddLineNeeds t source table labels a task) {s : Span} (e : task ≡ Instruction s) where
   pub span-in : SpanIn source s
   span-in = rw e at (n .within)
 
   pub code-needs : Near source table labels a × (length (spanText source s) ≤ maxSource)
   code-needs = (n .near, rw (length-take, length-drop) (omega (arith, n .short, span-in)))
 
--- ---- one line's totals
-pub few-words : (k : Task) (c : Code) {a b d : ℕ} → a ≡ wordLine c → b ≡ secondWords c → d ≡ dataWords k → (a + b ≤ 2) × (d ≤ 2)
-few-words k c {a} {b} {d} p q r = (code c p q, task k r)
-  where
-    code : (c : Code) → a ≡ wordLine c → b ≡ secondWords c → a + b ≤ 2
-    code Nothing p q = omega arith
-    code (Word w) p q = omega arith
-    code (WithValue w v) p q = omega arith
-    code (Label w x) p q = omega arith
-
-    task : (k : Task) → d ≡ dataWords k → d ≤ 2
-    task Skipped r = omega arith
-    task End r = omega arith
-    task (Org v) r = omega arith
-    task NoOrg r = omega arith
-    task LabelOnly r = omega arith
-    task (Instruction s) r = omega arith
-    task (Value n v) r = omega arith
-    task (Space n) r = omega arith
-
-pub words-are : {a b c a′ b′ c′ : ℕ} → a ≡ a′ → b ≡ b′ → c ≡ c′ → a + (b + c) ≡ a′ + (b′ + c′)
-words-are p q r = rw (p, q, r)
+pub code-added : (ls : Table) (source : Text) (a : ℕ) (s : Span) {c : Code} → c ≡ codeOf (encode ls a (instructionOf (spanText source s))) → OneLine ls source a (Instruction s) (countedCode c)
+unfolding codePlacesBy codeContentsBy
+code-added ls source a s {c} f = code-line ls source a s c (rw f (encode-places ls a (instructionOf (spanText source s))))
 
 -- no line has more than four of anything
-up-to-four : (k : Task) (c : Code) → UpTo 4 (countedLine k c)
-up-to-four k c =
-    let w = few-words k c {a = wordLine c} {b = secondWords c} {d = dataWords k} refl refl refl in
-    let l = task k in
-    let m = code c in
-    record {
-      of-skipped = omega arith;
-      of-org = omega arith;
-      of-label = omega arith;
-      of-data = omega arith;
-      of-word = omega arith;
-      of-wordless = wordless-low k;
-      of-end = omega arith;
-      of-words = omega arith;
-      of-marked = omega arith;
-      of-accepted = omega arith;
-      of-refused = omega arith;
-    }
-  where
-    task : (k : Task) → (skippedLine k ≤ 1) × (orgLine k ≤ 1) × (labelLine k ≤ 1) × (dataLine k ≤ 1) × (endLine k ≤ 1)
-    task Skipped = (omega arith, omega arith, omega arith, omega arith, omega arith)
-    task End = (omega arith, omega arith, omega arith, omega arith, omega arith)
-    task (Org v) = (omega arith, omega arith, omega arith, omega arith, omega arith)
-    task NoOrg = (omega arith, omega arith, omega arith, omega arith, omega arith)
-    task LabelOnly = (omega arith, omega arith, omega arith, omega arith, omega arith)
-    task (Instruction s) = (omega arith, omega arith, omega arith, omega arith, omega arith)
-    task (Value n v) = (omega arith, omega arith, omega arith, omega arith, omega arith)
-    task (Space n) = (omega arith, omega arith, omega arith, omega arith, omega arith)
+up-to : (a b c d e f g h i : ℕ) → a ≤ 4 → b ≤ 4 → c ≤ 4 → d ≤ 4 → e ≤ 4 → f ≤ 4 → g ≤ 4 → h ≤ 4 → i ≤ 4 → UpTo 4 (totals a b c d e f g h i 0 0 0)
+up-to a b c d e f g h i p q r s t u v w x =
+    record { of-skipped = p; of-org = q; of-label = r; of-data = s; of-word = t; of-wordless = u; of-end = v; of-words = w; of-marked = x; of-accepted = omega arith; of-refused = omega arith }
 
-    code : (c : Code) → (wordLine c ≤ 1) × (markedWords c ≤ 1)
-    code Nothing = (omega arith, omega arith)
-    code (Word w) = (omega arith, omega arith)
-    code (WithValue w v) = (omega arith, omega arith)
-    code (Label w x) = (omega arith, omega arith)
+code-four : (c : Code) → UpTo 4 (countedCode c)
+code-four Nothing = up-to 0 0 0 0 0 1 0 0 0 (omega arith) (omega arith) (omega arith) (omega arith) (omega arith) (omega arith) (omega arith) (omega arith) (omega arith)
+code-four (Word w) = up-to 0 0 0 0 1 0 0 1 0 (omega arith) (omega arith) (omega arith) (omega arith) (omega arith) (omega arith) (omega arith) (omega arith) (omega arith)
+code-four (WithValue w v) = up-to 0 0 0 0 1 0 0 2 0 (omega arith) (omega arith) (omega arith) (omega arith) (omega arith) (omega arith) (omega arith) (omega arith) (omega arith)
+code-four (Label w x) = up-to 0 0 0 0 1 0 0 2 1 (omega arith) (omega arith) (omega arith) (omega arith) (omega arith) (omega arith) (omega arith) (omega arith) (omega arith)
 
-    none-low : (c : Code) (s : Span) → wordlessLine (Instruction s) c ≤ 4
-    none-low Nothing s = omega arith
-    none-low (Word w) s = omega arith
-    none-low (WithValue w v) s = omega arith
-    none-low (Label w x) s = omega arith
+pub one-four : (a b c d e f g h i : ℕ) → a + b + c + d + e + f + g + h + i ≤ 4 → UpTo 4 (totals a b c d e f g h i 0 0 0)
+one-four a b c d e f g h i l = up-to a b c d e f g h i (omega arith) (omega arith) (omega arith) (omega arith) (omega arith) (omega arith) (omega arith) (omega arith) (omega arith)
 
-    wordless-low : (k : Task) → wordlessLine k c ≤ 4
-    wordless-low Skipped = omega arith
-    wordless-low End = omega arith
-    wordless-low (Org v) = omega arith
-    wordless-low NoOrg = omega arith
-    wordless-low LabelOnly = omega arith
-    wordless-low (Instruction s) = none-low c s
-    wordless-low (Value n v) = omega arith
-    wordless-low (Space n) = omega arith
+tally-four : (ls : Table) (source : Text) (a : ℕ) (k : Task) → UpTo 4 (tallyOf ls (putOf source a k ∷ []))
+tally-four ls source a Skipped = rw (← skipped-line ls source a 0 0) (one-four 1 0 0 0 0 0 0 0 0 (omega arith))
+tally-four ls source a End = rw (← end-line ls source a 0 0) (one-four 0 0 0 0 0 0 1 0 0 (omega arith))
+tally-four ls source a (Org v) = rw (← org-line ls source a v 0) (one-four 0 1 0 0 0 0 0 0 0 (omega arith))
+tally-four ls source a NoOrg = rw (← no-org-line ls source a 0 0) (one-four 0 1 0 0 0 0 0 0 0 (omega arith))
+tally-four ls source a LabelOnly = rw (← label-line ls source a 0 0) (one-four 0 0 1 0 0 0 0 0 0 (omega arith))
+tally-four ls source a (Instruction s) =
+    let c = codeOf (encode ls a (instructionOf (spanText source s))) in
+    rw (← code-added ls source a s {c = c} refl) (code-four c)
+tally-four ls source a (Value n v) = rw (← value-line ls source a v n) (one-four 0 0 0 1 0 0 0 2 0 (omega arith))
+tally-four ls source a (Space n) = rw (← space-line ls source a 0 n) (one-four 0 0 0 1 0 0 0 0 0 (omega arith))
+
+-- a line more: v is the sum, u what the line adds
+pub line-fits : {t : Totals} → UpTo (4 * maxLines) (said t) → {u : Totals} {w : Said} → said u ≡ w → UpTo 4 w → SumFits t u
+line-fits l e f = sum-fits (4 * maxLines) 4 l (rw e f) (omega arith)
+
+pub code-one : (t : Totals) (c d : Code) → c ≡ d → {u v : Totals} → said u ≡ countedCode d → said v ≡ plus (said t) (said u) → said v ≡ plus (said t) (countedCode c)
+code-one t c d e p q = rw e (q ∙ ap (plus (said t)) p)
+
+pub line-added : (ls : Table) (source : Text) (a : ℕ) (task k : Task) → task ≡ k → (t : Totals) {u v : Totals} {w : Said} → said u ≡ w → OneLine ls source a k w → said v ≡ plus (said t) (said u)
+    → said v ≡ plus (said t) (tallyOf ls (putOf source a task ∷ []))
+line-added ls source a task k e t p q r = rw e (r ∙ ap (plus (said t)) (p ∙ q))
+
+pub code-more : (ls : Table) (source : Text) (a : ℕ) (task : Task) (s : Span) → task ≡ Instruction s → (t : Totals) (c : Code) → OneLine ls source a (Instruction s) (countedCode c)
+    → {v : Totals} → said v ≡ plus (said t) (countedCode c) → said v ≡ plus (said t) (tallyOf ls (putOf source a task ∷ []))
+code-more ls source a task s e t c q r = rw e (r ∙ ap (plus (said t)) q)
 
 -- ---- before line k
 pub record Counted (source : Text) (table cells : List ℕ) (pass : Pass) (totals : Totals) (address k : ℕ) : Type 0 where
@@ -163,6 +110,22 @@ up-to-none =
       of-marked = omega arith;
       of-accepted = omega arith;
       of-refused = omega arith;
+    }
+
+up-to-more : (n m : ℕ) (t : Said) → UpTo n t → n ≤ m → UpTo m t
+up-to-more n m t x h =
+    record {
+      of-skipped = omega (arith, x .of-skipped);
+      of-org = omega (arith, x .of-org);
+      of-label = omega (arith, x .of-label);
+      of-data = omega (arith, x .of-data);
+      of-word = omega (arith, x .of-word);
+      of-wordless = omega (arith, x .of-wordless);
+      of-end = omega (arith, x .of-end);
+      of-words = omega (arith, x .of-words);
+      of-marked = omega (arith, x .of-marked);
+      of-accepted = omega (arith, x .of-accepted);
+      of-refused = omega (arith, x .of-refused);
     }
 
 up-to-sum : (n m k : ℕ) (t u : Said) → UpTo n t → UpTo m u → n + m ≤ k → UpTo k (plus t u)
@@ -188,7 +151,7 @@ counted-start source table cells pass e = record { among = omega arith; here = r
 
 module _ {source : Text} {table cells : List ℕ} {pass : Pass} {t : Totals} {address k : ℕ} (n : ReadTotalsNeeds source table cells pass) (w : Counted source table cells pass t address k)
     (l : k < pass .lines) {kept : Kept} (e : kept ≡ keptAt cells k) where
-  pub line-needs : CodeOfNeeds source table (pass .labels) address (kept .task)
+  pub line-needs : AddLineNeeds (said t) source table (pass .labels) address (kept .task)
   line-needs =
       let h = n .holds in
       rw (w .here, e)
@@ -196,6 +159,7 @@ module _ {source : Text} {table cells : List ℕ} {pass : Pass} {t : Totals} {ad
         near = record { held = h .labels; labels-below = bounded h .labels; address-below = bounded h .puts k l .here };
         short = bounded h .short;
         within = h .lines .line k l .within;
+        low = up-to-more (4 * k) (4 * maxLines) (said t) (w .low) (omega (arith, n .few));
       })
 
   pub after-fits : afterBy (pass .base) address kept < 2 ^ 32
@@ -204,25 +168,21 @@ module _ {source : Text} {table cells : List ℕ} {pass : Pass} {t : Totals} {ad
       let b = bounded h .puts k l in
       rw (w .here, e, after-kept size source (pass .base) (addressAt (pass .base) cells k) (keptAt cells k) (h .lines .line k l .sized)) (omega (arith, b .after))
 
-  module _ (c : Code) (u : Totals) (p : placesOf address c ≡ codePlaces (tableOf source table (pass .labels)) (putOf source address (kept .task))) (q : said u ≡ countedLine (kept .task) c) where
-    pub line-fits : SumFits t u
-    line-fits = sum-fits (4 * k) 4 (w .low) (rw q (up-to-four (kept .task) c)) (omega (arith, n .few))
-
-    pub counted-on : {v : Totals} {a : ℕ} → said v ≡ plus (said t) (said u) → a ≡ afterBy (pass .base) address kept → Counted source table cells pass v a (k + 1)
-    unfolding addressAt putsOf
-    counted-on {v} r x =
-        let one : said u ≡ tallyOf (tableOf source table (pass .labels)) (putOf source address (kept .task) ∷ []) =
-        q ∙ line-counted (tableOf source table (pass .labels)) source address (kept .task) c p in
-        let at : putOf source address (kept .task) ≡ putAt source (pass .base) cells k = rw (w .here, e) in
-        let two : said v ≡ plus (tallyOf (tableOf source table (pass .labels)) (putsOf source (pass .base) cells k)) (tallyOf (tableOf source table (pass .labels)) (putAt source (pass .base) cells k ∷ [])) =
-        r ∙ ap₂ plus (w .is) (one ∙ ap (λ x. tallyOf (tableOf source table (pass .labels)) (x ∷ [])) at) in
-        rw (add-one k)
-        (record {
-          among = omega arith;
-          here = x ∙ rw (w .here, e);
-          is = two ∙ sym (tally-more (tableOf source table (pass .labels)) (putsOf source (pass .base) cells k) (putAt source (pass .base) cells k));
-          low = rw r (up-to-sum (4 * k) 4 (4 * suc k) (said t) (said u) (w .low) (rw q (up-to-four (kept .task) c)) (omega arith));
-        })
+  pub counted-on : {v : Totals} {a : ℕ} → said v ≡ plus (said t) (tallyOf (tableOf source table (pass .labels)) (putOf source address (kept .task) ∷ []))
+      → a ≡ afterBy (pass .base) address kept → Counted source table cells pass v a (k + 1)
+  unfolding addressAt putsOf
+  counted-on {v} r x =
+      let ls = tableOf source table (pass .labels) in
+      let at : putOf source address (kept .task) ≡ putAt source (pass .base) cells k = rw (w .here, e) in
+      let two : said v ≡ plus (tallyOf ls (putsOf source (pass .base) cells k)) (tallyOf ls (putAt source (pass .base) cells k ∷ [])) =
+      r ∙ ap₂ plus (w .is) (ap (λ x. tallyOf ls (x ∷ [])) at) in
+      rw (add-one k)
+      (record {
+        among = omega arith;
+        here = x ∙ rw (w .here, e);
+        is = two ∙ sym (tally-more ls (putsOf source (pass .base) cells k) (putAt source (pass .base) cells k));
+        low = rw r (up-to-sum (4 * k) 4 (4 * suc k) (said t) _ (w .low) (tally-four ls source address (kept .task)) (omega arith));
+      })
 
 pub counted-all : {source : Text} {table cells : List ℕ} {pass : Pass} {t : Totals} {address k : ℕ} → Counted source table cells pass t address k → pass .lines ≤ k → ReadTotalsGives source table cells pass t
 counted-all {pass = pass} {k = k} w l =

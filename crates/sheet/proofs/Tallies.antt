@@ -15,12 +15,10 @@ use Rattle.text.specs.declared.Span.{Span}
 use Rattle.line.specs.Line.{taskAt}
 use Rattle.line.specs.declared.Task.{Task}
 use Rattle.line.specs.declared.Task.the-variants.{Skipped, End, Org, NoOrg, LabelOnly, Instruction, Value, Space}
-use Rattle.cells.specs.Cells.{dataWords}
 use Rattle.encode.specs.Code.{placesOf}
 use Rattle.encode.specs.declared.Code.{Code}
 use Rattle.encode.specs.declared.Code.the-variants.{Nothing, Word, Value as WithValue, Label}
-use Rattle.sheet.specs.Totals.{UpTo}
-use Rattle.sheet.specs.Lines.{skippedLine, orgLine, labelLine, dataLine, endLine, wordLine, noWords, wordlessLine, secondWords, markedWords, countedLine, putOf, tallyOf}
+use Rattle.sheet.specs.Lines.{countedCode, putOf, tallyOf}
 
 -- ---- equal totals
 pub same-totals : {a a′ b b′ c c′ d d′ e e′ f f′ g g′ h h′ i i′ j j′ k k′ l l′ : ℕ} → a ≡ a′ → b ≡ b′ → c ≡ c′ → d ≡ d′ → e ≡ e′ → f ≡ f′ → g ≡ g′ → h ≡ h′ → i ≡ i′
@@ -71,13 +69,7 @@ module _ (ls : Table) (us : List Put) (u : Put) where
       same-totals (class-more skip) (class-more origin) (class-more bareLabel) (class-more datum) (class-more emitting) (class-more wordless) (class-more ending)
       (omega (arith, places-more dataPlaces, places-more (codePlaces ls))) (omega (arith, marks-more dataPlaces, marks-more (codePlaces ls))) refl refl refl
 
--- ---- by its task and code
-no-places : (a : ℕ) (c : Code) → placesOf a c ≡ [] → c ≡ Nothing
-no-places a Nothing e = refl
-no-places a (Word w) e = absurd (let h = ap length e in omega arith)
-no-places a (WithValue w v) e = absurd (let h = ap length e in omega arith)
-no-places a (Label w x) e = absurd (let h = ap length e in omega arith)
-
+-- ---- by its task, and an instruction by its code
 -- an instruction's totals, by its places
 unfoldable placesTotals : List Place → Said
 placesTotals l =
@@ -85,32 +77,50 @@ placesTotals l =
     totals (howMany skip c) (howMany origin c) (howMany bareLabel c) (howMany datum c) (howMany emitting c) (howMany wordless c) (howMany ending c) (0 + length (l ++ []))
     (0 + markedIn (l ++ [])) 0 0 0
 
-by-code : (s : Span) (a : ℕ) (c : Code) → countedLine (Instruction s) c ≡ placesTotals (placesOf a c)
+by-code : (a : ℕ) (c : Code) → countedCode c ≡ placesTotals (placesOf a c)
 unfolding placesTotals howMany classNumber wordClass markedIn
-by-code s a Nothing = refl
-by-code s a (Word w) = refl
-by-code s a (WithValue w v) = refl
-by-code s a (Label w x) = refl
+by-code a Nothing = refl
+by-code a (Word w) = refl
+by-code a (WithValue w v) = refl
+by-code a (Label w x) = refl
+
+-- what each kind of line adds
+abbrev pub OneLine : Table → Text → ℕ → Task → Said → Type 0
+OneLine ls source a k u = u ≡ tallyOf ls (putOf source a k ∷ [])
 
 module _ (ls : Table) (source : Text) (a : ℕ) where
-  -- no instruction: no code
-  code-silent : (k : Task) (c : Code) → placesOf a c ≡ [] → countedLine k Nothing ≡ tallyOf ls (putOf source a k ∷ []) → countedLine k c ≡ tallyOf ls (putOf source a k ∷ [])
-  code-silent k c e h = rw (no-places a c e) h
-
-  coded : (s : Span) (c : Code) → placesOf a c ≡ codePlaces ls (putOf source a (Instruction s)) → countedLine (Instruction s) c ≡ tallyOf ls (putOf source a (Instruction s) ∷ [])
+  pub code-line : (s : Span) (c : Code) → placesOf a c ≡ codePlaces ls (putOf source a (Instruction s)) → OneLine ls source a (Instruction s) (countedCode c)
   unfolding tallyOf readClasses classOf dataPlaces dataContents placesAt flatMap markedIn placesTotals
-  coded s c e = by-code s a c ∙ ap placesTotals e
+  code-line s c e = by-code a c ∙ ap placesTotals e
 
-  pub line-counted : (k : Task) (c : Code) → placesOf a c ≡ codePlaces ls (putOf source a k) → countedLine k c ≡ tallyOf ls (putOf source a k ∷ [])
-  unfolding tallyOf readClasses classOf howMany classNumber markedIn dataPlaces dataContents codePlacesBy codeContentsBy placesAt flatMap
-  line-counted Skipped c e = code-silent Skipped c e refl
-  line-counted End c e = code-silent End c e refl
-  line-counted (Org v) c e = code-silent (Org v) c e refl
-  line-counted NoOrg c e = code-silent NoOrg c e refl
-  line-counted LabelOnly c e = code-silent LabelOnly c e refl
-  line-counted (Instruction s) c e = coded s c e
-  line-counted (Value n v) c e = code-silent (Value n v) c e refl
-  line-counted (Space n) c e = code-silent (Space n) c e refl
+  module _ (v n : ℕ) where
+    pub skipped-line : OneLine ls source a Skipped (totals 1 0 0 0 0 0 0 0 0 0 0 0)
+    unfolding tallyOf readClasses classOf howMany classNumber markedIn dataPlaces dataContents codePlacesBy codeContentsBy placesAt flatMap
+    skipped-line = refl
+
+    pub end-line : OneLine ls source a End (totals 0 0 0 0 0 0 1 0 0 0 0 0)
+    unfolding tallyOf readClasses classOf howMany classNumber markedIn dataPlaces dataContents codePlacesBy codeContentsBy placesAt flatMap
+    end-line = refl
+
+    pub org-line : OneLine ls source a (Org v) (totals 0 1 0 0 0 0 0 0 0 0 0 0)
+    unfolding tallyOf readClasses classOf howMany classNumber markedIn dataPlaces dataContents codePlacesBy codeContentsBy placesAt flatMap
+    org-line = refl
+
+    pub no-org-line : OneLine ls source a NoOrg (totals 0 1 0 0 0 0 0 0 0 0 0 0)
+    unfolding tallyOf readClasses classOf howMany classNumber markedIn dataPlaces dataContents codePlacesBy codeContentsBy placesAt flatMap
+    no-org-line = refl
+
+    pub label-line : OneLine ls source a LabelOnly (totals 0 0 1 0 0 0 0 0 0 0 0 0)
+    unfolding tallyOf readClasses classOf howMany classNumber markedIn dataPlaces dataContents codePlacesBy codeContentsBy placesAt flatMap
+    label-line = refl
+
+    pub value-line : OneLine ls source a (Value n v) (totals 0 0 0 1 0 0 0 2 0 0 0 0)
+    unfolding tallyOf readClasses classOf howMany classNumber markedIn dataPlaces dataContents codePlacesBy codeContentsBy placesAt flatMap
+    value-line = refl
+
+    pub space-line : OneLine ls source a (Space n) (totals 0 0 0 1 0 0 0 0 0 0 0 0)
+    unfolding tallyOf readClasses classOf howMany classNumber markedIn dataPlaces dataContents codePlacesBy codeContentsBy placesAt flatMap
+    space-line = refl
 
 -- ---- the whole source
 none-ended : (c : Class) (n : ℕ) → eqb (classNumber c) 6 ≡ false → howMany c (replicate n ending) ≡ 0

@@ -1,10 +1,12 @@
 // The totals of the lines that are read, from what the first pass kept of them: each has one class, and words.
 ghost use mathlib.Core.Path.{_≡_};
-ghost use Rattle.rules.specs.Assemble.{codePlaces};
+ghost use mathlib.Core.List.{_∷_, []};
+ghost use Prim.Native.Nat.{_*_};
+ghost use Rattle.rules.specs.Limits.{maxLines};
+ghost use Rattle.requests.specs.Sheet.{totals, plus};
 ghost use Rattle.label.specs.Table.{tableOf};
-ghost use Rattle.encode.specs.Code.{placesOf};
-ghost use Rattle.sheet.specs.Totals.{said};
-ghost use Rattle.sheet.specs.Lines.{skippedLine, orgLine, labelLine, dataLine, endLine, wordLine, noWords, wordlessLine, secondWords, markedWords, countedLine, putOf, CodeOfNeeds, ReadTotalsNeeds, ReadTotalsGives};
+ghost use Rattle.sheet.specs.Totals.{said, UpTo};
+ghost use Rattle.sheet.specs.Lines.{countedCode, putOf, tallyOf, AddLineNeeds, ReadTotalsNeeds, ReadTotalsGives};
 use crate::Totals;
 use crate::sums::no_totals;
 use crate::sums::sum;
@@ -14,182 +16,76 @@ use line::Task;
 
 // ---- One line.
 
-// 1 for a line that is skipped.
-fn skipped_line(task: Task) -> u64
-    ensures { λ r. ⌜ r ≡ skippedLine task ⌝ }
+// A line's totals: which class it has, how many words, and how many of them are marked.
+fn line_totals(
+    skipped: u64,
+    org: u64,
+    label: u64,
+    defined: u64,
+    worded: u64,
+    wordless: u64,
+    ended: u64,
+    words: u64,
+    marked: u64,
+) -> Totals
+    ensures { λ r. ⌜ said r ≡ totals skipped org label defined worded wordless ended words marked 0 0 0 ⌝ }
 {
-    match task {
-        Task::Skipped => 1,
-        Task::End => 0,
-        Task::Org(_) => 0,
-        Task::NoOrg => 0,
-        Task::LabelOnly => 0,
-        Task::Instruction(_) => 0,
-        Task::Value(_, _) => 0,
-        Task::Space(_) => 0,
-    }
-}
-
-// 1 for ORG, with a number or without.
-fn org_line(task: Task) -> u64
-    ensures { λ r. ⌜ r ≡ orgLine task ⌝ }
-{
-    match task {
-        Task::Skipped => 0,
-        Task::End => 0,
-        Task::Org(_) => 1,
-        Task::NoOrg => 1,
-        Task::LabelOnly => 0,
-        Task::Instruction(_) => 0,
-        Task::Value(_, _) => 0,
-        Task::Space(_) => 0,
-    }
-}
-
-// 1 for a label only.
-fn label_line(task: Task) -> u64
-    ensures { λ r. ⌜ r ≡ labelLine task ⌝ }
-{
-    match task {
-        Task::Skipped => 0,
-        Task::End => 0,
-        Task::Org(_) => 0,
-        Task::NoOrg => 0,
-        Task::LabelOnly => 1,
-        Task::Instruction(_) => 0,
-        Task::Value(_, _) => 0,
-        Task::Space(_) => 0,
-    }
-}
-
-// 1 for data, with a value or without.
-fn data_line(task: Task) -> u64
-    ensures { λ r. ⌜ r ≡ dataLine task ⌝ }
-{
-    match task {
-        Task::Skipped => 0,
-        Task::End => 0,
-        Task::Org(_) => 0,
-        Task::NoOrg => 0,
-        Task::LabelOnly => 0,
-        Task::Instruction(_) => 0,
-        Task::Value(_, _) => 1,
-        Task::Space(_) => 1,
-    }
-}
-
-// 1 for END, which the first pass does not keep.
-fn end_line(task: Task) -> u64
-    ensures { λ r. ⌜ r ≡ endLine task ⌝ }
-{
-    match task {
-        Task::Skipped => 0,
-        Task::End => 1,
-        Task::Org(_) => 0,
-        Task::NoOrg => 0,
-        Task::LabelOnly => 0,
-        Task::Instruction(_) => 0,
-        Task::Value(_, _) => 0,
-        Task::Space(_) => 0,
-    }
-}
-
-// 1 if there are words.
-fn word_line(code: Code) -> u64
-    ensures { λ r. ⌜ r ≡ wordLine code ⌝ }
-{
-    match code {
-        Code::Nothing => 0,
-        Code::Word(_) => 1,
-        Code::Value(_, _) => 1,
-        Code::Label(_, _) => 1,
-    }
-}
-
-// 1 if there are none.
-fn no_words(code: Code) -> u64
-    ensures { λ r. ⌜ r ≡ noWords code ⌝ }
-{
-    match code {
-        Code::Nothing => 1,
-        Code::Word(_) => 0,
-        Code::Value(_, _) => 0,
-        Code::Label(_, _) => 0,
-    }
-}
-
-// 1 for an instruction without words.
-fn wordless_line(task: Task, code: Code) -> u64
-    ensures { λ r. ⌜ r ≡ wordlessLine task code ⌝ }
-{
-    match task {
-        Task::Skipped => 0,
-        Task::End => 0,
-        Task::Org(_) => 0,
-        Task::NoOrg => 0,
-        Task::LabelOnly => 0,
-        Task::Instruction(_) => no_words(code),
-        Task::Value(_, _) => 0,
-        Task::Space(_) => 0,
-    }
-}
-
-// 1 if there is an extension word.
-fn second_words(code: Code) -> u64
-    ensures { λ r. ⌜ r ≡ secondWords code ⌝ }
-{
-    match code {
-        Code::Nothing => 0,
-        Code::Word(_) => 0,
-        Code::Value(_, _) => 1,
-        Code::Label(_, _) => 1,
-    }
-}
-
-// 1 if it has mark 1.
-fn marked_words(code: Code) -> u64
-    ensures { λ r. ⌜ r ≡ markedWords code ⌝ }
-{
-    match code {
-        Code::Nothing => 0,
-        Code::Word(_) => 0,
-        Code::Value(_, _) => 0,
-        Code::Label(_, _) => 1,
-    }
-}
-
-// The totals of one line, by its task and its instruction's words.
-fn line_totals(task: Task, code: Code) -> Totals
-    ensures { λ r. ⌜ said r ≡ countedLine task code ⌝ }
-{
-    let first = word_line(code);
     Totals {
-        skipped: skipped_line(task),
-        org: org_line(task),
-        label: label_line(task),
-        defined: data_line(task),
-        worded: first,
-        wordless: wordless_line(task, code),
-        ended: end_line(task),
-        words: cells::data_words(task) as u64 + (first + second_words(code)),
-        marked: marked_words(code),
+        skipped,
+        org,
+        label,
+        defined,
+        worded,
+        wordless,
+        ended,
+        words,
+        marked,
         labels: 0,
         accepted: 0,
         refused: 0,
     }
 }
 
-// The words of a line's instruction, if it is one.
-fn code_of(source: &[u8], table: &[u32], labels: usize, address: u32, task: Task) -> Code
-    requires { ⌜ CodeOfNeeds (now source) (now table) labels address task ⌝ }
-    ensures { λ r. ⌜ placesOf address r ≡ codePlaces (tableOf (now (source .entry)) (now (table .entry)) labels) (putOf (now (source .entry)) address task) ⌝ }
+// The totals with an instruction more, by its words.
+fn add_code(t: Totals, code: Code) -> Totals
+    requires { ⌜ UpTo (4 * maxLines) (said t) ⌝ }
+    ensures { λ r. ⌜ said r ≡ plus (said t) (countedCode code) ⌝ }
 {
-    let Task::Instruction(span) = task else {
-        return Code::Nothing;
-    };
-    let a = span.start;
-    let b = span.end;
-    encode::encode_instruction(source, table, labels, address, &source[a..b])
+    match code {
+        Code::Nothing => sum(t, line_totals(0, 0, 0, 0, 0, 1, 0, 0, 0)),
+        Code::Word(_) => sum(t, line_totals(0, 0, 0, 0, 1, 0, 0, 1, 0)),
+        Code::Value(_, _) => sum(t, line_totals(0, 0, 0, 0, 1, 0, 0, 2, 0)),
+        Code::Label(_, _) => sum(t, line_totals(0, 0, 0, 0, 1, 0, 0, 2, 1)),
+    }
+}
+
+// The totals with one line more, read at `address`. Each arm adds by itself, so that it adds to one total and not to all.
+fn add_line(
+    t: Totals,
+    source: &[u8],
+    table: &[u32],
+    labels: usize,
+    address: u32,
+    task: Task,
+) -> Totals
+    requires { ⌜ AddLineNeeds (said t) (now source) (now table) labels address task ⌝ }
+    ensures { λ r. ⌜ said r ≡ plus (said t) (tallyOf (tableOf (now (source .entry)) (now (table .entry)) labels) (putOf (now (source .entry)) address task ∷ [])) ⌝ }
+{
+    match task {
+        Task::Skipped => sum(t, line_totals(1, 0, 0, 0, 0, 0, 0, 0, 0)),
+        Task::End => sum(t, line_totals(0, 0, 0, 0, 0, 0, 1, 0, 0)),
+        Task::Org(_) => sum(t, line_totals(0, 1, 0, 0, 0, 0, 0, 0, 0)),
+        Task::NoOrg => sum(t, line_totals(0, 1, 0, 0, 0, 0, 0, 0, 0)),
+        Task::LabelOnly => sum(t, line_totals(0, 0, 1, 0, 0, 0, 0, 0, 0)),
+        Task::Instruction(span) => {
+            let a = span.start;
+            let b = span.end;
+            let code = encode::encode_instruction(source, table, labels, address, &source[a..b]);
+            add_code(t, code)
+        }
+        Task::Value(_, _) => sum(t, line_totals(0, 0, 0, 1, 0, 0, 0, 2, 0)),
+        Task::Space(_) => sum(t, line_totals(0, 0, 0, 1, 0, 0, 0, 0, 0)),
+    }
 }
 
 // ---- All lines.
@@ -205,8 +101,7 @@ pub fn read_totals(source: &[u8], table: &[u32], cells: &[u32], pass: Pass) -> T
     while k < pass.lines {
         let kept = cells::kept_line(cells, k);
         let task = kept.task;
-        let code = code_of(source, table, pass.labels, address, task);
-        totals = sum(totals, line_totals(task, code));
+        totals = add_line(totals, source, table, pass.labels, address, task);
         address = cells::address_after(kept, pass.base, address) as u32;
         k += 1;
     }
