@@ -105,6 +105,7 @@ extern "C" {
         flags: *mut u8,
         place: *mut usize,
     ) -> u8;
+    fn lagvettu_sheet_add(source: *const u8, source_len: usize, totals: *mut u64, place: *mut usize) -> u8;
 }
 
 /// Three slices, as a caller lends them.
@@ -335,4 +336,11 @@ pub fn run(addresses: &[u32], words: &[u16], a: &[u32; 8], start: u32, limit: u6
     };
     assert!(number == 0, "refused {number} {place}");
     left
+}
+
+/// W-214: a source added to twelve totals.
+pub fn sheet_add(source: &[u8], totals: &mut [u64; 12]) -> Answer {
+    let mut place = usize::MAX;
+    let number = unsafe { lagvettu_sheet_add(source.as_ptr(), source.len(), totals.as_mut_ptr(), &mut place) };
+    (number, place)
 }

@@ -3,7 +3,7 @@
 //!   compare record FILE [COUNT]     write the recorded answers that the program `replay` runs
 //!   compare lists N [SEED]          N random sources at base 0 against the original
 //!   compare speed                   the time of both on the inputs of docs/SPEED.md
-//!   compare calls I N               N calls on input I of these, from 0, for ./counts
+//!   compare calls I N [sheet]       N calls on input I of these, from 0, for ./counts: 01's, or W-214's
 //!   compare moves N [SEED]          N random sources moved between bases, and chains of moves against the tally
 //!   compare nearest N [SEED]        N random sources: the label nearest to an address against the original's label map
 //!   compare symbols N [SEED]        N random sources: the symbols with their lines against the original's label map
@@ -11,6 +11,7 @@
 //!   compare lands N [SEED]          N random sources: each branch word to a label in reach leads there, also after moves
 //!   compare branches N [SEED]       N random branch tables and scripts, against a second reading of the table and the original
 //!   compare tidy N [SEED]           N random sources: the tidy copy, byte for byte, and its list and labels by the original
+//!   compare sheet N [SEED]          N random series of sources: their totals against the original's lists and label maps
 //!   compare gas N [SEED]            N random scripts of the manual's call, and N of 01's listed forms, against GNU as and ld
 //!   compare sums N [SEED]           N random sums, good and damaged, against Python's own parser and whole numbers
 mod brackets;
@@ -43,6 +44,8 @@ mod record;
 #[cfg(linked)]
 mod records;
 mod requests;
+#[cfg(linked)]
+mod sheet;
 mod silence;
 #[cfg(linked)]
 mod speed;
@@ -66,7 +69,7 @@ fn main() {
         #[cfg(linked)]
         Some("speed") => speed::table(),
         #[cfg(linked)]
-        Some("calls") => speed::calls(number(2, 0) as usize, number(3, 0)),
+        Some("calls") => speed::calls(number(2, 0) as usize, number(3, 0), args.get(4).is_some_and(|a| a == "sheet")),
         #[cfg(linked)]
         Some("moves") => moves::compare(number(2, 100_000) as usize, number(3, 20261116)),
         #[cfg(linked)]
@@ -82,9 +85,11 @@ fn main() {
         #[cfg(linked)]
         Some("tidy") => tidy::compare(number(2, 100_000) as usize, number(3, 20261123)),
         #[cfg(linked)]
+        Some("sheet") => sheet::compare(number(2, 100_000) as usize, number(3, 20261122)),
+        #[cfg(linked)]
         Some("gas") => gas::compare(number(2, 1_000) as usize, number(3, 20261120)),
         #[cfg(linked)]
         Some("sums") => sums::compare(number(2, 100_000) as usize, number(3, 20261122)),
-        _ => eprintln!("usage: compare record FILE [COUNT] | lists N [SEED] | moves N [SEED] | nearest N [SEED] | symbols N [SEED] | explain N [SEED] | gas N [SEED] | lands N [SEED] | branches N [SEED] | sums N [SEED] | tidy N [SEED] | speed; all but record want the static library: see ./run"),
+        _ => eprintln!("usage: compare record FILE [COUNT] | lists N [SEED] | moves N [SEED] | nearest N [SEED] | symbols N [SEED] | explain N [SEED] | gas N [SEED] | lands N [SEED] | branches N [SEED] | sums N [SEED] | tidy N [SEED] | sheet N [SEED] | speed; all but record want the static library: see ./run"),
     }
 }

@@ -1,7 +1,7 @@
 //! Speed: the same inputs through the Rust original and through the static library, in one run. Each figure is the
 //! median of many repetitions, taken in turns; the ratio, the original's time over ours, is the median of its own.
 use crate::copied::copied;
-use crate::library::{assemble, assemble_manual, relocate, tidy, Slices};
+use crate::library::{assemble, assemble_manual, relocate, sheet_add, tidy, Slices};
 use crate::{interpreter, library, oracle, record};
 use std::hint::black_box;
 use std::time::Instant;
@@ -105,13 +105,17 @@ fn manual_inputs() -> Vec<(&'static str, String)> {
     ]
 }
 
-/// So many calls on one input, and its name.
-pub fn calls(input: usize, count: u64) {
+/// So many calls on one input, 01's or W-214's, and its name.
+pub fn calls(input: usize, count: u64, sheet: bool) {
     let inputs = inputs();
     let Some((name, s)) = inputs.get(input) else { return };
     let mut x = Slices::old([8192; 3]);
     for _ in 0..count {
-        black_box(assemble(black_box(s.as_bytes()), 0, &mut x));
+        if sheet {
+            black_box(sheet_add(black_box(s.as_bytes()), &mut [0; 12]));
+        } else {
+            black_box(assemble(black_box(s.as_bytes()), 0, &mut x));
+        }
     }
     println!("{name}");
 }
@@ -223,6 +227,49 @@ fn copies_table() {
     }
 }
 
+/// W-214's call against 01's on the same scripts: it encodes every instruction, and writes no list.
+fn sheet_table() {
+    println!("| input | 01's call | a source more on a sheet | times 01's |");
+    println!("|---|---|---|---|");
+    let mut x = Slices::old([8192; 3]);
+    for (name, s) in inputs() {
+        let added = || {
+            let mut totals = [0u64; 12];
+            black_box(sheet_add(black_box(s.as_bytes()), &mut totals));
+            black_box(totals);
+        };
+        let ruled = || {
+            black_box(assemble(black_box(s.as_bytes()), 0, &mut x));
+        };
+        let [added, ruled, times] = medians(added, ruled);
+        println!("| {name} | {:.2} µs | {:.2} µs | {times:.2} |", ruled / 1000.0, added / 1000.0);
+    }
+}
+
+/// `plantsheet` on 100,000 small files, the hinge script each, if it is built.
+fn plant_row() {
+    let program = std::path::Path::new(env!("CARGO_MANIFEST_DIR")).join("../target/bin/plantsheet");
+    if !program.exists() {
+        println!("plantsheet: not built (rt check plantsheet)");
+        return;
+    }
+    let folder = std::env::temp_dir().join(format!("lagvettu-plant-{}", std::process::id()));
+    std::fs::create_dir_all(&folder).expect("a folder");
+    let mut names = String::new();
+    for i in 0..100_000 {
+        let file = folder.join(format!("{i}.s"));
+        std::fs::write(&file, include_str!("../../examples/hinge.s")).expect("a file");
+        names += &format!("{}\n", file.display());
+    }
+    std::fs::write(folder.join("names"), &names).expect("a file");
+    let start = Instant::now();
+    let out = std::process::Command::new(program).stdin(std::fs::File::open(folder.join("names")).expect("the names")).output().expect("plantsheet");
+    let time = start.elapsed().as_secs_f64();
+    let accepted = String::from_utf8_lossy(&out.stdout).lines().find(|l| l.starts_with("accepted")).unwrap_or("nothing").to_string();
+    std::fs::remove_dir_all(&folder).expect("the folder");
+    println!("plantsheet, 100,000 files: {time:.2} s, {accepted}");
+}
+
 fn mover_table() {
     println!("| mover, places | plain Rust loop | Lagvettu | times as fast |");
     println!("|---|---|---|---|");
@@ -294,4 +341,8 @@ pub fn table() {
     mover_table();
     println!();
     bench_table();
+    println!();
+    sheet_table();
+    println!();
+    plant_row();
 }

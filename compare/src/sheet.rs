@@ -1,0 +1,113 @@
+//! Totals of random series (W-214) against the Rust original: words and marked words from its own lists, labels from its own label map,
+//! refusals by probing it. Lines have no witness there; their classes are told by their text, as 02 says them, and only instructions with
+//! and without a word together: the list's words are held against its own.
+use crate::generate::{script, Random};
+use crate::library::sheet_add;
+use crate::{oracle, record};
+
+/// Where the totals stand, in the order of the C interface.
+const WORDED: usize = 4;
+const WORDLESS: usize = 5;
+const ENDED: usize = 6;
+const WORDS: usize = 7;
+const MARKED: usize = 8;
+const LABELS: usize = 9;
+const ACCEPTED: usize = 10;
+const REFUSED: usize = 11;
+
+/// The class of a line that stands before END, by its text; an instruction is `WORDLESS`, whether it has a word or not.
+fn class(line: &str) -> usize {
+    let line = line.trim();
+    let upper = line.to_uppercase();
+    if line.is_empty() || line.starts_with(';') {
+        return 0;
+    }
+    if upper.starts_with("END") {
+        return ENDED;
+    }
+    if upper.starts_with("ORG") {
+        return 1;
+    }
+    let last = line.split_once(':').map_or(line, |parts| parts.1.trim());
+    let upper = last.to_uppercase();
+    if last.is_empty() {
+        2
+    } else if upper.contains("DC.") || upper.contains("DS.") {
+        3
+    } else {
+        WORDLESS
+    }
+}
+
+/// What a source adds.
+fn count(source: &str, totals: &mut [u64; 12]) {
+    let Ok(list) = record::answered(source, 0) else {
+        totals[REFUSED] += 1;
+        return;
+    };
+    let mut ended = false;
+    for line in source.split('\n') {
+        let class = class(line);
+        ended |= class == ENDED;
+        totals[if ended { ENDED } else { class }] += 1;
+    }
+    totals[WORDS] += list.len() as u64;
+    totals[MARKED] += list.iter().filter(|p| p.2 == 1).count() as u64;
+    totals[LABELS] = totals[LABELS].max(oracle::labels(source).len() as u64);
+    totals[ACCEPTED] += 1;
+}
+
+/// The totals with instructions in one class.
+fn joined(totals: &[u64; 12]) -> [u64; 12] {
+    let mut t = *totals;
+    t[WORDLESS] += t[WORDED];
+    t[WORDED] = 0;
+    t
+}
+
+/// Totals that are handed in too high, and the refusal.
+fn over(r: &mut Random) -> ([u64; 12], (u8, usize)) {
+    let mut t = [0; 12].map(|_: u64| r.next() % ((1 << 33) + 1));
+    t[ACCEPTED] = r.next() % 1_000_000;
+    t[REFUSED] = r.next() % (1_000_000 - t[ACCEPTED]);
+    match r.below(3) {
+        0 => t[ACCEPTED] = 1_000_000 - t[REFUSED],
+        1 => t[ACCEPTED + r.below(2)] = 1 << 63,
+        _ => {
+            t[r.below(10)] = (1 << 33) + 1 + (r.next() >> 31);
+            return (t, (21, 0));
+        }
+    }
+    (t, (20, 1_000_000))
+}
+
+pub fn compare(series: usize, seed: u64) {
+    let mut r = Random(seed);
+    let (mut sources, mut words, mut refused, mut stopped, mut differ) = (0usize, 0u64, 0u64, 0usize, 0usize);
+    for _ in 0..series {
+        let (mut got, mut wanted) = ([0; 12], [0; 12]);
+        for _ in 0..r.below(9) {
+            let s = script(&mut r, 24);
+            count(&s, &mut wanted);
+            let answer = sheet_add(s.as_bytes(), &mut got);
+            sources += 1;
+            if answer != (0, 0) || joined(&got) != joined(&wanted) {
+                differ += 1;
+                eprintln!("differs: {s:?}: {answer:?} {got:?}, not {wanted:?}");
+                break;
+            }
+        }
+        words += got[WORDS];
+        refused += got[REFUSED];
+        if r.one_in(4) {
+            let (t, refusal) = over(&mut r);
+            let mut x = t;
+            stopped += 1;
+            if sheet_add(script(&mut r, 4).as_bytes(), &mut x) != refusal || x != t {
+                differ += 1;
+                eprintln!("not refused {refusal:?}: {t:?}");
+            }
+        }
+    }
+    println!("{series} series, {sources} sources, {words} words, {refused} refused sources, {stopped} calls refused 20 or 21, {differ} differ");
+}
