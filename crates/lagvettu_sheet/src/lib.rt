@@ -7,11 +7,7 @@ ghost use Rattle.lagvettu_sheet.specs.Called.{totalsIn, AddsSource};
 
 // Adds a source to the twelve totals, which are lent in the order of the struct; or refuses, and no total changes.
 #[no_mangle]
-pub extern "C" fn lagvettu_sheet_add(
-    source: &[u8],
-    totals: &mut [u64; 12],
-    place: &mut usize,
-) -> u8
+pub extern "C" fn lagvettu_sheet_add(source: &[u8], totals: &mut [u64; 12], place: &mut usize) -> u8
     ensures { λ r. ⌜ AddsSource (addSource (totalsIn (now (totals .entry))) (now (source .entry))) (now (totals .entry)) r (now (place .exit)) (now (totals .exit)) ⌝ }
 {
     let given = Totals {
@@ -31,8 +27,18 @@ pub extern "C" fn lagvettu_sheet_add(
     match sheet::add_source(given, source) {
         Added::Sum(t) => {
             *totals = [
-                t.skipped, t.org, t.label, t.defined, t.worded, t.wordless, t.ended, t.words,
-                t.marked, t.labels, t.accepted, t.refused,
+                t.skipped,
+                t.org,
+                t.label,
+                t.defined,
+                t.worded,
+                t.wordless,
+                t.ended,
+                t.words,
+                t.marked,
+                t.labels,
+                t.accepted,
+                t.refused,
             ];
             *place = 0;
             0

@@ -9,7 +9,7 @@ use Rattle.rules.specs.Limits.{maxSource, maxLines}
 use Rattle.rules.specs.Text.{Text}
 use Rattle.rules.specs.Line.{instructionOf, size}
 use Rattle.rules.specs.Label.{Table}
-use Rattle.rules.specs.Encode.{encode}
+use Rattle.rules.specs.Encode.{mnemonics, encode}
 use Rattle.rules.specs.Assemble.{codeContentsBy, codePlacesBy}
 use Rattle.requests.specs.Sheet.{Totals as Said, totals, noTotals, howMany, markedIn, readClasses, plus}
 use Rattle.label.specs.Table.{tableOf}
@@ -46,7 +46,7 @@ module _ {t : Said} {source : Text} {table : List ℕ} {labels a : ℕ} {task : 
 
 pub code-added : (ls : Table) (source : Text) (a : ℕ) (s : Span) {c : Code} → c ≡ codeOf (encode ls a (instructionOf (spanText source s))) → OneLine ls source a (Instruction s) (countedCode c)
 unfolding codePlacesBy codeContentsBy
-code-added ls source a s {c} f = code-line ls source a s c (rw f (encode-places ls a (instructionOf (spanText source s))))
+code-added ls source a s {c} f = code-line ls source a s c (rw f (encode-places mnemonics ls a (instructionOf (spanText source s))))
 
 -- no line has more than four of anything
 up-to : (a b c d e f g h i : ℕ) → a ≤ 4 → b ≤ 4 → c ≤ 4 → d ≤ 4 → e ≤ 4 → f ≤ 4 → g ≤ 4 → h ≤ 4 → i ≤ 4 → UpTo 4 (totals a b c d e f g h i 0 0 0)

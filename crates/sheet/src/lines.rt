@@ -80,7 +80,15 @@ fn add_line(
         Task::Instruction(span) => {
             let a = span.start;
             let b = span.end;
-            let code = encode::encode_instruction(source, table, labels, address, &source[a..b]);
+            let code = encode::encode_instruction(
+                false,
+                source,
+                source,
+                table,
+                labels,
+                address,
+                &source[a..b],
+            );
             add_code(t, code)
         }
         Task::Value(_, _) => sum(t, line_totals(0, 0, 0, 1, 0, 0, 0, 2, 0)),

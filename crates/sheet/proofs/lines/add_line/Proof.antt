@@ -2,6 +2,7 @@
 use native.Mathlib.Omega.{arith}
 use Rattle.sheet.proofs.Tallies.{skipped-line, end-line, org-line, no-org-line, label-line, value-line, space-line}
 use Rattle.sheet.proofs.Reading.{one-four, span-in, code-needs, code-added, line-fits, line-added, code-more}
+use Rattle.branches.specs.Branch.{namesIn}
 use borrow.Author.Needs.{needs}
 use Rattle.sheet.proofs.lines.add_line.Statement.{statement}
 use Rattle.sheet.proofs.lines.add_line.Tie as tie
@@ -64,6 +65,7 @@ returns-8 : tie.Need-returns-8
 returns-8 c = line-added _ (c .before .before .before .before .before .before .args .source .now) _ (c .before .before .before .before .before .before .args .task) _ (c .before .before .enum-told7 .given .1) (c .before .before .before .before .before .before .args .t) (c .before .line-totals7 .ensures) (space-line _ (c .before .before .before .before .before .before .args .source .now) _ 0 _) (c .sum7 .ensures)
 
 returns-6 : tie.Need-returns-6
+unfolding namesIn
 returns-6 c = code-more _ (c .before .before .before .before .before .before .before .before .args .source .now) _ (c .before .before .before .before .before .before .before .before .args .task) (c .before .before .before .before .task .given .0 .0) (c .before .before .before .before .task .given .1) (c .before .before .before .before .before .before .before .before .args .t) (c .before .encode-instruction .result) (code-added _ (c .before .before .before .before .before .before .before .before .args .source .now) _ (c .before .before .before .before .task .given .0 .0) (c .before .encode-instruction .ensures)) (c .add-code .ensures)
 
 pub add-line-spec : {M : Type 1} → statement M
