@@ -176,6 +176,26 @@ static void run(void)
            "lagvettu_run, refused");
 }
 
+static void sheet_add(void)
+{
+    const char *script = "X: MOVE X,D0\nEND\nNOP";
+    const uint64_t wanted[LAGVETTU_TOTALS] = {0, 0, 0, 0, 1, 0, 2, 2, 1, 1, 1, 0};
+    const uint64_t refused[LAGVETTU_TOTALS] = {0, 0, 0, 0, 1, 0, 2, 2, 1, 1, 1, 1};
+    uint64_t totals[LAGVETTU_TOTALS] = {0};
+    size_t place = 1;
+    uint8_t number = lagvettu_sheet_add(bytes(script), strlen(script), totals, &place);
+    expect(number == LAGVETTU_ACCEPTED && place == 0 && memcmp(totals, wanted, sizeof totals) == 0, "lagvettu_sheet_add");
+    number = lagvettu_sheet_add(bytes("\x80"), 1, totals, &place);
+    expect(number == LAGVETTU_ACCEPTED && place == 0 && memcmp(totals, refused, sizeof totals) == 0, "lagvettu_sheet_add, a source refused");
+    uint64_t full[LAGVETTU_TOTALS] = {[LAGVETTU_ACCEPTED_SOURCES] = 999999, [LAGVETTU_REFUSED_SOURCES] = 1};
+    number = lagvettu_sheet_add(bytes("NOP"), 3, full, &place);
+    expect(number == LAGVETTU_TOO_MANY_SOURCES && place == 1000000 && full[LAGVETTU_WORDS] == 0 && full[LAGVETTU_ACCEPTED_SOURCES] == 999999,
+           "lagvettu_sheet_add, too many sources");
+    uint64_t high[LAGVETTU_TOTALS] = {[LAGVETTU_MOST_LABELS] = 8589934593};
+    number = lagvettu_sheet_add(bytes("NOP"), 3, high, &place);
+    expect(number == LAGVETTU_TOTAL_TOO_HIGH && place == 0 && high[LAGVETTU_WORDS] == 0, "lagvettu_sheet_add, a total too high");
+}
+
 int main(void)
 {
     nearest();
@@ -188,5 +208,6 @@ int main(void)
     move_pair();
     tidy();
     run();
+    sheet_add();
     return wrong;
 }

@@ -14,8 +14,8 @@
  * place in *place. A refused call changes no slice. *place is written by each call.
  *
  * Paper 01's two calls are in liblagvettu.a, those of paper 02 in liblagvettu02.a, lagvettu_assemble_manual in liblagvettu_manual.a,
- * and the two calls under a branch table in liblagvettu_branches.a: -llagvettu, -llagvettu02, -llagvettu_manual, -llagvettu_branches,
- * any of them together.
+ * the two calls under a branch table in liblagvettu_branches.a, and lagvettu_sheet_add in liblagvettu_sheet.a: -llagvettu, -llagvettu02,
+ * -llagvettu_manual, -llagvettu_branches, -llagvettu_sheet, any of them together.
  */
 #ifndef LAGVETTU_H
 #define LAGVETTU_H
@@ -64,7 +64,28 @@ enum lagvettu_refusal {
     LAGVETTU_COPY_TOO_LONG = 18,    /* the lent slice is too short; place the length needed */
 
     /* From the bench. */
-    LAGVETTU_MISPLACED = 19         /* a list address that is odd or above 16,382; place the lowest such index */
+    LAGVETTU_MISPLACED = 19,        /* a list address that is odd or above 16,382; place the lowest such index */
+
+    /* From the totals of a sheet. */
+    LAGVETTU_TOO_MANY_SOURCES = 20, /* one source more than 1,000,000; place 1,000,000 */
+    LAGVETTU_TOTAL_TOO_HIGH = 21    /* a total handed in above 2^33; place 0 */
+};
+
+/* The totals of a sheet, in the order in which they are lent. */
+enum lagvettu_total {
+    LAGVETTU_SKIPPED_LINES = 0,     /* each line is in one of seven classes, by what follows its first colon: empty or a comment; */
+    LAGVETTU_ORG_LINES = 1,
+    LAGVETTU_LABEL_LINES = 2,       /* a label only; */
+    LAGVETTU_DATA_LINES = 3,
+    LAGVETTU_WORD_LINES = 4,        /* an instruction with a word; */
+    LAGVETTU_WORDLESS_LINES = 5,    /* an instruction without; */
+    LAGVETTU_END_LINES = 6,         /* END, and every line after it */
+    LAGVETTU_WORDS = 7,             /* words of the lists */
+    LAGVETTU_MARKED_WORDS = 8,      /* those with mark 1 */
+    LAGVETTU_MOST_LABELS = 9,       /* the most labels in one source */
+    LAGVETTU_ACCEPTED_SOURCES = 10,
+    LAGVETTU_REFUSED_SOURCES = 11,
+    LAGVETTU_TOTALS = 12
 };
 
 /* What the number of a line said. */
@@ -294,6 +315,19 @@ uint8_t lagvettu_run(const uint32_t *addresses, size_t addresses_length,
                      uint8_t memory[LAGVETTU_MEMORY],
                      uint8_t *end, uint64_t *steps, uint32_t *pc, uint8_t *flags,
                      size_t *place);
+
+/*
+ * Adds a source, at base 0, to the twelve totals of a series, which start at 0: its lines, words and labels, or, if it is refused by 1
+ * to 6, one to the refused sources and nothing else. The mean of words per script is totals[LAGVETTU_WORDS] over
+ * totals[LAGVETTU_ACCEPTED_SOURCES], two whole numbers. Checks 20, then 21 over all twelve; no total changes by either. A series of at
+ * most 1,000,000 sources never meets 21. The totals of a series' parts, added up, are those of the series, in whatever order (of the
+ * most labels the larger), so several machines can share its sources. When it accepts, *place is 0.
+ *
+ *     "X: MOVE X,D0\nEND\nNOP" to no totals: an instruction with a word, two lines from END on, 2 words, 1 marked, 1 label.
+ */
+uint8_t lagvettu_sheet_add(const uint8_t *source, size_t source_length,
+                           uint64_t totals[LAGVETTU_TOTALS],
+                           size_t *place);
 
 #ifdef __cplusplus
 }
