@@ -23,7 +23,7 @@ use sheet::sums::no_totals;
 use station::SCRIPT;
 use station::input::Input;
 
-mod rows; // rows.rt: a sheet's text, row by row
+pub mod rows; // rows.rt: a sheet's text, row by row
 mod back; // back.rt: a sheet read back from its text
 
 // Room for a sheet's text, which has at most 377 bytes.

@@ -5,7 +5,6 @@ ghost use Rattle.requests.specs.Sheet.{meanOf};
 ghost use Rattle.station.specs.Printed.{Printed};
 ghost use Rattle.sheet.specs.Totals.{said};
 ghost use Rattle.sheettext.specs.Rows.{partText, plainText, codeText, countsText, meanText, sheetText, PutAt};
-use crate::SHEET;
 use listing::writing::write_bytes;
 use listing::writing::write_decimal;
 use sheet::Totals;
@@ -68,7 +67,8 @@ fn write_mean(t: Totals, at: usize, out: &mut [u8]) -> usize
 }
 
 // Puts a sheet's text at the front, and answers its length.
-pub fn write_sheet(t: Totals, out: &mut [u8; SHEET]) -> usize
+pub fn write_sheet(t: Totals, out: &mut [u8]) -> usize
+    requires { ⌜ 377 ≤ length (now out) ⌝ }
     ensures { λ r. ⌜ Printed (sheetText (said t)) r (now (out .entry)) (now (out .exit)) ⌝ }
 {
     let worded = write_plain(t, 0, out);
