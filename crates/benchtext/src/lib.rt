@@ -282,7 +282,13 @@ fn list_rows(addresses: &[u32], words: &[u16], count: usize, given: Given) -> us
 // ---- The text of a list.
 
 // Puts a row's line for the list in a text, the first `length` bytes, at the front, and answers its length.
-fn parsed_row(bytes: &[u8], length: usize, given: Given, row: usize, out: &mut [u8; TEXT]) -> usize
+pub fn parsed_row(
+    bytes: &[u8],
+    length: usize,
+    given: Given,
+    row: usize,
+    out: &mut [u8; TEXT],
+) -> usize
     requires { ⌜ length ≤ len (now bytes) ⌝ }
     ensures { λ r. ⌜ Printed (rowText given row (take length (now (bytes .entry)))) r (now (out .entry)) (now (out .exit)) ⌝ }
 {

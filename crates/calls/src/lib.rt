@@ -1,4 +1,6 @@
 // Paper 02's calls by the numbers that they have in records, each answered as a text, and a recorded text compared with it.
+use benchtext::arguments::Given;
+use benchtext::parsed_row;
 use branchtext::write_lines_under;
 use branchtext::write_list_under;
 use directive::LineNumber;
@@ -10,6 +12,10 @@ use mantext::write_manual;
 use nearest::Nearest;
 use nearest::nearest_label;
 use numeral::Failure;
+use sheet::Added;
+use sheet::Totals;
+use sheet::add_source;
+use sheettext::rows::write_sheet;
 use symtext::write_symbols;
 use text::starts_with;
 use tidytext::write_tidied;
@@ -26,7 +32,11 @@ ghost use Rattle.rules.specs.Directive.{lineReading};
 ghost use Rattle.directive.specs.Directive.{lineNumberOf};
 ghost use Rattle.requests.specs.Nearest.{nearest};
 ghost use Rattle.branchtext.specs.BranchText.{listUnderText, linesUnderText};
-ghost use Rattle.calls.specs.Calls.{numberText, answeredText, nearestText, readText, failureText, saidText, callText, isCall, CallAgrees};
+ghost use Rattle.requests.specs.Sheet.{addSource};
+ghost use Rattle.sheet.specs.Totals.{said};
+ghost use Rattle.sheettext.specs.Rows.{sheetText};
+ghost use Rattle.benchtext.specs.BenchText.{rowText};
+ghost use Rattle.calls.specs.Calls.{numberText, answeredText, nearestText, readText, failureText, saidText, callText, isCall, runOf, emptySources, CallAgrees};
 
 // The bytes of the longest text there is, a list's.
 pub const ROOM: usize = station::TEXT;
@@ -34,7 +44,7 @@ pub const ROOM: usize = station::TEXT;
 // The calls' numbers go on from the assembler's, which is 1.
 const FIRST: u8 = 2;
 
-const LAST: u8 = 9;
+const LAST: u8 = 11;
 
 // ---- Texts.
 
@@ -132,6 +142,57 @@ fn lines_under_text(source: &[u8], base: u32, said: u32, out: &mut [u8; ROOM]) -
     write_lines_under(&source[..n], &source[n..], base, out)
 }
 
+// The arguments of `bench` with START and LIMIT alone.
+fn run_of(start: u32, limit: u32) -> Given
+    ensures { λ r. ⌜ r ≡ runOf start limit ⌝ }
+{
+    Given {
+        place: 6,
+        wrong: false,
+        tries: false,
+        numbers: [0, 0, 0, 0, start, 0, 0, 0, 0, 0, 0, 0, 0, 0],
+        limit: limit as u64,
+    }
+}
+
+// Puts the line of a run on the bench at the front (W-213), and answers its length.
+fn run_text(list: &[u8], start: u32, limit: u32, out: &mut [u8; ROOM]) -> usize
+    ensures { λ r. ⌜ Printed (rowText (runOf start limit) 0 (now (list .entry))) r (now (out .entry)) (now (out .exit)) ⌝ }
+{
+    let given = run_of(start, limit);
+    parsed_row(list, list.len(), given, 0, out)
+}
+
+// The totals of so many sources that have no lines.
+fn empty_sources(accepted: u32, refused: u32) -> Totals
+    ensures { λ r. ⌜ said r ≡ emptySources accepted refused ⌝ }
+{
+    Totals {
+        skipped: 0,
+        org: 0,
+        label: 0,
+        defined: 0,
+        worded: 0,
+        wordless: 0,
+        ended: 0,
+        words: 0,
+        marked: 0,
+        labels: 0,
+        accepted: accepted as u64,
+        refused: refused as u64,
+    }
+}
+
+// Puts the totals with a source more at the front (W-214), and answers the text's length.
+fn sheet_text(source: &[u8], accepted: u32, refused: u32, out: &mut [u8; ROOM]) -> usize
+    ensures { λ r. ⌜ Printed (answeredText sheetText (addSource (emptySources accepted refused) (now (source .entry)))) r (now (out .entry)) (now (out .exit)) ⌝ }
+{
+    match add_source(empty_sources(accepted, refused), source) {
+        Added::Sum(totals) => write_sheet(totals, out),
+        Added::Refused(number, place) => write_refused(number, place, out),
+    }
+}
+
 // Puts the text of a call at the front, and answers its length: none for a call that is not known.
 pub fn call_text(call: u8, x: u32, y: u32, source: &[u8], out: &mut [u8; ROOM]) -> usize
     ensures { λ r. ⌜ Printed (callText call x y (now (source .entry))) r (now (out .entry)) (now (out .exit)) ⌝ }
@@ -145,6 +206,8 @@ pub fn call_text(call: u8, x: u32, y: u32, source: &[u8], out: &mut [u8; ROOM]) 
         7 => list_under_text(source, x, y, out),
         8 => lines_under_text(source, x, y, out),
         9 => write_tidied(source, x as usize, out),
+        10 => run_text(source, x, y, out),
+        11 => sheet_text(source, x, y, out),
         _ => 0,
     }
 }

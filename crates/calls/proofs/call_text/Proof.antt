@@ -40,15 +40,25 @@ returns-8 c = rw (c .before .before .match .keys8) (c .write-tidied .ensures)
 
 returns-9 : tie.Need-returns-9
 unfolding callText
-returns-9 c =
+returns-9 c = rw (c .before .before .match .keys9) (c .run-text .ensures)
+
+returns-10 : tie.Need-returns-10
+unfolding callText
+returns-10 c = rw (c .before .before .match .keys10) (c .sheet-text .ensures)
+
+returns-11 : tie.Need-returns-11
+unfolding callText
+returns-11 c =
     rw
-    (ne-eqb _ 2 (c .match .rest .0 .0 .0 .0 .0 .0 .0 .1), ne-eqb _ 3 (c .match .rest .0 .0 .0 .0 .0 .0 .1), ne-eqb _ 4 (c .match .rest .0 .0 .0 .0 .0 .1), ne-eqb _ 5 (c .match .rest .0 .0 .0 .0 .1), ne-eqb _ 6 (c .match .rest .0 .0 .0 .1), ne-eqb _ 7 (c .match .rest .0 .0 .1), ne-eqb _ 8 (c .match .rest .0 .1), ne-eqb _ 9 (c .match .rest .1))
+    (ne-eqb _ 2 (c .match .rest .0 .0 .0 .0 .0 .0 .0 .0 .0 .1), ne-eqb _ 3 (c .match .rest .0 .0 .0 .0 .0 .0 .0 .0 .1), ne-eqb _ 4 (c .match .rest .0 .0 .0 .0 .0 .0 .0 .1), ne-eqb _ 5 (c .match .rest .0 .0 .0 .0 .0 .0 .1), ne-eqb _ 6 (c .match .rest .0 .0 .0 .0 .0 .1), ne-eqb _ 7 (c .match .rest .0 .0 .0 .0 .1), ne-eqb _ 8 (c .match .rest .0 .0 .0 .1), ne-eqb _ 9 (c .match .rest .0 .0 .1), ne-eqb _ 10 (c .match .rest .0 .1), ne-eqb _ 11 (c .match .rest .1))
     (printed-none _)
 
 pub call-text-spec : {M : Type 1} → statement M
 call-text-spec =
     tie.close
     (tie.spec
+    (λ c κs. search needs)
+    (λ c κs. search needs)
     (λ c κs. search needs)
     (λ c κs. search needs)
     (λ c κs. search needs)
@@ -65,4 +75,6 @@ call-text-spec =
     returns-6
     returns-7
     returns-8
-    returns-9)
+    returns-9
+    returns-10
+    returns-11)
