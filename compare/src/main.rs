@@ -44,8 +44,9 @@ mod record;
 #[cfg(linked)]
 mod records;
 mod requests;
-#[cfg(linked)]
+mod runs;
 mod sheet;
+mod sheets;
 mod silence;
 #[cfg(linked)]
 mod speed;

@@ -1,5 +1,5 @@
 //! Recorded calls of paper 02, a function a request; W-205's are in verdicts.rs, W-207's in manual.rs, W-210's in branches.rs, W-211's in brackets.rs, W-212's
-//! in copies.rs. Each answer is written out here from 02's words and READINGS.md's examples of them, or comes from the Rust original's own label map or list
+//! in copies.rs, W-213's in runs.rs, W-214's in sheets.rs. Each answer is written out here from 02's words and READINGS.md's examples of them, or comes from the Rust original's own label map or list
 //! where that leaves no choice, or from GNU as; none is made by the Rattle code.
 
 use crate::brackets::sums;
@@ -7,6 +7,8 @@ use crate::branches::branch_calls;
 use crate::copies::copies;
 use crate::generate::{script, Random};
 use crate::manual::manual_lists;
+use crate::runs::runs;
+use crate::sheets::sheets;
 use crate::verdicts::verdicts;
 use crate::{oracle, record};
 use std::collections::HashMap;
@@ -34,6 +36,8 @@ pub fn calls() -> Vec<Call> {
     branch_calls(&mut out);
     sums(&mut out);
     copies(&mut out);
+    runs(&mut out);
+    sheets(&mut out);
     out
 }
 

@@ -1,19 +1,22 @@
 //! Totals of random series (W-214) against the Rust original: words and marked words from its own lists, labels from its own label map,
-//! refusals by probing it. Lines have no witness there; their classes are told by their text, as 02 says them, and only instructions with
-//! and without a word together: the list's words are held against its own.
+//! refusals by probing it, and so (silence.rs) whether an instruction has a word. The other classes of lines are told by the line's text, as
+//! 02 says them.
+#[cfg(linked)]
 use crate::generate::{script, Random};
+#[cfg(linked)]
 use crate::library::sheet_add;
+use crate::silence::Read;
 use crate::{oracle, record};
 
 /// Where the totals stand, in the order of the C interface.
 const WORDED: usize = 4;
 const WORDLESS: usize = 5;
 const ENDED: usize = 6;
-const WORDS: usize = 7;
-const MARKED: usize = 8;
-const LABELS: usize = 9;
-const ACCEPTED: usize = 10;
-const REFUSED: usize = 11;
+pub const WORDS: usize = 7;
+pub const MARKED: usize = 8;
+pub const LABELS: usize = 9;
+pub const ACCEPTED: usize = 10;
+pub const REFUSED: usize = 11;
 
 /// The class of a line that stands before END, by its text; an instruction is `WORDLESS`, whether it has a word or not.
 fn class(line: &str) -> usize {
@@ -40,15 +43,20 @@ fn class(line: &str) -> usize {
 }
 
 /// What a source adds.
-fn count(source: &str, totals: &mut [u64; 12]) {
+pub fn count(source: &str, totals: &mut [u64; 12]) {
     let Ok(list) = record::answered(source, 0) else {
         totals[REFUSED] += 1;
         return;
     };
+    let read = Read::new(source, 0);
     let mut ended = false;
-    for line in source.split('\n') {
-        let class = class(line);
+    for (k, line) in source.split('\n').enumerate() {
+        assert!(read.reads(k + 1) != ended, "what stands behind END is not read");
+        let mut class = class(line);
         ended |= class == ENDED;
+        if !ended && class == WORDLESS && read.place(k + 1).is_some() {
+            class = WORDED;
+        }
         totals[if ended { ENDED } else { class }] += 1;
     }
     totals[WORDS] += list.len() as u64;
@@ -57,15 +65,8 @@ fn count(source: &str, totals: &mut [u64; 12]) {
     totals[ACCEPTED] += 1;
 }
 
-/// The totals with instructions in one class.
-fn joined(totals: &[u64; 12]) -> [u64; 12] {
-    let mut t = *totals;
-    t[WORDLESS] += t[WORDED];
-    t[WORDED] = 0;
-    t
-}
-
 /// Totals that are handed in too high, and the refusal.
+#[cfg(linked)]
 fn over(r: &mut Random) -> ([u64; 12], (u8, usize)) {
     let mut t = [0; 12].map(|_: u64| r.next() % ((1 << 33) + 1));
     t[ACCEPTED] = r.next() % 1_000_000;
@@ -81,6 +82,7 @@ fn over(r: &mut Random) -> ([u64; 12], (u8, usize)) {
     (t, (20, 1_000_000))
 }
 
+#[cfg(linked)]
 pub fn compare(series: usize, seed: u64) {
     let mut r = Random(seed);
     let (mut sources, mut words, mut refused, mut stopped, mut differ) = (0usize, 0u64, 0u64, 0usize, 0usize);
@@ -91,7 +93,7 @@ pub fn compare(series: usize, seed: u64) {
             count(&s, &mut wanted);
             let answer = sheet_add(s.as_bytes(), &mut got);
             sources += 1;
-            if answer != (0, 0) || joined(&got) != joined(&wanted) {
+            if answer != (0, 0) || got != wanted {
                 differ += 1;
                 eprintln!("differs: {s:?}: {answer:?} {got:?}, not {wanted:?}");
                 break;
