@@ -2,6 +2,7 @@
 use mathlib.Core.Path.{_≡_}
 use mathlib.Core.List.{List, [], _∷_}
 use Prim.Native.Nat.{ℕ, _+_, _^_, _≤_, _<_, max}
+use lib.ListN.{getD}
 use Rattle.rules.specs.Answer.{Answer, accepted, refused}
 use Rattle.requests.specs.Sheet.{totals}
 use Rattle.requests.specs.Sheet.{Totals as Said}
@@ -14,6 +15,12 @@ abbrev pub said : Totals → Said
 said t =
     totals (t .skipped) (t .org) (t .label) (t .defined) (t .worded) (t .wordless) (t .ended) (t .words) (t .marked)
     (t .labels) (t .accepted) (t .refused)
+
+-- and twelve numbers in one list
+abbrev pub lentTotals : List ℕ → Said
+lentTotals ns =
+    totals (getD ns 0 0) (getD ns 1 0) (getD ns 2 0) (getD ns 3 0) (getD ns 4 0) (getD ns 5 0) (getD ns 6 0) (getD ns 7 0) (getD ns 8 0) (getD ns 9 0) (getD ns 10 0)
+    (getD ns 11 0)
 
 -- and an answer
 abbrev pub answered : Added → Answer Said

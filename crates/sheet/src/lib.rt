@@ -15,6 +15,7 @@ ghost use Rattle.sheet.specs.Totals.{said, answered};
 ghost use Rattle.sheet.specs.Source.{wholeTotals, PassTotalsNeeds, Starting, shortLines, TotalsInNeeds};
 
 pub mod sums; // sums.rt: totals added up and looked at
+pub mod lent; // lent.rt: totals as twelve numbers in one array
 mod lines; // lines.rt: the totals of the lines that are read
 
 // The most sources of a series.
