@@ -196,6 +196,30 @@ static void sheet_add(void)
     expect(number == LAGVETTU_TOTAL_TOO_HIGH && place == 0 && high[LAGVETTU_WORDS] == 0, "lagvettu_sheet_add, a total too high");
 }
 
+static void sheet_join(void)
+{
+    const char *scripts[2] = {"X: MOVE X,D0\nEND\nNOP", "A:\nB: NOP"};
+    const uint64_t wanted[LAGVETTU_TOTALS] = {0, 0, 1, 0, 2, 0, 2, 3, 1, 2, 2, 0};
+    uint64_t sheets[2][LAGVETTU_TOTALS] = {{0}}, both[LAGVETTU_TOTALS] = {0};
+    size_t place = 1;
+    uint8_t number;
+    for (int i = 0; i < 2; i++) {
+        lagvettu_sheet_add(bytes(scripts[i]), strlen(scripts[i]), sheets[i], &place);
+        lagvettu_sheet_add(bytes(scripts[i]), strlen(scripts[i]), both, &place);
+    }
+    place = 1;
+    number = lagvettu_sheet_join(sheets[0], sheets[1], &place);
+    expect(number == LAGVETTU_ACCEPTED && place == 0 && memcmp(sheets[1], wanted, sizeof wanted) == 0 && memcmp(both, wanted, sizeof wanted) == 0,
+           "lagvettu_sheet_join");
+    const uint64_t full[LAGVETTU_TOTALS] = {[LAGVETTU_ACCEPTED_SOURCES] = 999999, [LAGVETTU_REFUSED_SOURCES] = 1};
+    number = lagvettu_sheet_join(full, sheets[0], &place);
+    expect(number == LAGVETTU_TOO_MANY_SOURCES && place == 1000000 && sheets[0][LAGVETTU_WORDS] == 2 && sheets[0][LAGVETTU_ACCEPTED_SOURCES] == 1,
+           "lagvettu_sheet_join, too many sources");
+    const uint64_t high[LAGVETTU_TOTALS] = {[LAGVETTU_MOST_LABELS] = 8589934593};
+    number = lagvettu_sheet_join(high, sheets[0], &place);
+    expect(number == LAGVETTU_TOTAL_TOO_HIGH && place == 0 && sheets[0][LAGVETTU_MOST_LABELS] == 1, "lagvettu_sheet_join, a total too high");
+}
+
 int main(void)
 {
     nearest();
@@ -209,5 +233,6 @@ int main(void)
     tidy();
     run();
     sheet_add();
+    sheet_join();
     return wrong;
 }

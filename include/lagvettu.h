@@ -14,7 +14,7 @@
  * place in *place. A refused call changes no slice. *place is written by each call.
  *
  * Paper 01's two calls are in liblagvettu.a, those of paper 02 in liblagvettu02.a, lagvettu_assemble_manual in liblagvettu_manual.a,
- * the two calls under a branch table in liblagvettu_branches.a, and lagvettu_sheet_add in liblagvettu_sheet.a: -llagvettu, -llagvettu02,
+ * the two calls under a branch table in liblagvettu_branches.a, and the two of a sheet in liblagvettu_sheet.a: -llagvettu, -llagvettu02,
  * -llagvettu_manual, -llagvettu_branches, -llagvettu_sheet, any of them together.
  */
 #ifndef LAGVETTU_H
@@ -67,7 +67,7 @@ enum lagvettu_refusal {
     LAGVETTU_MISPLACED = 19,        /* a list address that is odd or above 16,382; place the lowest such index */
 
     /* From the totals of a sheet. */
-    LAGVETTU_TOO_MANY_SOURCES = 20, /* one source more than 1,000,000; place 1,000,000 */
+    LAGVETTU_TOO_MANY_SOURCES = 20, /* one source more than 1,000,000, or two sheets of more together; place 1,000,000 */
     LAGVETTU_TOTAL_TOO_HIGH = 21    /* a total handed in above 2^33; place 0 */
 };
 
@@ -328,6 +328,19 @@ uint8_t lagvettu_run(const uint32_t *addresses, size_t addresses_length,
 uint8_t lagvettu_sheet_add(const uint8_t *source, size_t source_length,
                            uint64_t totals[LAGVETTU_TOTALS],
                            size_t *place);
+
+/*
+ * Adds the totals of another sheet, of which each total is added up, but of the most labels the larger is taken: the totals of both
+ * series together. Checks 20, if they are of more than 1,000,000 sources together, then 21 over the twelve of either; no total changes
+ * by a refusal. When it accepts, *place is 0.
+ *
+ *     A sheet of "X: MOVE X,D0\nEND\nNOP" and one of "A:\nB: NOP" are that of both: a label only, two instructions with a word, two lines
+ *     from END on, 3 words, 1 marked, at most 2 labels in one source, 2 sources accepted.
+ *     Of 1,000,000 sources and of one: refused 20 at 1,000,000.
+ */
+uint8_t lagvettu_sheet_join(const uint64_t other[LAGVETTU_TOTALS],
+                            uint64_t totals[LAGVETTU_TOTALS],
+                            size_t *place);
 
 #ifdef __cplusplus
 }
