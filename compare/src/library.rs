@@ -106,6 +106,7 @@ extern "C" {
         place: *mut usize,
     ) -> u8;
     fn lagvettu_sheet_add(source: *const u8, source_len: usize, totals: *mut u64, place: *mut usize) -> u8;
+    fn lagvettu_sheet_join(other: *const u64, totals: *mut u64, place: *mut usize) -> u8;
 }
 
 /// Three slices, as a caller lends them.
@@ -342,5 +343,12 @@ pub fn run(addresses: &[u32], words: &[u16], a: &[u32; 8], start: u32, limit: u6
 pub fn sheet_add(source: &[u8], totals: &mut [u64; 12]) -> Answer {
     let mut place = usize::MAX;
     let number = unsafe { lagvettu_sheet_add(source.as_ptr(), source.len(), totals.as_mut_ptr(), &mut place) };
+    (number, place)
+}
+
+/// W-214: another sheet's totals added to them.
+pub fn sheet_join(other: &[u64; 12], totals: &mut [u64; 12]) -> Answer {
+    let mut place = usize::MAX;
+    let number = unsafe { lagvettu_sheet_join(other.as_ptr(), totals.as_mut_ptr(), &mut place) };
     (number, place)
 }

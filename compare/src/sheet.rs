@@ -1,10 +1,10 @@
 //! Totals of random series (W-214) against the Rust original: words and marked words from its own lists, labels from its own label map,
 //! refusals by probing it, and so (silence.rs) whether an instruction has a word. The other classes of lines are told by the line's text, as
-//! 02 says them.
+//! 02 says them. The sheets of two parts of a series, joined, are that of the whole.
 #[cfg(linked)]
 use crate::generate::{script, Random};
 #[cfg(linked)]
-use crate::library::sheet_add;
+use crate::library::{sheet_add, sheet_join};
 use crate::silence::Read;
 use crate::{oracle, record};
 
@@ -87,7 +87,7 @@ pub fn compare(series: usize, seed: u64) {
     let mut r = Random(seed);
     let (mut sources, mut words, mut refused, mut stopped, mut differ) = (0usize, 0u64, 0u64, 0usize, 0usize);
     for _ in 0..series {
-        let (mut got, mut wanted) = ([0; 12], [0; 12]);
+        let (mut got, mut wanted, mut parts) = ([0; 12], [0; 12], [[0; 12]; 2]);
         for _ in 0..r.below(9) {
             let s = script(&mut r, 24);
             count(&s, &mut wanted);
@@ -98,6 +98,12 @@ pub fn compare(series: usize, seed: u64) {
                 eprintln!("differs: {s:?}: {answer:?} {got:?}, not {wanted:?}");
                 break;
             }
+            sheet_add(s.as_bytes(), &mut parts[sources % 2]);
+        }
+        let [first, mut both] = parts;
+        if sheet_join(&first, &mut both) != (0, 0) || both != got {
+            differ += 1;
+            eprintln!("joined: {parts:?}: {both:?}, not {got:?}");
         }
         words += got[WORDS];
         refused += got[REFUSED];
@@ -105,9 +111,13 @@ pub fn compare(series: usize, seed: u64) {
             let (t, refusal) = over(&mut r);
             let mut x = t;
             stopped += 1;
-            if sheet_add(script(&mut r, 4).as_bytes(), &mut x) != refusal || x != t {
+            let mut one = [0; 12];
+            one[ACCEPTED] = 1;
+            let (other, mut y) = (one, one);
+            let answers = [sheet_add(script(&mut r, 4).as_bytes(), &mut x), sheet_join(&other, &mut x), sheet_join(&t, &mut y)];
+            if answers != [refusal; 3] || x != t || y != other {
                 differ += 1;
-                eprintln!("not refused {refusal:?}: {t:?}");
+                eprintln!("not refused {refusal:?}: {t:?}: {answers:?}");
             }
         }
     }
