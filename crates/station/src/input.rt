@@ -5,7 +5,6 @@ ghost use Prim.Native.Nat.{_<_};
 ghost use Rattle.station.specs.Reads.{atStart, startAfter, afterRead, left, kept};
 use crate::LIST;
 use crate::SCRIPT;
-use crate::TABLE;
 use crate::lesser;
 use listing::writing::write_bytes;
 
@@ -74,7 +73,7 @@ pub fn after_read(input: Input, got: isize) -> Input
 }
 
 // Puts a chunk after the first `total` bytes of what is kept, as far as there is room.
-fn keep(buffer: &mut [u8], total: usize, chunk: &[u8])
+pub fn keep(buffer: &mut [u8], total: usize, chunk: &[u8])
     ensures { λ _. ⌜ now (buffer .exit) ≡ kept total (now (chunk .entry)) (now (buffer .entry)) ⌝ }
 {
     if buffer.len() <= total {
@@ -96,11 +95,4 @@ pub fn keep_list(list: &mut [u8; LIST], total: usize, chunk: &[u8])
     ensures { λ _. ⌜ now (list .exit) ≡ kept total (now (chunk .entry)) (now (list .entry)) ⌝ }
 {
     keep(list, total, chunk);
-}
-
-// Keeps a chunk of a branch table.
-pub fn keep_table(table: &mut [u8; TABLE], total: usize, chunk: &[u8])
-    ensures { λ _. ⌜ now (table .exit) ≡ kept total (now (chunk .entry)) (now (table .entry)) ⌝ }
-{
-    keep(table, total, chunk);
 }

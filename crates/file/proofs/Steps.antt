@@ -15,7 +15,7 @@ use Rattle.rules.specs.Text.{Text}
 use Rattle.station.specs.Reads.{atStart, failedAt, afterRead, kept, Reads}
 use Rattle.station.specs.declared.input.Input.{Input}
 use Rattle.station.proofs.Kept.{kept-on, kept-nil, reads-on}
-use Rattle.tablefile.specs.FileRead.{openedBy, Partly}
+use Rattle.file.specs.FileRead.{openedBy, Partly}
 
 -- nothing is read yet, or nothing can be
 pub nothing-read : (x : List ℕ) (i : Input) → i .total ≡ 0 → Partly x x i

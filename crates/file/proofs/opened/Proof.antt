@@ -1,10 +1,10 @@
 -- `opened` meets its contract, by the sign of the descriptor. Assumes nothing.
 use mathlib.Core.Path.{sym, _∙_}
 use mir.Facts.{toZ-ofZ}
-use Rattle.tablefile.proofs.Steps.{not-opened, is-opened}
+use Rattle.file.proofs.Steps.{not-opened, is-opened}
 use borrow.Author.Needs.{needs}
-use Rattle.tablefile.proofs.opened.Statement.{statement}
-use Rattle.tablefile.proofs.opened.Tie as tie
+use Rattle.file.proofs.opened.Statement.{statement}
+use Rattle.file.proofs.opened.Tie as tie
 
 returns : tie.Need-returns
 returns c = not-opened _ (rw (toZ-ofZ (c .before .fits .file)) at (c .if1 .taken))

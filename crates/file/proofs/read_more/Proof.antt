@@ -5,21 +5,21 @@ use Rattle.io.specs.Counts.{clamped}
 use mir.Syntax.{w64}
 use mir.Val.{toZ, ofZ}
 use mir.Facts.{toZ-ofZ}
-use Rattle.tablefile.proofs.Steps.{step}
+use Rattle.file.proofs.Steps.{step}
 use borrow.Author.Needs.{needs, sfits-of}
-use Rattle.tablefile.proofs.read_more.Statement.{statement}
-use Rattle.tablefile.proofs.read_more.Tie as tie
+use Rattle.file.proofs.read_more.Statement.{statement}
+use Rattle.file.proofs.read_more.Tie as tie
 
 returns : tie.Need-returns
 returns c = (
   (λ x p.
-      let read = c .before .before .before .before .before .before .before .read in
-      let count = c .before .before .before .before .count in
+      let read = c .before .before .before .before .before .before .before .before .before .read in
+      let count = c .before .before .before .before .before .before .count in
       let same : toZ w64 (ofZ w64 (read .result)) ≡ read .result = toZ-ofZ (sfits-of (read .ok)) in
-      let size = length (c .before .before .before .before .before .before .before .before .before .buffer .result) in
+      let size = length (c .before .before .before .before .before .before .before .before .before .before .before .buffer .result) in
       let whole : length (read .last .1 .0) ≡ size = read .kept .1 .0 in
       let long = sym (count .ensures .0 .1) ∙ (count .ensures .1 ∙ ap (clamped (toZ w64 (ofZ w64 (read .result)))) whole) in
-      rw (c .before .keep-table .ensures, c .after-read .ensures .0) (step size _ _ x _ _ (rw same (read .ensures)) long p)),
+      rw (c .before .before .before .keep .ensures, c .after-read .ensures .0) (step size _ _ x _ _ (rw same (read .ensures)) long p)),
   c .after-read .ensures .1,
 )
 
@@ -36,4 +36,5 @@ read-more-spec =
     (λ c. search needs)
     (λ c κs. search needs)
     (λ c κs. search needs)
+    (λ c. search needs)
     returns)
