@@ -1,5 +1,5 @@
 -- A file read chunk by chunk: before the first read, after each, and at the end. Assumes nothing.
-use Prim.Native.Nat.{ℕ, zero, suc, _+_, _^_, _<_, _≤_}
+use Prim.Native.Nat.{ℕ, zero, suc, _+_, _^_, _<_}
 use mathlib.Core.Path.{_≡_, refl, sym, ap, _∙_}
 use mathlib.Core.Bool.{Bool, true, false, false≢true, cond}
 use mathlib.Core.List.{List, [], _∷_, _++_}
@@ -12,7 +12,7 @@ use borrow.Author.Tests.{le-ltb, ltb-true}
 use Rattle.libc.specs.Io.{Moved}
 use Rattle.io.specs.Counts.{clamped}
 use Rattle.rules.specs.Text.{Text}
-use Rattle.station.specs.Reads.{atStart, failedAt, afterRead, kept, Reads}
+use Rattle.station.specs.Reads.{atStart, failedAt, afterRead, kept}
 use Rattle.station.specs.declared.input.Input.{Input}
 use Rattle.station.proofs.Kept.{kept-on, kept-nil, reads-on}
 use Rattle.file.specs.FileRead.{openedBy, Partly}
@@ -79,6 +79,20 @@ step n (pos (suc k)) chunk x y i m l p = go (ltb (i .total + suc k) (2 ^ 64)) re
         let same : length chunk ≡ suc k = omega (arith, l, m) in
         some-more chunk x y i (record { total = i .total + suc k; more = true; failed = i .failed }) (omega (arith, same, ltb-true (i .total + suc k) (2 ^ 64) e)) (omega (arith, same)) refl p
     go false e = unread x (kept (i .total) chunk y) (i .total)
+
+-- what a read that did not fail adds to the count
+pub counted : (n : ℕ) (z : ℤ) (k : ℕ) (i : Input) → Moved n z → k ≡ clamped z n → (afterRead z i) .failed ≡ false
+    → (i .failed ≡ false) × ((afterRead z i) .total ≡ i .total + k)
+unfolding afterRead
+counted n (negsuc j) k i m l f = absurd (false≢true (sym f))
+counted n (pos zero) k i m l f = (f, omega (arith, l))
+counted n (pos (suc j)) k i m l f = go (ltb (i .total + suc j) (2 ^ 64)) refl f
+  where
+    go : (v : Bool) → ltb (i .total + suc j) (2 ^ 64) ≡ v
+        → (cond v (record { total = i .total + suc j; more = true; failed = i .failed }) (failedAt (i .total))) .failed ≡ false
+        → (i .failed ≡ false) × ((cond (ltb (i .total + suc j) (2 ^ 64)) (record { total = i .total + suc j; more = true; failed = i .failed }) (failedAt (i .total))) .total ≡ i .total + k)
+    go true e g = (g, rw e (omega (arith, l, m)))
+    go false e g = absurd (false≢true (sym g))
 
 -- opening, by the sign of what it answered
 pub not-opened : (z : ℤ) → ltZ z (pos 0) ≡ true → failedAt 0 ≡ openedBy z

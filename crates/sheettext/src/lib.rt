@@ -25,6 +25,9 @@ use station::input::Input;
 
 pub mod rows; // rows.rt: a sheet's text, row by row
 mod back; // back.rt: a sheet read back from its text
+pub mod arguments; // arguments.rt: what the arguments say
+pub mod names; // names.rt: names taken out of chunks
+pub mod files; // files.rt: one file after another
 
 // Room for a sheet's text, which has at most 377 bytes.
 pub const SHEET: usize = 512;

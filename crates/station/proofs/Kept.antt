@@ -49,7 +49,7 @@ chunk-front n k c buffer e = go (leb (length c) k) refl
         let size : length (take k c) ≡ k = length-take-le k c (omega (arith, leb-false (length c) k p)) in
         rw (size, e, drop-length buffer, append-nil (take k c)) (take-all (length c) (take k c) (omega (arith, leb-false (length c) k p)))
 
-length-kept : (n : ℕ) (c : Text) (buffer : List ℕ) → length (kept n c buffer) ≡ length buffer
+pub length-kept : (n : ℕ) (c : Text) (buffer : List ℕ) → length (kept n c buffer) ≡ length buffer
 unfolding kept
 length-kept n c buffer = go (leb n (length buffer)) refl
   where
@@ -98,7 +98,7 @@ module _ (t c : Text) (buffer : List ℕ) (f : take (length buffer) t ≡ take (
       rw (kept-full (length t) c buffer (omega arith), take-append-le (length buffer) t c (omega arith), f)
       (take-all (length t) buffer (omega arith) ∙ sym (take-all (length t + length c) buffer (omega arith)))
 
-  front-grows : take (length buffer) (t ++ c) ≡ take (length t + length c) (kept (length t) c buffer)
+  pub front-grows : take (length buffer) (t ++ c) ≡ take (length t + length c) (kept (length t) c buffer)
   front-grows = go (leb (length t) (length buffer)) refl
     where
       go : (y : Bool) → leb (length t) (length buffer) ≡ y → take (length buffer) (t ++ c) ≡ take (length t + length c) (kept (length t) c buffer)

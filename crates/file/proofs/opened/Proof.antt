@@ -1,5 +1,5 @@
 -- `opened` meets its contract, by the sign of the descriptor. Assumes nothing.
-use mathlib.Core.Path.{sym, _∙_}
+use mathlib.Core.Path.{_∙_}
 use mir.Facts.{toZ-ofZ}
 use Rattle.file.proofs.Steps.{not-opened, is-opened}
 use borrow.Author.Needs.{needs}
