@@ -6,17 +6,23 @@
 // A file that cannot be read to its end is said with its name on standard error, and no sheet is printed: no script is left out in
 // silence. There too it says if the names cannot be read to their end, and prints nothing then; if standard output does not take all
 // that it prints; or if its arguments are others: it reads nothing then.
+use file::read_script;
 use libc::STDERR_FILENO;
 use libc::STDIN_FILENO;
 use libc::STDOUT_FILENO;
-use sheettext::NAME;
 use sheettext::SHEET;
 use sheettext::Step;
-use sheettext::add_script;
-use sheettext::add_sheet_text;
+use sheettext::arguments::is_whole;
+use sheettext::arguments::no_argument;
+use sheettext::arguments::with_argument;
 use sheettext::ended;
-use sheettext::is_sheet_option;
-use sheettext::keep_byte;
+use sheettext::files::UNREAD;
+use sheettext::files::is_read;
+use sheettext::files::unread_text;
+use sheettext::files::with_file;
+use sheettext::names::NAME;
+use sheettext::names::held_on;
+use sheettext::names::take_name;
 use sheettext::no_sources;
 use sheettext::step_text;
 use station::SCRIPT;
@@ -24,128 +30,99 @@ use station::failure::SAID;
 use station::failure::failure_text;
 use station::input::Input;
 use station::input::after_read;
-use station::input::keep_script;
 use station::input::start;
-ghost use Prim.Native.Nat.{_≤_};
-ghost use lib.ListN.{length};
+use station::lesser;
+ghost use mathlib.Core.Bool.{false};
+ghost use mathlib.Core.List.{_++_};
+ghost use lib.ListN.{take};
+ghost use Rattle.rules.specs.Text.{Text};
+ghost use Rattle.sheettext.specs.Steps.{Outcome, outcome};
+ghost use Rattle.sheettext.specs.Files.{FileAdded, Adding, NamesAdded};
 
-// Reads a file to its end, and keeps its front; one that cannot be opened is as one whose read failed.
-fn read_file(path: &[u8], script: &mut [u8; SCRIPT]) -> Input {
-    let fd = os::open_read(path);
-    let mut input = start();
-    if fd < 0 {
-        input = after_read(input, -1);
-    }
-    while input.more {
-        let mut chunk = io::buffer();
-        let got = libc::read(fd, &mut chunk);
-        let count = io::count(got, &chunk);
-        keep_script(script, input.total, &chunk[..count]);
-        input = after_read(input, got);
-    }
-    libc::close(fd);
-    input
-}
-
-// Goes on with a file that is a sheet or a script. One that cannot be read is said with its name.
-fn add_file(step: Step, path: &[u8], is_sheet: bool, script: &mut [u8; SCRIPT]) -> Step {
-    let Step::Sum(totals) = step else {
+// Goes on with the file whose name is in the first bytes, a sheet or a script, if it is due. One that cannot be read is said.
+fn add_file(
+    step: Step,
+    due: bool,
+    name: &[u8],
+    size: usize,
+    sheet: bool,
+    script: &mut [u8; SCRIPT],
+) -> Step
+    ensures { λ r. ⌜ FileAdded (take size (now (name .entry))) due sheet (outcome step) (outcome r) ⌝ }
+{
+    if !is_read(step, due) {
         return step;
-    };
-    let input = read_file(path, script);
-    if input.failed {
-        io::write_all(STDERR_FILENO, b"plantsheet: cannot read ");
-        io::write_all(STDERR_FILENO, path);
-        io::write_all(STDERR_FILENO, b"\n");
     }
-    if is_sheet {
-        return add_sheet_text(totals, script, input);
-    }
-    add_script(totals, script, input)
+    let n = lesser(size, name.len());
+    let input = read_script(&name[..n], script);
+    let mut said = [0u8; UNREAD];
+    let length = unread_text(&name[..n], input, &mut said);
+    io::write_all(STDERR_FILENO, &said[..length]);
+    with_file(step, sheet, script, input)
 }
 
-// Whether the arguments are `-t` and a name, as often as there are any.
-fn are_sheets(count: usize) -> bool {
-    let mut i = 1;
-    while i < count {
-        let mut text = io::buffer();
-        let size = os::arg(i, &mut text);
-        if !is_sheet_option(&text[..size]) {
-            return false;
-        }
-        if count - i < 2 {
-            return false;
-        }
-        i += 2;
-    }
-    true
-}
-
-// The sheets that the arguments name, added up.
-fn add_sheets(count: usize, script: &mut [u8; SCRIPT]) -> Step {
-    let mut step = no_sources();
-    let mut i = 2;
-    while i < count {
-        let mut path = io::buffer();
-        let size = os::arg(i, &mut path);
-        step = add_file(step, &path[..size], true, script);
-        if count - i < 2 {
-            return step;
-        }
-        i += 2;
-    }
-    step
-}
-
-// Where the program stands in the names: the step so far, and how many bytes of the next name are kept.
+// Where the program stands in the names: the step so far, and how many bytes of the next name are held.
 struct Fed {
     held: usize,
     step: Step,
 }
 
-// The script whose name is kept in the first bytes.
-fn add_named(step: Step, name: &[u8], held: usize, script: &mut [u8; SCRIPT]) -> Step
-    requires { ⌜ held ≤ length (now name) ⌝ }
+// Goes on with a chunk of the names: each that ends there is a script's.
+fn add_chunk(fed: Fed, chunk: &[u8], name: &mut [u8; NAME], script: &mut [u8; SCRIPT]) -> Fed
+    ensures { λ r. ⌜ ((o : Outcome) (t : Text) → Adding o t (now (name .entry)) (fed .held) (outcome (fed .step)) → Adding o (t ++ now (chunk .entry)) (now (name .exit)) (r .held) (outcome (r .step))) ⌝ }
 {
-    add_file(step, &name[..held], false, script)
+    let mut held = fed.held;
+    let mut step = fed.step;
+    let mut at = 0;
+    while at < chunk.len() {
+        let taken = take_name(&chunk[at..], name, held);
+        step = add_file(step, taken.whole, name, taken.held, false, script);
+        held = held_on(taken);
+        at += taken.used;
+    }
+    Fed { held, step }
 }
 
-// Goes on with a byte of the names: at the end of one its script is added.
-fn feed(fed: Fed, byte: u8, name: &mut [u8; NAME], script: &mut [u8; SCRIPT]) -> Fed
-    requires { ⌜ fed .held ≤ 4097 ⌝ }
-    ensures { λ r. ⌜ r .held ≤ 4097 ⌝ }
+// How the names ended, and what their scripts come to.
+struct Named {
+    input: Input,
+    step: Step,
+}
+
+// Reads the names on standard input to their end, and adds their scripts.
+fn add_names(first: Step, script: &mut [u8; SCRIPT]) -> Named
+    ensures { λ r. ⌜ NamesAdded (outcome first) (outcome (r .step)) (r .input) ⌝ }
 {
-    let held = fed.held;
-    let step = fed.step;
-    if byte != b'\n' {
-        return Fed {
-            held: keep_byte(name, held, byte),
-            step,
-        };
-    }
-    Fed {
+    let mut name = [0u8; NAME];
+    let mut fed = Fed {
         held: 0,
-        step: add_named(step, name, held, script),
+        step: first,
+    };
+    let mut input = start();
+    while input.more {
+        let mut chunk = io::buffer();
+        let got = libc::read(STDIN_FILENO, &mut chunk);
+        let count = io::count(got, &chunk);
+        fed = add_chunk(fed, &chunk[..count], &mut name, script);
+        input = after_read(input, got);
     }
-}
-
-// Goes on with a chunk of the names.
-fn feed_chunk(start: Fed, chunk: &[u8], name: &mut [u8; NAME], script: &mut [u8; SCRIPT]) -> Fed
-    requires { ⌜ start .held ≤ 4097 ⌝ }
-    ensures { λ r. ⌜ r .held ≤ 4097 ⌝ }
-{
-    let mut fed = start;
-    let mut i = 0;
-    while i < chunk.len() {
-        fed = feed(fed, chunk[i], name, script);
-        i += 1;
-    }
-    fed
+    let held = fed.held;
+    let last = fed.step;
+    let step = add_file(last, 0 < held, &name, held, false, script);
+    Named { input, step }
 }
 
 fn main() {
     let arguments = os::arg_count();
-    if !are_sheets(arguments) {
+    let mut given = no_argument();
+    let mut k = 1;
+    while k < arguments {
+        let mut text = io::buffer();
+        let size = os::arg(k, &mut text);
+        given = with_argument(given, &text[..size]);
+        k += 1;
+    }
+    if !is_whole(given) {
         io::write_all(
             STDERR_FILENO,
             b"usage: plantsheet [-t SHEET].. < NAMES, the names of script files, one a line\n",
@@ -153,23 +130,19 @@ fn main() {
         return;
     }
     let mut script = [0u8; SCRIPT];
-    let mut name = [0u8; NAME];
-    let mut fed = Fed {
-        held: 0,
-        step: add_sheets(arguments, &mut script),
-    };
-    let mut input = start();
-    while input.more {
-        let mut chunk = io::buffer();
-        let got = libc::read(STDIN_FILENO, &mut chunk);
-        let count = io::count(got, &chunk);
-        fed = feed_chunk(fed, &chunk[..count], &mut name, &mut script);
-        input = after_read(input, got);
+    let mut step = no_sources();
+    given = no_argument();
+    k = 1;
+    while k < arguments {
+        let mut path = io::buffer();
+        let size = os::arg(k, &mut path);
+        step = add_file(step, given.due, &path, size, true, &mut script);
+        given = with_argument(given, &path[..size]);
+        k += 1;
     }
-    if fed.held > 0 {
-        fed = feed(fed, b'\n', &mut name, &mut script);
-    }
-    let last = fed.step;
+    let named = add_names(step, &mut script);
+    let input = named.input;
+    let last = named.step;
     let mut out = [0u8; SHEET];
     let size = step_text(ended(last, input), &mut out);
     let written = io::write_all(STDOUT_FILENO, &out[..size]);

@@ -1,18 +1,18 @@
 -- Steps by where a file's reader stands: a script's, also over the limit, and a sheet's. Assumes nothing.
-use Prim.Native.Nat.{ℕ, _+_, _<_, _≤_}
+use Prim.Native.Nat.{ℕ, _<_, _≤_}
 use mathlib.Core.Path.{_≡_, refl, sym, ap, _∙_}
 use mathlib.Core.Bool.{Bool, true, false, false≢true, cond}
-use mathlib.Core.List.{List, [], _∷_}
+use mathlib.Core.List.{List}
 use native.Mathlib.Omega.{arith}
-use borrow.Author.Tests.{lt-ltb, le-ltb, ltb-true, ltb-false, eq-eqb, ne-eqb}
-use lib.Dec.{eqb, ltb}
-use lib.ListN.{length, take, getD, set, replicate, length-replicate}
+use borrow.Author.Tests.{lt-ltb, le-ltb, ltb-true, ltb-false}
+use lib.Dec.{ltb}
+use lib.ListN.{length, take, length-replicate}
 use lib.Seq.{take-all}
 use Rattle.rules.specs.Limits.{maxSource}
-use Rattle.rules.specs.Text.{Text, bytes, same}
-use Rattle.rules.specs.Answer.{Answer, accepted, refused, refuseIf}
-use Rattle.rules.specs.Assemble.{passAtBy, passAt}
-use Rattle.requests.specs.Sheet.{Totals as Said, maxSources, numbersIn, answerSheet, sourceSheet, plus, sources, anyOver, addSource, addSheet}
+use Rattle.rules.specs.Text.{Text, bytes}
+use Rattle.rules.specs.Answer.{Answer, refused}
+use Rattle.rules.specs.Assemble.{passAtBy}
+use Rattle.requests.specs.Sheet.{Totals as Said, answerSheet, sourceSheet, addSource, addSheet}
 use Rattle.listing.specs.Listing.{refusedText}
 use Rattle.station.specs.Printed.{Printed}
 use Rattle.station.specs.Reads.{Reads}
@@ -24,8 +24,8 @@ use Rattle.sheet.specs.declared.Totals.{Totals}
 use Rattle.sheet.specs.declared.Added.{Added}
 use Rattle.sheet.specs.declared.Added.the-variants.{Sum as Total, Refused as Stopped}
 use Rattle.sheettext.specs.Rows.{row, sheetText}
-use Rattle.sheettext.specs.Back.{Read, is-sheet, wrong, sheetIn, readOf}
-use Rattle.sheettext.specs.Steps.{Outcome, summed, stops, noSheet, unread, outcome, outcomeOf, unlessUnread, overLong, scriptStep, sheetAnswer, sheetStep, stepText, NameKept}
+use Rattle.sheettext.specs.Back.{Read, is-sheet, wrong, sheetIn}
+use Rattle.sheettext.specs.Steps.{Outcome, noSheet, unread, outcome, outcomeOf, unlessUnread, overLong, scriptStep, sheetAnswer, sheetStep, stepText}
 use Rattle.sheettext.specs.declared.Step.{Step}
 use Rattle.sheettext.specs.declared.Step.the-variants.{Sum, Refused, Wrong, Unread}
 
@@ -109,43 +109,6 @@ pub sheet-added : (u v : Said) {r : Read} → is-sheet v ≡ r → {o : Outcome}
 unfolding sheetAnswer
 sheet-added u v e p q = rw (← e) (q ∙ ap outcomeOf p)
 
--- ---- an option
-pub option-longer : (t : Text) → (length t ≡ 2 → ⊥) → false ≡ same t (bytes "-t")
-unfolding same bytes
-option-longer [] n = refl
-option-longer (a ∷ []) n = go (eqb a 45)
-  where
-    go : (x : Bool) → false ≡ elim x [ true ↦ false | false ↦ false ]
-    go true = refl
-    go false = refl
-option-longer (a ∷ b ∷ []) n = absurd (n refl)
-option-longer (a ∷ b ∷ c ∷ t) n = go (eqb a 45) (eqb b 116)
-  where
-    go : (x y : Bool) → false ≡ elim x [ true ↦ elim y [ true ↦ false | false ↦ false ] | false ↦ false ]
-    go true true = refl
-    go true false = refl
-    go false y = refl
-
-two-bytes : (a b : ℕ) → same (a ∷ b ∷ []) (bytes "-t") ≡ elim (eqb a 45) [ true ↦ elim (eqb b 116) [ true ↦ true | false ↦ false ] | false ↦ false ]
-unfolding same bytes
-two-bytes a b = refl
-
-pub option-first : (t : Text) → length t ≡ 2 → (getD t 0 0 ≡ 45 → ⊥) → false ≡ same t (bytes "-t")
-option-first [] e n = absurd (omega arith)
-option-first (a ∷ []) e n = absurd (omega arith)
-option-first (a ∷ b ∷ []) e n = rw (two-bytes a b, ne-eqb a 45 n)
-option-first (a ∷ b ∷ c ∷ t) e n = absurd (omega arith)
-
-pub option-second : (t : Text) → length t ≡ 2 → getD t 0 0 ≡ 45 → eqb (getD t 1 0) 116 ≡ same t (bytes "-t")
-option-second [] e f = absurd (omega arith)
-option-second (a ∷ []) e f = absurd (omega arith)
-option-second (a ∷ b ∷ []) e f = rw (two-bytes a b, eq-eqb a 45 f) (go (eqb b 116))
-  where
-    go : (x : Bool) → x ≡ elim x [ true ↦ true | false ↦ false ]
-    go true = refl
-    go false = refl
-option-second (a ∷ b ∷ c ∷ t) e f = absurd (omega arith)
-
 -- ---- what is printed
 module _ {step : Step} {r : ℕ} {x y : List ℕ} where
   pub text-sum : (t : Totals) → step ≡ Sum t → Printed (sheetText (said t)) r x y → Printed (stepText (outcome step)) r x y
@@ -181,18 +144,3 @@ ended-unread i o e = rw e
 pub ended-so : (i : Input) (o : Outcome) → i .failed ≡ false → o ≡ unlessUnread i o
 unfolding unlessUnread
 ended-so i o e = rw e
-
--- ---- a name
-module _ (held byte : ℕ) (x : List ℕ) where
-  pub name-full : 4097 ≤ held → NameKept held byte held x x
-  name-full h = record { count = rw (le-ltb held 4097 h); after = rw (le-ltb held 4097 h) }
-
-  pub name-more : held < 4097 → NameKept held byte (held + 1) x (set x held byte)
-  name-more h = record { count = rw (lt-ltb held 4097 h); after = rw (lt-ltb held 4097 h) }
-
-pub name-short : {held byte r : ℕ} {x y : List ℕ} → NameKept held byte r x y → held ≤ 4097 → r ≤ 4097
-name-short {held} {r = r} k h = go (ltb held 4097) refl (k .count)
-  where
-    go : (b : Bool) → ltb held 4097 ≡ b → r ≡ cond b (held + 1) held → r ≤ 4097
-    go true e f = let l = ltb-true held 4097 e in omega arith
-    go false e f = omega arith

@@ -1,10 +1,9 @@
 -- What a step of `plantsheet` comes to, and what is printed for it. Assumes nothing.
-use Prim.Native.Nat.{ℕ, _+_}
-use mathlib.Core.Path.{_≡_}
+use Prim.Native.Nat.{ℕ}
 use mathlib.Core.Bool.{cond}
 use mathlib.Core.List.{List, []}
 use lib.Dec.{ltb}
-use lib.ListN.{length, take, set, replicate}
+use lib.ListN.{take, replicate}
 use Rattle.rules.specs.Limits.{maxSource}
 use Rattle.rules.specs.Text.{Text, bytes}
 use Rattle.rules.specs.Answer.{Answer, accepted, refused}
@@ -60,8 +59,3 @@ stepText (summed t) = sheetText t
 stepText (stops n p) = refusedText n p
 stepText (noSheet n) = row (bytes "not a sheet: line ") n
 stepText unread = []
-
--- ---- one byte more of a name, of which 4,097 are kept
-pub record NameKept (held byte r : ℕ) (x y : List ℕ) : Type 0 where
-  pub count : r ≡ cond (ltb held 4097) (held + 1) held
-  pub after : y ≡ cond (ltb held 4097) (set x held byte) x

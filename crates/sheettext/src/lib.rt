@@ -2,12 +2,12 @@
 ghost use mathlib.Core.Path.{_≡_};
 ghost use Prim.Native.Nat.{_≤_};
 ghost use lib.ListN.{length as len, take};
-ghost use Rattle.rules.specs.Text.{Text, bytes, same};
+ghost use Rattle.rules.specs.Text.{Text};
 ghost use Rattle.requests.specs.Sheet.{noTotals, addSource};
 ghost use Rattle.station.specs.Printed.{Printed};
 ghost use Rattle.station.specs.Reads.{Reads};
 ghost use Rattle.sheet.specs.Totals.{said, answered};
-ghost use Rattle.sheettext.specs.Steps.{summed, outcome, outcomeOf, overLong, scriptStep, unlessUnread, sheetAnswer, sheetStep, stepText, NameKept};
+ghost use Rattle.sheettext.specs.Steps.{summed, outcome, outcomeOf, overLong, scriptStep, unlessUnread, sheetAnswer, sheetStep, stepText};
 ghost use Rattle.sheettext.specs.Back.{sheetIn};
 use back::Sheet;
 use back::read_sheet;
@@ -31,9 +31,6 @@ pub mod files; // files.rt: one file after another
 
 // Room for a sheet's text, which has at most 377 bytes.
 pub const SHEET: usize = 512;
-
-// As much of a file's name as is kept: more than any file's has.
-pub const NAME: usize = 4097;
 
 // What a step comes to: totals to go on with, or why there is no going on.
 pub enum Step {
@@ -147,30 +144,4 @@ pub fn step_text(step: Step, out: &mut [u8; SHEET]) -> usize
         Step::Wrong(n) => write_part(b"not a sheet: line ", n as u64, b'\n', 0, out),
         Step::Unread => 0,
     }
-}
-
-// ---- What is read besides.
-
-// Whether an argument says that a sheet follows.
-pub fn is_sheet_option(text: &[u8]) -> bool
-    ensures { λ r. ⌜ r ≡ same (now (text .entry)) (bytes "-t") ⌝ }
-{
-    if text.len() != 2 {
-        return false;
-    }
-    if text[0] != b'-' {
-        return false;
-    }
-    text[1] == b't'
-}
-
-// Keeps one more byte of a name, as far as there is room; how many are kept then.
-pub fn keep_byte(name: &mut [u8; NAME], held: usize, byte: u8) -> usize
-    ensures { λ r. ⌜ NameKept held byte r (now (name .entry)) (now (name .exit)) ⌝ }
-{
-    if NAME <= held {
-        return held;
-    }
-    name[held] = byte;
-    held + 1
 }

@@ -1,19 +1,20 @@
--- `main` is safe and ends: each read leaves less to be read, and no more of a name is kept than there is room for. Assumes nothing.
-use Prim.Native.Nat.{_≤_}
-use native.Mathlib.Omega.{arith}
-use Rattle.station.specs.Reads.{left}
+-- `main` is safe and ends: it takes the arguments one by one. Assumes nothing.
+use Prim.Native.Nat.{_-_}
 use borrow.Author.Needs.{needs}
 use Rattle.plantsheet.proofs.main.Statement.{statement}
 use Rattle.plantsheet.proofs.main.Tie as tie
 
 abbrev Inv-loop : tie.InvT-loop
-Inv-loop arguments script₀ name₀ fed₀ input₀ t16 script name fed input = fed .held ≤ 4097
+Inv-loop arguments given₀ k₀ t18 t19 given k = Unit {0}
 
 abbrev μ-loop : tie.MeasureT-loop
-μ-loop arguments script₀ name₀ fed₀ input₀ t16 script name fed input = left input
+μ-loop arguments given₀ k₀ t18 t19 given k = arguments - k
 
-loop-less : tie.Need-loop-less Inv-loop μ-loop
-loop-less c = c .after-read .ensures .1 (c .before .before .before .before .before .before .before .before .before .before .before .loop-test .taken)
+abbrev Inv-loop2 : tie.InvT-loop2
+Inv-loop2 arguments given₀ k₀ script₀ step₀ t19 given k script step = Unit {0}
+
+abbrev μ-loop2 : tie.MeasureT-loop2
+μ-loop2 arguments given₀ k₀ script₀ step₀ t19 given k script step = arguments - k
 
 pub main-spec : {M : Type 1} → statement M
 main-spec =
@@ -21,14 +22,9 @@ main-spec =
     (tie.spec
     Inv-loop
     μ-loop
+    Inv-loop2
+    μ-loop2
     (λ c κs. search needs)
-    (λ c κs. search needs)
-    (λ c. search needs)
-    (λ c κs. search needs)
-    (λ c. search needs)
-    (λ c κs. search needs)
-    (λ c κs. search needs)
-    (λ c. search needs)
     (λ c κs. search needs)
     (λ c. search needs)
     (λ c κs. search needs)
@@ -37,8 +33,26 @@ main-spec =
     (λ c. search needs)
     (λ c. search needs)
     (λ c κs. search needs)
+    (λ c. search needs)
+    (λ c. search needs)
+    (λ c. search needs)
     (λ c κs. search needs)
-    loop-less
+    (λ c. search needs)
+    (λ c κs. search needs)
+    (λ c. search needs)
+    (λ c κs. search needs)
+    (λ c κs. search needs)
+    (λ c. search needs)
+    (λ c κs. search needs)
+    (λ c. search needs)
+    (λ c κs. search needs)
+    (λ c. search needs)
+    (λ c κs. search needs)
+    (λ c. search needs)
+    (λ c. search needs)
+    (λ c κs. search needs)
+    (λ c. search needs)
+    (λ c. search needs)
     (λ c. search needs)
     (λ c κs. search needs)
     (λ c κs. search needs)
