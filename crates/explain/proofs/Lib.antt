@@ -2,7 +2,7 @@ mod Fits
 mod Placed
 mod Trying
 mod Operations
-mod Lines
+pub mod Lines
 mod Writing
 pub mod Tabled
 pub mod Called

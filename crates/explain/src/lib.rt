@@ -68,7 +68,7 @@ pub fn verdict_number(v: Verdict) -> u8
 // ---- One line.
 
 // The verdict on a line's task, read at `address`.
-fn why_task(
+pub fn why_task(
     lent: bool,
     names: &[u8],
     source: &[u8],

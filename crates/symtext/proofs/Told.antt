@@ -37,7 +37,7 @@ unfolding symbolsText toldText symbols andThen passAtBy
 symbols-refuse-long base t h = rw (checks-long t _ h)
 
 -- ---- the lines of labels: a line's number has at most four digits
-lines-fit : (l : List Label) → ((x : Label) → In x l → x .line ≤ maxLines) → length (flatMap symbolText l) ≤ namesLength l + 15 * length l
+pub lines-fit : (l : List Label) → ((x : Label) → In x l → x .line ≤ maxLines) → length (flatMap symbolText l) ≤ namesLength l + 15 * length l
 unfolding flatMap namesLength
 lines-fit [] h = omega arith
 lines-fit (x ∷ l) h =

@@ -10,7 +10,7 @@ use Rattle.explain.specs.Verdict.{verdictOf, verdictNumber}
 use Rattle.whytext.specs.WhyLine.{verdictText}
 use Rattle.whytext.specs.Numbers.{inOrder, verdictIn, numberText}
 
-number-back : (v : Verdict) → verdictIn (verdictNumber (verdictOf v)) ≡ v
+pub number-back : (v : Verdict) → verdictIn (verdictNumber (verdictOf v)) ≡ v
 unfolding verdictIn
 number-back emitted = refl
 number-back (because notInstruction) = refl
@@ -38,7 +38,7 @@ last-verdict n a b c d e f g h i =
     let four = past 3 n (past 2 n (past 1 n (past 0 n (omega arith) a) b) c) d in
     List·getD-eq-default inOrder (because outOfReach) {n = n} (past 8 n (past 7 n (past 6 n (past 5 n (past 4 n four e) f) g) h) i)
 
-verdict-short : (v : Verdict) → length (verdictText v) ≤ 26
+pub verdict-short : (v : Verdict) → length (verdictText v) ≤ 26
 unfolding verdictText bytes
 verdict-short emitted = omega arith
 verdict-short (because notInstruction) = omega arith

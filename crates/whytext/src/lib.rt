@@ -77,7 +77,7 @@ pub fn asked_by(count: usize, line: &[u8], base: &[u8]) -> Asked
 // ---- A line.
 
 // Puts words at an index, and answers the index after them.
-fn write_words(words: &[u8], at: usize, out: &mut [u8]) -> usize
+pub fn write_words(words: &[u8], at: usize, out: &mut [u8]) -> usize
     requires { ⌜ at + len (now words) ≤ len (now out) ⌝ }
     ensures { λ r. ⌜ (r ≡ at + len (now (words .entry))) × (now (out .exit) ≡ overFrom at (now (words .entry)) (now (out .entry))) ⌝ }
 {
@@ -86,7 +86,7 @@ fn write_words(words: &[u8], at: usize, out: &mut [u8]) -> usize
 }
 
 // Puts the line of the verdict with a number at an index, and answers the index after it.
-fn write_verdict(number: u8, at: usize, out: &mut [u8]) -> usize
+pub fn write_verdict(number: u8, at: usize, out: &mut [u8]) -> usize
     requires { ⌜ at + 26 ≤ len (now out) ⌝ }
     ensures { λ r. ⌜ (r ≡ at + len (numberText number)) × (now (out .exit) ≡ overFrom at (numberText number) (now (out .entry))) ⌝ }
 {
