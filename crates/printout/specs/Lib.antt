@@ -1,0 +1,2 @@
+pub mod Printout
+pub mod Shown
