@@ -4,3 +4,9 @@ pub mod Coding
 pub mod Rowing
 pub mod Keeping
 pub mod Told
+pub mod Broken
+pub mod Bare
+pub mod Worded
+pub mod Asking
+pub mod Showing
+pub mod Listed
