@@ -10,3 +10,4 @@ pub mod Worded
 pub mod Asking
 pub mod Showing
 pub mod Listed
+pub mod Examples

@@ -1,3 +1,4 @@
 pub mod Printout
 pub mod Shown
 pub mod Rows
+pub mod Examples
