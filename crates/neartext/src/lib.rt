@@ -87,6 +87,17 @@ fn write_nearest(
     }
 }
 
+// The same for a source of any length.
+pub fn write_near(source: &[u8], base: u32, address: u32, out: &mut [u8; TEXT]) -> usize
+    ensures { λ r. ⌜ Printed (nearText base address (now (source .entry))) r (now (out .entry)) (now (out .exit)) ⌝ }
+{
+    let length = source.len();
+    if MAX_SOURCE < length {
+        return write_refused(1, length, out);
+    }
+    write_nearest(source, length, base, address, out)
+}
+
 // Puts what is printed for an input that is a script at the front, and answers its length: nothing if it was not read whole.
 pub fn near_text(
     script: &[u8; SCRIPT],
