@@ -5,4 +5,5 @@ pub mod Told
 pub mod Counting
 pub mod Folded
 pub mod Rows
+pub mod Tried
 pub mod Examples

@@ -8,7 +8,6 @@ use lib.Dec.{eqb}
 use lib.ListN.{length, getD, take, drop, replicate, length-append, length-map, List·getD-append}
 use borrow.Author.Tests.{le-ltb}
 use Rattle.rules.specs.Text.{Text}
-use Rattle.rules.specs.Answer.{Answer}
 use Rattle.rules.specs.Assemble.{Place, Slices, over, holding}
 use Rattle.answer.specs.declared.Answer.{Answer as Verdict}
 use Rattle.answer.specs.Answer.{answerOf}
@@ -22,22 +21,10 @@ use Rattle.station.specs.declared.input.Input.{Input}
 use Rattle.station.proofs.Moving.{first-front}
 use Rattle.station.proofs.Front.{parsed-front}
 use Rattle.station.proofs.Kept.{take-lesser}
-use Rattle.machine.specs.Machine.{Run, runOf}
+use Rattle.machine.specs.Machine.{runOf}
 use Rattle.machine.specs.Bench.{clear, placed, fillOf, stateAt, shortList, benchAnswer, benchOf}
-use Rattle.stepper.specs.declared.Benched.{Benched}
-use Rattle.stepper.specs.Stepper.{BenchGives}
 use Rattle.benchtext.specs.declared.arguments.Given.{Given}
-use Rattle.benchtext.specs.BenchText.{answeredText, answerText, triedAnswer, triedText, withValue, threshold, valueAt, wordsFor, rowAnswered, rowAnswer, rowOf, triedRows, rowsOf, registersOf, startOf, addressesIn, wordsIn, parsedRow, parsedRows, rowText, rowCount, inputRow, inputRows}
-use Rattle.benchtext.proofs.Told.{told-line, tried-line}
-
--- the line of what the bench gives is that of the definition's answer
-pub row-line : (g : Given) (row : ℕ) (told : Answer Run) (b : Benched) (d mem d′ mem′ : List ℕ) → BenchGives told b d mem d′ mem′ → rowAnswered g row b d′ ≡ rowAnswer g row told
-unfolding rowAnswered rowAnswer
-row-line g row told b d mem d′ mem′ k = go (g .tries)
-  where
-    go : (x : Bool) → cond x (triedAnswer (valueAt g row) b d′) (answeredText b d′) ≡ cond x (triedText (valueAt g row) told) (answerText told)
-    go true = tried-line (valueAt g row) told b d mem d′ mem′ k
-    go false = told-line told b d mem d′ mem′ k
+use Rattle.benchtext.specs.BenchText.{withValue, lineFor, threshold, valueAt, wordsFor, rowOf, triedRows, rowsOf, registersOf, startOf, addressesIn, wordsIn, parsedRow, parsedRows, rowText, rowCount, inputRow, inputRows}
 
 -- the rows of a threshold
 pub rows-tried : (g : Given) → g .tries ≡ true → (n : ℕ) (xs ws : List ℕ) (a : Verdict) → a ≡ answerOf (benchAnswer n xs ws n) → triedRows g a ≡ rowsOf g n xs ws
@@ -79,7 +66,7 @@ value-front (suc n) p v [] ys ws zs h k = absurd (omega arith)
 value-front (suc n) p v (x ∷ xs) ys [] zs h k = absurd (omega arith)
 value-front (suc n) p v (x ∷ xs) ys (w ∷ ws) zs h k = ap (λ (r : List ℕ). cond (eqb x p) v w ∷ r) (value-front n p v xs ys ws zs (omega arith) (omega arith))
 
-value-long : (n p v : ℕ) (xs ws : List ℕ) → length (withValue n p v xs ws) ≡ length ws
+pub value-long : (n p v : ℕ) (xs ws : List ℕ) → length (withValue n p v xs ws) ≡ length ws
 unfolding withValue
 value-long zero p v xs ws = refl
 value-long (suc n) p v [] ws = refl
@@ -107,7 +94,7 @@ module _ (g : Given) (row n : ℕ) (xs ys ws zs : List ℕ) (h : n ≤ length xs
   unfolding rowOf
   row-front =
       let l = words-long in
-      rw words-front (ap (rowAnswer g row) (bench-front n xs ys h (wordsFor g row n xs ws) zs (omega arith) (registersOf g) (startOf g) (g .limit)))
+      rw words-front (ap (lineFor (g .tries) (valueAt g row)) (bench-front n xs ys h (wordsFor g row n xs ws) zs (omega arith) (registersOf g) (startOf g) (g .limit)))
 
   rows-front : rowsOf g n (xs ++ ys) (ws ++ zs) ≡ rowsOf g n xs ws
   unfolding rowsOf

@@ -78,6 +78,10 @@ unfoldable pub triedText : ℕ → Answer Run → Text
 triedText v (accepted r) = (decimal v ++ (32 ∷ [])) ++ runText (r .end) (r .steps) (r .state .pc) (r .state .d) (r .state .flags)
 triedText v (refused n p) = refusedText n p
 
+-- with a value in front or without
+unfoldable pub lineFor : Bool → ℕ → Answer Run → Text
+lineFor tries v r = cond tries (triedText v r) (answerText r)
+
 -- the first n words of a list, those at an address replaced by a value
 unfoldable pub withValue : ℕ → ℕ → ℕ → List ℕ → List ℕ → List ℕ
 withValue zero p v xs ws = ws
@@ -113,16 +117,9 @@ valueAt g row = (from g + row) % 65536
 unfoldable pub wordsFor : Given → ℕ → ℕ → List ℕ → List ℕ → List ℕ
 wordsFor g row n xs ws = cond (g .tries) (withValue n (threshold g) (valueAt g row) xs ws) ws
 
--- its line for what the bench answered, which left the data registers d, and for the definition's answer
-unfoldable pub rowAnswered : Given → ℕ → Benched → List ℕ → Text
-rowAnswered g row b d = cond (g .tries) (triedAnswer (valueAt g row) b d) (answeredText b d)
-
-unfoldable pub rowAnswer : Given → ℕ → Answer Run → Text
-rowAnswer g row r = cond (g .tries) (triedText (valueAt g row) r) (answerText r)
-
 -- its line for the first n words of a list
 unfoldable pub rowOf : Given → ℕ → ℕ → List ℕ → List ℕ → Text
-rowOf g row n xs ws = rowAnswer g row (benchOf n xs (wordsFor g row n xs ws) (registersOf g) (startOf g) (g .limit))
+rowOf g row n xs ws = lineFor (g .tries) (valueAt g row) (benchOf n xs (wordsFor g row n xs ws) (registersOf g) (startOf g) (g .limit))
 
 -- how many rows there are: one for each value; one where the list is refused, whatever the value
 abbrev pub triedRows : Given → Verdict → ℕ
@@ -131,6 +128,14 @@ triedRows g (Rejected k p) = 1
 
 unfoldable pub rowsOf : Given → ℕ → List ℕ → List ℕ → ℕ
 rowsOf g n xs ws = cond (g .tries) (triedRows g (answerOf (benchAnswer n xs ws n))) 1
+
+-- ---- a list that is lent, and in which a value is tried: "no refused call changes" it
+abbrev pub unlessRefused : Verdict → List ℕ → List ℕ → List ℕ
+unlessRefused (Accepted n) new old = new
+unlessRefused (Rejected k p) new old = old
+
+unfoldable pub wordsTried : ℕ → ℕ → ℕ → List ℕ → List ℕ → List ℕ
+wordsTried n p v xs ws = unlessRefused (answerOf (benchAnswer n xs ws n)) (withValue n p v xs ws) ws
 
 -- ---- a text: a list's, as `movelist` reads it, or none
 abbrev pub addressesIn : ℕ → Text → List ℕ

@@ -7,11 +7,12 @@ ghost use Prim.Native.Nat.{suc, _+_, _-_, _%_, _≤_};
 ghost use lib.Dec.{eqb};
 ghost use lib.ListN.{length as len, take};
 ghost use Rattle.rules.specs.Text.{Text};
+ghost use Rattle.machine.specs.Bench.{benchOf};
 ghost use Rattle.station.specs.Station.{unlessFailed};
 ghost use Rattle.station.specs.Printed.{Printed};
 ghost use Rattle.station.specs.Reads.{Reads};
 ghost use Rattle.benchtext.specs.Puts.{Puts};
-ghost use Rattle.benchtext.specs.BenchText.{endText, longText, registersText, flagByte, flagsText, runText, answeredText, triedRun, triedAnswer, withValue, wordsFor, rowAnswered, rowOf, triedRows, rowsOf, rowText, rowCount, inputRow, inputRows};
+ghost use Rattle.benchtext.specs.BenchText.{endText, longText, registersText, flagByte, flagsText, runText, answeredText, triedRun, triedAnswer, triedText, withValue, lineFor, wordsFor, rowOf, wordsTried, triedRows, rowsOf, rowText, rowCount, inputRow, inputRows};
 use answer::Answer;
 use arguments::Given;
 use listing::reading::Parsed;
@@ -203,16 +204,37 @@ fn put_value(addresses: &[u32], words: &mut [u16], count: usize, given: Given, r
     }
 }
 
-// Puts a row's line for what the bench answered at the front, and answers its length.
-fn write_row(given: Given, row: usize, answer: Benched, d: &[u32; 8], out: &mut [u8; TEXT]) -> usize
-    ensures { λ r. ⌜ Printed (rowAnswered given row answer (now (d .entry))) r (now (out .entry)) (now (out .exit)) ⌝ }
+// Puts the line of a run of the first `count` words of a list at the front, and answers its length; with a threshold's value in front,
+// which the words hold, where it is tried.
+pub fn write_list_run(
+    tries: bool,
+    value: u16,
+    addresses: &[u32],
+    words: &[u16],
+    count: usize,
+    a: &[u32; 8],
+    start: u32,
+    limit: u64,
+    out: &mut [u8; TEXT],
+) -> usize
+    ensures { λ r. ⌜ Printed (lineFor tries value (benchOf count (now (addresses .entry)) (now (words .entry)) (now (a .entry)) start limit)) r (now (out .entry)) (now (out .exit)) ⌝ }
 {
-    if given.tries {
-        let numbers = given.numbers;
-        let value = value_at(numbers[2], row);
-        return write_tried(value, answer, d, out);
+    let mut d = [0u32; 8];
+    let mut memory = [0u8; MEMORY];
+    let answer = bench(
+        addresses,
+        words,
+        count,
+        &mut d,
+        a,
+        &mut memory,
+        start,
+        limit,
+    );
+    if tries {
+        return write_tried(value, answer, &d, out);
     }
-    write_answer(answer, d, out)
+    write_answer(answer, &d, out)
 }
 
 // Puts a row's line for the first `count` words of a list at the front, and answers its length; the words keep the value.
@@ -231,19 +253,18 @@ fn list_row(
     put_value(addresses, words, count, given, row);
     let n = given.numbers;
     let a = [n[6], n[7], n[8], n[9], n[10], n[11], n[12], n[13]];
-    let mut d = [0u32; 8];
-    let mut memory = [0u8; MEMORY];
-    let answer = bench(
+    let value = value_at(n[2], row);
+    write_list_run(
+        given.tries,
+        value,
         addresses,
         words,
         count,
-        &mut d,
         &a,
-        &mut memory,
         n[4],
         given.limit,
-    );
-    write_row(given, row, answer, &d, out)
+        out,
+    )
 }
 
 // How many values there are from one to another; 1 if there are none.
@@ -277,6 +298,33 @@ fn list_rows(addresses: &[u32], words: &[u16], count: usize, given: Given) -> us
         return tried_rows(check(addresses, words, count), given);
     }
     1
+}
+
+// ---- A list that is lent.
+
+// Puts a value into each of the first `count` words that stand at the threshold's address, and the line of the run, with the value in
+// front, at the front of `out`; answers its length. The words keep the value; those of a list that is refused stay as they were.
+pub fn try_value(
+    addresses: &[u32],
+    words: &mut [u16],
+    count: usize,
+    threshold: u32,
+    value: u16,
+    a: &[u32; 8],
+    start: u32,
+    limit: u64,
+    out: &mut [u8; TEXT],
+) -> usize
+    ensures { λ r. ⌜ now (words .exit) ≡ wordsTried count threshold value (now (addresses .entry)) (now (words .entry)) ⌝ }
+    ensures { λ r. ⌜ Printed (triedText value (benchOf count (now (addresses .entry)) (withValue count threshold value (now (addresses .entry)) (now (words .entry))) (now (a .entry)) start limit)) r (now (out .entry)) (now (out .exit)) ⌝ }
+{
+    match check(addresses, words, count) {
+        Answer::Accepted(n) => {
+            set_value(addresses, words, n, threshold, value);
+            write_list_run(true, value, addresses, words, n, a, start, limit, out)
+        }
+        Answer::Refused(number, place) => write_refused(number, place, out),
+    }
 }
 
 // ---- The text of a list.
