@@ -110,11 +110,54 @@ static void printout(void)
     expect_text("   1  00000000             BRA +2  <- unknown mnemonic\n", "lagvettu_text_printout under a table without rows");
 }
 
+static void runs(void)
+{
+    static uint32_t addresses[LAGVETTU_TEXT_PLACES] = {0, 2, 4, 6};
+    static uint16_t words[LAGVETTU_TEXT_PLACES] = {0x7003, 0x5380, 0x66FC, 0x4E72, 5};
+    const uint32_t a[8] = {0};
+    clear();
+    lagvettu_text_run(addresses, words, 4, a, 0, 100, out, &size);
+    expect_text("halt 7 00000006 00000000 00000000 00000000 00000000 00000000 00000000 00000000 00000000 00100\n", "lagvettu_text_run");
+    clear();
+    lagvettu_text_run(addresses, words, LAGVETTU_TEXT_PLACES + 1, a, 0, 100, out, &size);
+    expect_text("refused 9 12289\n", "lagvettu_text_run, a count over the places");
+    clear();
+    lagvettu_text_try(addresses, words, 4, 0, 0x7001, a, 0, 100, out, &size);
+    expect_text("28673 halt 3 00000006 00000000 00000000 00000000 00000000 00000000 00000000 00000000 00000000 00100\n", "lagvettu_text_try");
+    expect(words[0] == 0x7001 && words[1] == 0x5380 && words[4] == 5, "lagvettu_text_try, the words");
+    addresses[3] = 7;
+    clear();
+    lagvettu_text_try(addresses, words, 4, 0, 0x7002, a, 0, 100, out, &size);
+    expect_text("refused 19 3\n", "lagvettu_text_try, refused");
+    clear();
+    lagvettu_text_try(addresses, words, LAGVETTU_TEXT_PLACES + 1, 0, 0x7002, a, 0, 100, out, &size);
+    expect_text("refused 9 12289\n", "lagvettu_text_try, a count over the places");
+    expect(words[0] == 0x7001 && words[4] == 5, "lagvettu_text_try, the words of a refused list");
+}
+
+static void sheets(void)
+{
+    const uint64_t totals[12] = {1, 2, 3, 4, 5, 6, 7, 12, 8, 9, 3, 1};
+    const char *text = "skipped 1\norg 2\nlabel 3\ndata 4\nword 5\nwordless 6\nend 7\nwords 12\nmarked 8\nlabels 9\naccepted 3\nrefused 1\nmean 12 3\n";
+    uint64_t back[12] = {7, 7};
+    size_t line = 9;
+    clear();
+    lagvettu_text_sheet(totals, out, &size);
+    expect_text(text, "lagvettu_text_sheet");
+    expect(lagvettu_read_sheet(bytes("skipped 0\norg 01\n"), 17, back, &line) == 1 && line == 2 && back[0] == 7 && back[1] == 7,
+           "lagvettu_read_sheet, a wrong line");
+    expect(lagvettu_read_sheet(bytes(text), strlen(text), back, &line) == 0 && line == 0 && memcmp(back, totals, sizeof back) == 0,
+           "lagvettu_read_sheet");
+    expect(lagvettu_read_sheet(bytes(text), strlen(text) - 1, back, &line) == 1 && line == 13, "lagvettu_read_sheet, no end");
+}
+
 int main(void)
 {
     lists();
     labels();
     reasons();
     printout();
+    runs();
+    sheets();
     return wrong;
 }

@@ -1,6 +1,6 @@
 /*
- * Lagvettu's texts: what its programs print, byte for byte, and a list read back from its text; for the command `lagvettu`, so that
- * no text is made twice. They are in liblagvettu_text.a: -llagvettu_text, beside the other archives or alone.
+ * Lagvettu's texts: what its programs print, byte for byte, and a list or a sheet read back from its text; for the command `lagvettu`, so
+ * that no text is made twice. They are in liblagvettu_text.a: -llagvettu_text, beside the other archives or alone.
  *
  * Each function is proved to answer, and to leave each byte of what it is lent, as the definitions say, whatever the bytes and numbers
  * that it is given; none refuses for want of room. An array is passed as a pointer alone, and has exactly as many elements as its
@@ -31,6 +31,9 @@ extern "C" {
 
 /* Room for every printout. */
 #define LAGVETTU_PRINTOUT_SIZE 401410
+
+/* Room for every sheet. */
+#define LAGVETTU_SHEET_SIZE 512
 
 /*
  * The list in the first count places: a line for each word, address in 8 upper-case hexadecimal digits, word in 4, and mark. Places past
@@ -115,6 +118,59 @@ void lagvettu_text_printout(bool lent, const uint8_t *names, size_t names_length
                             const uint8_t *source, size_t source_length,
                             uint32_t base,
                             uint8_t out[LAGVETTU_PRINTOUT_SIZE], size_t *size);
+
+/*
+ * The line of a run on the bench, as lagvettu_run of lagvettu.h makes it of the first count words: why it ended (`halt`, `word`, `access`,
+ * `limit`), the steps in decimal, the program counter and D0 to D7 in 8 upper-case hexadecimal digits each, and the flags X N Z V C as
+ * digits 0 or 1. Refused by 9, a count over the places, then 19.
+ *
+ *     Words $7003, $5380, $66FC, $4E72 at 0 to 6, from 0, limit 100:
+ *     "halt 7 00000006 00000000 00000000 00000000 00000000 00000000 00000000 00000000 00000000 00100\n".
+ */
+void lagvettu_text_run(const uint32_t addresses[LAGVETTU_TEXT_PLACES],
+                       const uint16_t words[LAGVETTU_TEXT_PLACES],
+                       size_t count,
+                       const uint32_t a[8],
+                       uint32_t start,
+                       uint64_t limit,
+                       uint8_t out[LAGVETTU_TEXT_SIZE], size_t *size);
+
+/*
+ * The same with a value put into each of the first count words that stand at the address threshold, and in front of the line, in decimal.
+ * The words keep the value; a list that is refused keeps its words, and its line has no value.
+ *
+ *     The same words, with $7001 at 0:
+ *     "28673 halt 3 00000006 00000000 00000000 00000000 00000000 00000000 00000000 00000000 00000000 00100\n".
+ */
+void lagvettu_text_try(const uint32_t addresses[LAGVETTU_TEXT_PLACES],
+                       uint16_t words[LAGVETTU_TEXT_PLACES],
+                       size_t count,
+                       uint32_t threshold,
+                       uint16_t value,
+                       const uint32_t a[8],
+                       uint32_t start,
+                       uint64_t limit,
+                       uint8_t out[LAGVETTU_TEXT_SIZE], size_t *size);
+
+/*
+ * The sheet of twelve totals, which stand as enum lagvettu_total of lagvettu.h says: a line for each, its name and the total in decimal,
+ * and last `mean` with the words and the accepted sources.
+ *
+ *     Of 3 sources with 12 words in all and one that was refused: "..accepted 3\nrefused 1\nmean 12 3\n".
+ */
+void lagvettu_text_sheet(const uint64_t totals[12],
+                         uint8_t out[LAGVETTU_SHEET_SIZE], size_t *size);
+
+/*
+ * Reads such a text back: 0, with the totals and 0 in *line; or 1, with the number, from 1, of the first wrong line in *line, and the
+ * totals as they were. It is read if it is, byte for byte, what its totals are written as, each of at most 19 digits; a text is judged by
+ * its first 32,768 bytes.
+ *
+ *     "skipped 0\norg 01\n": 1, line 2.
+ */
+uint8_t lagvettu_read_sheet(const uint8_t *text, size_t text_length,
+                            uint64_t totals[12],
+                            size_t *line);
 
 #ifdef __cplusplus
 }

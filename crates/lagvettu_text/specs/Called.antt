@@ -2,6 +2,7 @@
 use Prim.Native.Nat.{ℕ}
 use mathlib.Core.Path.{_≡_}
 use mathlib.Core.Bool.{Bool, true, false}
+use mathlib.Core.List.{List}
 use Rattle.rules.specs.Text.{Text}
 use Rattle.rules.specs.Assemble.{Slices, holding}
 use Rattle.listing.specs.Reading.{readList, placesRead, roomIn}
@@ -10,6 +11,9 @@ use Rattle.listing.specs.declared.reading.Parsed.the-variants.{Count, Bad}
 use Rattle.whytext.specs.WhyLine.{lineText, linesText}
 use Rattle.branchtext.specs.BranchText.{lineUnderText, linesUnderText}
 use Rattle.printout.specs.Printout.{printoutText, printoutUnder}
+use Rattle.requests.specs.Sheet.{numbersIn}
+use Rattle.sheettext.specs.Back.{is-sheet, wrong}
+use Rattle.sheettext.specs.Back.{Read as Sheet}
 
 -- ---- texts, under the table t where one is lent
 -- the verdict on a line, and on every line that is read
@@ -40,3 +44,9 @@ pub record ReadsList (t : Text) (x y : Slices) (r n : ℕ) : Type 0 where
   pub answer : r ≡ wrongOf (readList (roomIn x) t)
   pub number : n ≡ numberOf (readList (roomIn x) t)
   pub after : y ≡ holding (placesRead (readList (roomIn x) t) t) x
+
+-- ---- a sheet that is read: the contract of `lagvettu_read_sheet`, lent the numbers ns, which it leaves as ms: 0, line 0 and the totals, or
+-- 1, the number of the first wrong line and the numbers as they were
+abbrev pub ReadsSheet : Sheet → List ℕ → ℕ → ℕ → List ℕ → Type 0
+ReadsSheet (is-sheet t) ns r n ms = (r ≡ 0) × (n ≡ 0) × (ms ≡ numbersIn t)
+ReadsSheet (wrong k) ns r n ms = (r ≡ 1) × (n ≡ k) × (ms ≡ ns)

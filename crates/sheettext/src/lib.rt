@@ -24,7 +24,7 @@ use station::SCRIPT;
 use station::input::Input;
 
 pub mod rows; // rows.rt: a sheet's text, row by row
-mod back; // back.rt: a sheet read back from its text
+pub mod back; // back.rt: a sheet read back from its text
 pub mod arguments; // arguments.rt: what the arguments say
 pub mod names; // names.rt: names taken out of chunks
 pub mod files; // files.rt: one file after another
