@@ -1,105 +1,71 @@
-/* Whole files (files.h). */
-#define _POSIX_C_SOURCE 200809L
-#include "files.h"
-
+/* Files: read to their end, and written whole or not at all. A failure is said with the file's name. */
 #include <errno.h>
 #include <fcntl.h>
-#include <stdio.h>
+#include <limits.h>
+#include <signal.h>
 #include <stdlib.h>
-#include <string.h>
 #include <sys/stat.h>
 #include <unistd.h>
 
-#include "status.h"
+#include "cli.h"
 
-/* Says what failed with a file, by its name. */
-static int failed(const char *what, const char *name) {
-    fprintf(stderr, "lagvettu: cannot %s %s: %s\n", what, name, strerror(errno));
-    return STATUS_IO;
-}
-
-/* Reads a descriptor to its end. */
-static int read_all(int file, const char *name, struct bytes *got) {
-    size_t room = 65536;
-    got->length = 0;
-    got->at = malloc(room);
-    for (;;) {
-        if (got->at == NULL) return failed("read", name);
-        ssize_t count = read(file, got->at + got->length, room - got->length);
-        if (count == 0) return STATUS_ACCEPTED;
-        if (count < 0 && errno == EINTR) continue;
-        if (count < 0) return failed("read", name);
-        got->length += (size_t)count;
-        if (got->length == room) {
-            uint8_t *more = realloc(got->at, room *= 2);
-            if (more == NULL) free(got->at);
-            got->at = more;
-        }
+/* Reads a file, or standard input where the name is null; what the front has no room for is counted only. */
+int read_front(const char *name, struct front *got) {
+    static uint8_t past[65536];
+    int file = name == NULL ? STDIN_FILENO : open(name, O_RDONLY), status = ACCEPTED;
+    ssize_t count = file < 0 ? -1 : 1;
+    got->length = got->total = 0;
+    while (count > 0) {
+        size_t room = sizeof got->at - got->length;
+        count = read(file, room > 0 ? got->at + got->length : past, room > 0 ? room : sizeof past);
+        if (count > 0) got->total += (size_t)count;
+        if (count > 0 && room > 0) got->length += (size_t)count;
     }
-}
-
-int read_whole(const char *name, struct bytes *got) {
-    got->at = NULL;
-    got->length = 0;
-    if (name == NULL) return read_all(STDIN_FILENO, "standard input", got);
-    int file = open(name, O_RDONLY);
-    if (file < 0) return failed("open", name);
-    int status = read_all(file, name, got);
-    close(file);
+    if (count < 0) status = say_failed(file < 0 ? "open" : "read", name == NULL ? "standard input" : name);
+    if (name != NULL && file >= 0) close(file);
     return status;
 }
 
-/* Writes all bytes to a descriptor: 0, or -1 with errno. */
-static int write_all(int file, const uint8_t *at, size_t length) {
-    while (length > 0) {
-        ssize_t count = write(file, at, length);
-        if (count < 0 && errno == EINTR) continue;
-        if (count < 0) return -1;
-        at += count;
-        length -= (size_t)count;
-    }
-    return 0;
+/* Writes all bytes to a descriptor. */
+static bool write_all(int file, const uint8_t *at, size_t length) {
+    for (ssize_t count; length > 0; at += count, length -= (size_t)count)
+        if ((count = write(file, at, length)) < 0) return false;
+    return true;
 }
 
-/* The rights of a new file: those of the one it replaces, or what the mask leaves. */
-static mode_t rights(const char *name) {
-    struct stat old;
-    if (stat(name, &old) == 0) return old.st_mode & 0777;
-    mode_t mask = umask(0);
+/* Puts a new file, written beside it, in the place of one, also behind a link, with the old one's rights and, where
+ * that may be, owner. Signals wait until it is done: none leaves the new file there. */
+static bool replace(const char *name, const struct stat *old, const uint8_t *at, size_t length) {
+    char path[PATH_MAX], beside[PATH_MAX + 32];
+    sigset_t all, before;
+    mode_t mask = umask(0), rights = old == NULL ? 0666 & ~mask : old->st_mode & 0777;
     umask(mask);
-    return 0666 & ~mask;
-}
-
-/* Writes a new file beside `name`, and renames it: after any failure the new one is removed. */
-static int replace(const char *name, char *beside, const uint8_t *at, size_t length) {
+    if (old != NULL && (access(name, W_OK) != 0 || (name = realpath(name, path)) == NULL)) return false;
+    const char *slash = strrchr(name, '/');
+    snprintf(beside, sizeof beside, "%.*s.lagvettu-XXXXXX", slash == NULL ? 0 : (int)(slash + 1 - name), name);
+    sigfillset(&all);
+    sigprocmask(SIG_BLOCK, &all, &before);
     int file = mkstemp(beside);
-    if (file < 0) return failed("write", name);
-    int bad = write_all(file, at, length) != 0 || fchmod(file, rights(name)) != 0 || fsync(file) != 0;
-    if (close(file) != 0) bad = 1;
-    if (!bad && rename(beside, name) == 0) return STATUS_ACCEPTED;
-    int status = failed("write", name);
-    unlink(beside);
-    return status;
+    bool owned = file >= 0 && (old == NULL || fchown(file, old->st_uid, old->st_gid) == 0);
+    bool good = file >= 0 && write_all(file, at, length) && fchmod(file, owned ? rights : rights & 0707) == 0;
+    good = good && fsync(file) == 0;
+    good = file >= 0 && close(file) == 0 && good && rename(beside, name) == 0;
+    int why = errno;
+    if (file >= 0 && !good) unlink(beside);
+    sigprocmask(SIG_SETMASK, &before, NULL);
+    errno = why;
+    return good;
 }
 
+/* Writes to standard output where the name is null; a device or a pipe is written to, and another file replaced. */
 int write_whole(const char *name, const uint8_t *at, size_t length) {
-    if (name == NULL) {
-        if (write_all(STDOUT_FILENO, at, length) == 0 && close(STDOUT_FILENO) == 0) return STATUS_ACCEPTED;
-        return failed("write", "standard output");
+    struct stat old;
+    bool good, there = name != NULL && stat(name, &old) == 0;
+    if (name == NULL || (there && !S_ISREG(old.st_mode))) {
+        int file = name == NULL ? STDOUT_FILENO : open(name, O_WRONLY);
+        good = file >= 0 && write_all(file, at, length) && close(file) == 0;
+    } else {
+        good = replace(name, there ? &old : NULL, at, length);
     }
-    struct stat there;
-    if (stat(name, &there) == 0 && !S_ISREG(there.st_mode)) { /* a device or a pipe is not replaced */
-        int file = open(name, O_WRONLY);
-        if (file < 0) return failed("open", name);
-        int bad = write_all(file, at, length) != 0;
-        if (close(file) != 0) bad = 1;
-        return bad ? failed("write", name) : STATUS_ACCEPTED;
-    }
-    size_t size = strlen(name) + 8;
-    char *beside = malloc(size);
-    if (beside == NULL) return failed("write", name);
-    snprintf(beside, size, "%s.XXXXXX", name);
-    int status = replace(name, beside, at, length);
-    free(beside);
-    return status;
+    return good ? ACCEPTED : say_failed("write", name == NULL ? "standard output" : name);
 }
