@@ -33,7 +33,7 @@ const struct command commands[] = {
     {0},
 };
 
-/* The refusal of a command, with its place, or 0, with the count of a list. */
+/* The refusal of a command with its place, or 0 with a list's count. What the calls answer besides is not looked at. */
 static uint8_t refusal(enum which which, const struct asked *asked, size_t *n) {
     static uint8_t memory[LAGVETTU_MEMORY], byte, end;
     static uint32_t d[8], pc, distance;
@@ -66,7 +66,7 @@ static void make_text(enum which which, const struct asked *asked, size_t *n) {
         case SYMBOLS: lagvettu_text_symbols(SOURCE, base, text, n); break;
         case NEAREST: lagvettu_text_nearest(SOURCE, base, asked->address, text, n); break;
         case LIST: lagvettu_text_printout(LENT, SOURCE, base, text, n); break;
-        case TIDY: break; /* it is made */
+        case TIDY: break; /* the call made it */
         case WHY:
             if (asked->one_line) lagvettu_text_why(LENT, SOURCE, base, asked->line, text, n);
             else lagvettu_text_why_all(LENT, SOURCE, base, text, n);

@@ -32,7 +32,7 @@ static bool read_number(const char *text, unsigned radix, uint64_t greatest, uin
         const char *found = strchr(digits, *text);
         if (found == NULL) return false;
         uint64_t digit = (uint64_t)(found - digits) - (found - digits < 16 ? 0 : 6);
-        if (digit >= radix || digit > greatest || *value > (greatest - digit) / radix) return false;
+        if (digit >= radix || *value > (greatest - digit) / radix) return false;
         *value = *value * radix + digit;
     }
     return some;
