@@ -36,13 +36,15 @@ static bool write_all(int file, const uint8_t *at, size_t length) {
 /* Puts a new file, written beside it, in the place of one, also behind a link, with the old one's rights and, where
  * that may be, owner. Signals wait until it is done: none leaves the new file there. */
 static bool replace(const char *name, const struct stat *old, const uint8_t *at, size_t length) {
-    char path[PATH_MAX], beside[PATH_MAX + 32];
+    char path[PATH_MAX], beside[PATH_MAX];
     sigset_t all, before;
     mode_t mask = umask(0), rights = old == NULL ? 0666 & ~mask : old->st_mode & 0777;
     umask(mask);
     if (old != NULL && (access(name, W_OK) != 0 || (name = realpath(name, path)) == NULL)) return false;
     const char *slash = strrchr(name, '/');
-    snprintf(beside, sizeof beside, "%.*s.lagvettu-XXXXXX", slash == NULL ? 0 : (int)(slash + 1 - name), name);
+    int folder = slash == NULL ? 0 : (int)(slash + 1 - name);
+    errno = ENAMETOOLONG;
+    if (snprintf(beside, sizeof beside, "%.*s.lagvettu-XXXXXX", folder, name) >= (int)sizeof beside) return false;
     sigfillset(&all);
     sigprocmask(SIG_BLOCK, &all, &before);
     int file = mkstemp(beside);

@@ -19,8 +19,7 @@ bool takes(const struct command *command, const struct option *option) {
     return strchr("ohv", *option->letters) != NULL || strchr(command->options, *option->letters) != NULL;
 }
 
-/* A number as the programs read it, of radix 10 or 16, hexadecimal behind $ or 0x; of radix 16 also with a plus sign.
- */
+/* A number of radix 10 or 16, as the programs read it: hexadecimal behind $ or 0x, of radix 16 also behind a plus. */
 static bool read_number(const char *text, unsigned radix, uint64_t greatest, uint64_t *value) {
     static const char digits[] = "0123456789ABCDEFabcdef";
     size_t prefix = *text == '$' ? 1 : strncmp(text, "0x", 2) == 0 ? 2 : 0;
