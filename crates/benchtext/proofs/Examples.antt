@@ -9,11 +9,11 @@ use Rattle.listing.specs.Reading.{digitIn, hexIn, placeIn, isLine, readLines, p
 use Rattle.station.specs.Station.{wrongLineText, hexadecimalIn}
 use Rattle.machine.specs.Bench.{shortList, misplaced, benchAnswer, benchOf}
 use Rattle.benchtext.specs.Arguments.{decimalIn, numberAt, placedAt, isOption, withArgument, isWhole}
-use Rattle.benchtext.specs.BenchText.{withValue, answerText, triedText, wordsFor, lineFor, rowOf, rowsOf, parsedRow, parsedRows, rowText, rowCount, rowsText, benchText}
+use Rattle.benchtext.specs.BenchText.{withValue, answerText, triedText, wordsFor, runLine, rowOf, rowsOf, parsedRow, parsedRows, rowText, rowCount, rowsText, benchText}
 use Rattle.benchtext.specs.Examples.{Examples}
 
 pub examples : Examples
-unfolding bytes starts after digitValue digits someDigits ranged below without unsignedReading hexTail valueOf refuseIf refuseAt firstIndex digitByte digitsOf decimalPlacesBy decimal markByte placeText refusedText digitIn hexIn placeIn isLine readLines placesIn wrongLineText hexadecimalIn shortList misplaced benchAnswer benchOf decimalIn numberAt placedAt isOption withArgument isWhole withValue answerText triedText wordsFor lineFor rowOf rowsOf parsedRow parsedRows rowText rowCount rowsText benchText
+unfolding bytes starts after digitValue digits someDigits ranged below without unsignedReading hexTail valueOf refuseIf refuseAt firstIndex digitByte digitsOf decimalPlacesBy decimal markByte placeText refusedText digitIn hexIn placeIn isLine readLines placesIn wrongLineText hexadecimalIn shortList misplaced benchAnswer benchOf decimalIn numberAt placedAt isOption withArgument isWhole withValue answerText triedText wordsFor runLine rowOf rowsOf parsedRow parsedRows rowText rowCount rowsText benchText
 examples =
     record {
       odd = refl;

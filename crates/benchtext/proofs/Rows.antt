@@ -24,7 +24,7 @@ use Rattle.station.proofs.Kept.{take-lesser}
 use Rattle.machine.specs.Machine.{runOf}
 use Rattle.machine.specs.Bench.{clear, placed, fillOf, stateAt, shortList, benchAnswer, benchOf}
 use Rattle.benchtext.specs.declared.arguments.Given.{Given}
-use Rattle.benchtext.specs.BenchText.{withValue, lineFor, threshold, valueAt, wordsFor, rowOf, triedRows, rowsOf, registersOf, startOf, addressesIn, wordsIn, parsedRow, parsedRows, rowText, rowCount, inputRow, inputRows}
+use Rattle.benchtext.specs.BenchText.{withValue, runLine, threshold, valueAt, wordsFor, rowOf, triedRows, rowsOf, registersOf, startOf, addressesIn, wordsIn, parsedRow, parsedRows, rowText, rowCount, inputRow, inputRows}
 
 -- the rows of a threshold
 pub rows-tried : (g : Given) → g .tries ≡ true → (n : ℕ) (xs ws : List ℕ) (a : Verdict) → a ≡ answerOf (benchAnswer n xs ws n) → triedRows g a ≡ rowsOf g n xs ws
@@ -94,7 +94,7 @@ module _ (g : Given) (row n : ℕ) (xs ys ws zs : List ℕ) (h : n ≤ length xs
   unfolding rowOf
   row-front =
       let l = words-long in
-      rw words-front (ap (lineFor (g .tries) (valueAt g row)) (bench-front n xs ys h (wordsFor g row n xs ws) zs (omega arith) (registersOf g) (startOf g) (g .limit)))
+      rw words-front (ap (runLine (g .tries) (valueAt g row)) (bench-front n xs ys h (wordsFor g row n xs ws) zs (omega arith) (registersOf g) (startOf g) (g .limit)))
 
   rows-front : rowsOf g n (xs ++ ys) (ws ++ zs) ≡ rowsOf g n xs ws
   unfolding rowsOf

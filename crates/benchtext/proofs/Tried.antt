@@ -9,7 +9,7 @@ use Rattle.listing.specs.Listing.{refusedText}
 use Rattle.machine.specs.Machine.{runOf}
 use Rattle.machine.specs.Bench.{stateAt, shortList, benchAnswer, benchOf}
 use Rattle.stepper.proofs.Checks.{past, stopped}
-use Rattle.benchtext.specs.BenchText.{triedText, lineFor, withValue, wordsTried}
+use Rattle.benchtext.specs.BenchText.{triedText, runLine, withValue, wordsTried}
 use Rattle.benchtext.proofs.Rows.{value-long}
 
 module _ (n p v : ℕ) (xs ws : List ℕ) where
@@ -25,8 +25,8 @@ module _ (n p v : ℕ) (xs ws : List ℕ) where
     unfolding wordsTried
     words-put f = rw e (f ∙ ap (λ (k : ℕ). withValue k p v xs ws) counted)
 
-    pub line-put : {ys : List ℕ} → ys ≡ withValue m p v xs ws → (a : List ℕ) (pc limit : ℕ) → lineFor true v (benchOf m xs ys a pc limit) ≡ triedText v (benchOf n xs tried a pc limit)
-    unfolding lineFor
+    pub line-put : {ys : List ℕ} → ys ≡ withValue m p v xs ws → (a : List ℕ) (pc limit : ℕ) → runLine true v (benchOf m xs ys a pc limit) ≡ triedText v (benchOf n xs tried a pc limit)
+    unfolding runLine
     line-put f a pc limit = rw (f, counted)
 
   -- refused

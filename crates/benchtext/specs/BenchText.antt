@@ -79,8 +79,8 @@ triedText v (accepted r) = (decimal v ++ (32 ∷ [])) ++ runText (r .end) (r .st
 triedText v (refused n p) = refusedText n p
 
 -- with a value in front or without
-unfoldable pub lineFor : Bool → ℕ → Answer Run → Text
-lineFor tries v r = cond tries (triedText v r) (answerText r)
+unfoldable pub runLine : Bool → ℕ → Answer Run → Text
+runLine tries v r = cond tries (triedText v r) (answerText r)
 
 -- the first n words of a list, those at an address replaced by a value
 unfoldable pub withValue : ℕ → ℕ → ℕ → List ℕ → List ℕ → List ℕ
@@ -119,7 +119,7 @@ wordsFor g row n xs ws = cond (g .tries) (withValue n (threshold g) (valueAt g r
 
 -- its line for the first n words of a list
 unfoldable pub rowOf : Given → ℕ → ℕ → List ℕ → List ℕ → Text
-rowOf g row n xs ws = lineFor (g .tries) (valueAt g row) (benchOf n xs (wordsFor g row n xs ws) (registersOf g) (startOf g) (g .limit))
+rowOf g row n xs ws = runLine (g .tries) (valueAt g row) (benchOf n xs (wordsFor g row n xs ws) (registersOf g) (startOf g) (g .limit))
 
 -- how many rows there are: one for each value; one where the list is refused, whatever the value
 abbrev pub triedRows : Given → Verdict → ℕ

@@ -12,7 +12,7 @@ ghost use Rattle.station.specs.Station.{unlessFailed};
 ghost use Rattle.station.specs.Printed.{Printed};
 ghost use Rattle.station.specs.Reads.{Reads};
 ghost use Rattle.benchtext.specs.Puts.{Puts};
-ghost use Rattle.benchtext.specs.BenchText.{endText, longText, registersText, flagByte, flagsText, runText, answeredText, triedRun, triedAnswer, triedText, withValue, lineFor, wordsFor, rowOf, wordsTried, triedRows, rowsOf, rowText, rowCount, inputRow, inputRows};
+ghost use Rattle.benchtext.specs.BenchText.{endText, longText, registersText, flagByte, flagsText, runText, answeredText, triedRun, triedAnswer, triedText, withValue, runLine, wordsFor, rowOf, wordsTried, triedRows, rowsOf, rowText, rowCount, inputRow, inputRows};
 use answer::Answer;
 use arguments::Given;
 use listing::reading::Parsed;
@@ -217,7 +217,7 @@ pub fn write_list_run(
     limit: u64,
     out: &mut [u8; TEXT],
 ) -> usize
-    ensures { λ r. ⌜ Printed (lineFor tries value (benchOf count (now (addresses .entry)) (now (words .entry)) (now (a .entry)) start limit)) r (now (out .entry)) (now (out .exit)) ⌝ }
+    ensures { λ r. ⌜ Printed (runLine tries value (benchOf count (now (addresses .entry)) (now (words .entry)) (now (a .entry)) start limit)) r (now (out .entry)) (now (out .exit)) ⌝ }
 {
     let mut d = [0u32; 8];
     let mut memory = [0u8; MEMORY];

@@ -15,7 +15,7 @@ use Rattle.requests.specs.Sheet.{totals, meanOf}
 use Rattle.requests.specs.Sheet.{Totals as Said}
 use Rattle.listing.specs.Listing.{digitByte, digitsOf, decimalPlacesBy, decimalPlaces, decimal}
 use Rattle.sheettext.specs.Rows.{sheetText}
-use Rattle.sheettext.specs.Back.{withByte, nextRow, readFrom, totalsFrom, totalsIn, sameFront, Read, is-sheet, wrong, judged, sheetIn}
+use Rattle.sheettext.specs.Back.{withByte, nextRow, readFrom, totalsIn, sameFront, Read, is-sheet, wrong, judged, sheetIn}
 
 -- ---- the rows' numbers, byte by byte
 pub row-low : (row b : ℕ) → row ≤ 12 → nextRow row b ≤ 12

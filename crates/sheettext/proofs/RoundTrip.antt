@@ -13,8 +13,9 @@ use Rattle.rules.specs.Text.{Text, bytes, cutAt}
 use Rattle.requests.specs.Sheet.{Totals as Said, totals, numbersIn, meanOf}
 use Rattle.promises.specs.Nearest.{In, head, tail}
 use Rattle.listing.specs.Listing.{digitByte, digitsOf, decimalPlacesBy, decimalPlaces, decimal}
+use Rattle.sheet.specs.Totals.{lentTotals}
 use Rattle.sheettext.specs.Rows.{partText, plainText, codeText, countsText, meanText, sheetText}
-use Rattle.sheettext.specs.Back.{withByte, nextRow, readFrom, totalsFrom, totalsIn, sameFront, Read, is-sheet, wrong, judged, sheetIn}
+use Rattle.sheettext.specs.Back.{withByte, nextRow, readFrom, totalsIn, sameFront, Read, is-sheet, wrong, judged, sheetIn}
 use Rattle.sheettext.specs.Trips.{SheetsReadBack}
 
 -- two constructors are never equal
@@ -182,7 +183,7 @@ others-stay [] ns j h = refl
 others-stay (b ∷ s) ns j h =
     rw (last-row b) (others-stay s (set ns 12 (withByte (getD ns 12 0) b)) j h ∙ getD-set-other ns 12 j (withByte (getD ns 12 0) b) 0 (λ e. omega arith))
 
-rest-stays : (s : Text) (ns : List ℕ) → totalsFrom (readFrom 12 ns s) ≡ totalsFrom ns
+rest-stays : (s : Text) (ns : List ℕ) → lentTotals (readFrom 12 ns s) ≡ lentTotals ns
 rest-stays s ns =
     rw (
       others-stay s ns 0 (omega arith),
@@ -259,7 +260,7 @@ module _ (t : Said) (b : (n : ℕ) → In n (numbersIn t) → n < 10 ^ 19) where
   totals-back =
       let p = front-passes in
       let m = meanText (meanOf t) in
-      ap totalsFrom (read-append 0 (replicate 13 0) ((plainText t ++ codeText t) ++ countsText t) m ∙ ap₂ (λ (x : ℕ) (y : List ℕ). readFrom x y m) (p .rows) (p .numbers))
+      ap lentTotals (read-append 0 (replicate 13 0) ((plainText t ++ codeText t) ++ countsText t) m ∙ ap₂ (λ (x : ℕ) (y : List ℕ). readFrom x y m) (p .rows) (p .numbers))
       ∙ rest-stays m (t .skipped-lines ∷ t .org-lines ∷ t .label-lines ∷ t .data-lines ∷ t .word-lines ∷ t .wordless-lines ∷ t .end-lines ∷ t .words ∷ t .marked ∷ t .labels ∷ t .accepted-sources ∷ t .refused-sources ∷ 0 ∷ [])
 
 -- ---- the same text

@@ -5,9 +5,8 @@ use mathlib.Core.List.{List, [], _∷_}
 use lib.Dec.{eqb, leb, ltb}
 use lib.ListN.{length, take, getD, set, replicate}
 use Rattle.rules.specs.Text.{Text, cutAt}
-use Rattle.requests.specs.Sheet.{totals}
 use Rattle.requests.specs.Sheet.{Totals as Said}
-use Rattle.sheet.specs.Totals.{said}
+use Rattle.sheet.specs.Totals.{said, lentTotals}
 use Rattle.sheettext.specs.Rows.{sheetText}
 use Rattle.sheettext.specs.declared.back.Sheet.{Sheet}
 use Rattle.sheettext.specs.declared.back.Sheet.the-variants.{Totals, Wrong}
@@ -25,15 +24,9 @@ unfoldable pub readFrom : ℕ → List ℕ → Text → List ℕ
 readFrom row ns [] = ns
 readFrom row ns (b ∷ t) = readFrom (nextRow row b) (set ns row (withByte (getD ns row 0) b)) t
 
--- the totals of the first twelve
-abbrev pub totalsFrom : List ℕ → Said
-totalsFrom ns =
-    totals (getD ns 0 0) (getD ns 1 0) (getD ns 2 0) (getD ns 3 0) (getD ns 4 0) (getD ns 5 0) (getD ns 6 0) (getD ns 7 0) (getD ns 8 0) (getD ns 9 0) (getD ns 10 0)
-    (getD ns 11 0)
-
--- the totals that a text shows, whatever it is
+-- the totals that a text shows, whatever it is: its first twelve numbers
 unfoldable pub totalsIn : Text → Said
-totalsIn t = totalsFrom (readFrom 0 (replicate 13 0) t)
+totalsIn t = lentTotals (readFrom 0 (replicate 13 0) t)
 
 -- how many bytes two texts have in common at their front
 unfoldable pub sameFront : Text → Text → ℕ

@@ -4,7 +4,7 @@ ghost use mathlib.Core.List.{[]};
 ghost use Prim.Native.Nat.{_≤_, _<_, min};
 ghost use lib.ListN.{length, replicate};
 ghost use Rattle.sheet.specs.Totals.{said};
-ghost use Rattle.sheettext.specs.Back.{withByte, nextRow, readFrom, totalsIn, totalsFrom, sameFront, sheetIn, readOf};
+ghost use Rattle.sheettext.specs.Back.{withByte, nextRow, readFrom, totalsIn, sameFront, sheetIn, readOf};
 use crate::SHEET;
 use crate::rows::write_sheet;
 use sheet::Totals;
