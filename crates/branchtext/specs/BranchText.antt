@@ -9,9 +9,9 @@ use Rattle.rules.specs.Text.{Text}
 use Rattle.rules.specs.Answer.{Answer, accepted, refused}
 use Rattle.requests.specs.Branches.{checked, assembleUnder, explainAllUnder, explainUnder}
 use Rattle.listing.specs.Listing.{refusedText}
-use Rattle.station.specs.Station.{listedText, scriptText, unlessFailed, inputText}
+use Rattle.station.specs.Station.{listedText, unlessFailed, inputText}
 use Rattle.station.specs.declared.input.Input.{Input}
-use Rattle.whytext.specs.WhyLine.{toldText, allText, whyText}
+use Rattle.whytext.specs.WhyLine.{toldText, allText}
 use Rattle.whytext.specs.declared.Lines.{Lines}
 use Rattle.whytext.specs.declared.Lines.the-variants.{One, All}
 

@@ -2,7 +2,7 @@
 -- 21; that the classes add up to the lines, and the sheets of a series' parts to that of the series, in any order. Assumes nothing.
 use Prim.Native.Nat.{ℕ, zero, suc, _+_, _^_, _<_, _≤_}
 use mathlib.Core.Path.{_≡_}
-use mathlib.Core.Logic.{_↔_, _≢_}
+use mathlib.Core.Logic.{_≢_}
 use mathlib.Core.Bool.{true}
 use mathlib.Core.Option.{some}
 use mathlib.Core.List.{List, [], _∷_, _++_}
@@ -11,7 +11,7 @@ use Rattle.rules.specs.Text.{Text, bytes, uppers, trim, starts, contains}
 use Rattle.rules.specs.Line.{size}
 use Rattle.rules.specs.Encode.{encode}
 use Rattle.rules.specs.Label.{Label}
-use Rattle.rules.specs.Answer.{Answer, accepted, refused, andThen}
+use Rattle.rules.specs.Answer.{accepted, refused, andThen}
 use Rattle.rules.specs.Assemble.{Pass, Place, passAt, assemble}
 use Rattle.requests.specs.Sheet.{Class, skip, origin, bareLabel, datum, emitting, wordless, ending, Totals, totals, noTotals, addSource, addSheet, plantSheet}
 use Rattle.promises.specs.Stages.{Stage, all, RefusesExactly}

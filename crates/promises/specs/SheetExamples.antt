@@ -4,7 +4,7 @@ use mathlib.Core.Path.{_≡_}
 use mathlib.Core.List.{List, [], _∷_, map}
 use Rattle.rules.specs.Text.{Text, bytes}
 use Rattle.rules.specs.Answer.{Answer, accepted, refused}
-use Rattle.requests.specs.Sheet.{Totals, totals, noTotals, addSource, plantSheet, Mean, meanOf}
+use Rattle.requests.specs.Sheet.{Totals, totals, noTotals, addSource, plantSheet, meanOf}
 
 -- a call: totals handed in, a source, and the answer
 pub record Example : Type 0 where

@@ -1,5 +1,4 @@
 -- Totals and answers as the code has them, read as W-214's; and what a sum needs. Assumes nothing.
-use mathlib.Core.Path.{_≡_}
 use mathlib.Core.List.{List, [], _∷_}
 use Prim.Native.Nat.{ℕ, _+_, _^_, _≤_, _<_, max}
 use lib.ListN.{getD}

@@ -1,8 +1,7 @@
 // A sheet read back from its text: the numbers of its rows are read, and the text is a sheet if these are written as that text.
 ghost use mathlib.Core.Path.{_≡_};
-ghost use mathlib.Core.List.{[]};
-ghost use Prim.Native.Nat.{_≤_, _<_, min};
-ghost use lib.ListN.{length, replicate};
+ghost use Prim.Native.Nat.{_≤_};
+ghost use lib.ListN.{length};
 ghost use Rattle.sheet.specs.Totals.{said};
 ghost use Rattle.sheettext.specs.Back.{withByte, nextRow, readFrom, totalsIn, sameFront, sheetIn, readOf};
 use crate::SHEET;
