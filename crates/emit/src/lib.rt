@@ -9,7 +9,7 @@ ghost use Rattle.label.specs.Table.{table_of};
 ghost use Rattle.branches.specs.Branch.{names_in};
 ghost use Rattle.first.specs.Pass.{pass_in};
 ghost use Rattle.encode.specs.Code.{places_of, code_length};
-ghost use Rattle.encode_manual.specs.Code.{places_of as manualPlaces};
+ghost use Rattle.encode_manual.specs.Code.{places_of as manual_places};
 ghost use Rattle.emit.specs.Codes.{manual_length};
 ghost use Rattle.emit.specs.Emit.{encoder_by, wanted, put_from, Room, RoomIf, Taken, first_words, second_words, put_of, TakeValueNeeds, EncodeTaskNeeds, EmitWordsNeeds};
 
@@ -118,7 +118,7 @@ fn put_manual(
     code: ManualCode,
 ) -> usize
     requires { (address < address_limit) × Room (n + manual_length code) (slices addresses.old words.old marks.old) }
-    ensures { Taken true n (manualPlaces address code) (slices addresses.old words.old marks.old) result (slices addresses.new words.new marks.new) }
+    ensures { Taken true n (manual_places address code) (slices addresses.old words.old marks.old) result (slices addresses.new words.new marks.new) }
 {
     match code {
         ManualCode::Fault(_, _) => n,

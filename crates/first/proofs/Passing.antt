@@ -220,12 +220,12 @@ module _ (z : Sizes) (source : Text) (base : ℕ) (table cells : List ℕ) (p : 
         pub sizing : Readable source table' n l.task
         sizing = record { within = r.task_in; held = rw all_recorded.1 stored.held; short = needs.stands.short }
 
-        module _ (m : ℕ) (sized : m ≡ size_of z source l.task) (later : ℕ) (says-later : later ≡ after_by base p.address (record { task = l.task; size = m })) where
+        module _ (m : ℕ) (sized : m ≡ size_of z source l.task) (later : ℕ) (says_later : later ≡ after_by base p.address (record { task = l.task; size = m })) where
           abbrev keeps : Kept
           keeps = record { task = l.task; size = m }
 
           later_is : later ≡ address_after z base p.address (asked this)
-          later_is = says-later ∙ after_kept z source base p.address keeps sized ∙ ap (address_after z base p.address) task_said
+          later_is = says_later ∙ after_kept z source base p.address keeps sized ∙ ap (address_after z base p.address) task_said
 
           -- the address is too high
           pub stops_out : address_limit ≤ later → Stopping z source base table cells p (refused 5 (suc p.lines)) table' cells
@@ -277,7 +277,7 @@ module _ (z : Sizes) (source : Text) (base : ℕ) (table cells : List ℕ) (p : 
                   short = needs.stands.short;
                   held = rw all_recorded.1 stored.held;
                   kept = lines_more cells p.lines keeps in_cells fits_kept z source needs.stands.kept (record { within = r.task_in; sized = sized });
-                  address = says-later ∙ rw needs.stands.address (sym (address_more cells p.lines keeps in_cells fits_kept base));
+                  address = says_later ∙ rw needs.stands.address (sym (address_more cells p.lines keeps in_cells fits_kept base));
                   number = λ h. number_next source p.at (omega (arith, length-drop p.at source)) ∙ ap suc number;
                   values = values_now;
                   rows = room_less (n + 2 * length rest) rows_now (room_same table' stored.long needs.stands.rows);

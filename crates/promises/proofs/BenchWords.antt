@@ -25,7 +25,7 @@ use Rattle.promises.proofs.Compared.{clash}
 use Rattle.promises.proofs.ManualLaws.{imm8_byte, bytes_read_back, displaced_byte, leads_there}
 use Rattle.promises.proofs.ManualForms.{every_form_has_a_line, branch_lines}
 use Rattle.promises.proofs.ManualLines.{lines_are_the_manuals}
-use Rattle.promises.proofs.BenchTexts.{Plains, Head, MOVEQ as MOVEQ·, MOVE-as-L, MOVE-as-W, MULS-as-W, ADD-as-W, SUB-as-W, CMP-as-W, TST-as-L, SUBQ-as-L, ASL-as-L, head_text, head_says, head_reads, Tail, one_operand, two_operands, plain_d, plain_at_a, Immediate, immediate_16, immediate_8, immediate_below}
+use Rattle.promises.proofs.BenchTexts.{Plains, Head, MOVEQ as moveq_head, MOVE-as-L, MOVE-as-W, MULS-as-W, ADD-as-W, SUB-as-W, CMP-as-W, TST-as-L, SUBQ-as-L, ASL-as-L, head_text, head_says, head_reads, Tail, one_operand, two_operands, plain_d, plain_at_a, Immediate, immediate_16, immediate_8, immediate_below}
 
 pub decodes_exactly : DecodesExactly
 unfolding DecodesExactly
@@ -177,7 +177,7 @@ branch_said k b c l u =
 form_said : (f : Form) (v : ℕ) → v < 2 ^ 16 → Valid f → Said (manual v f)
 unfolding manual
 form_said Nop v l ok = record { labels = []; address = 0; line = bytes "NOP"; says = every_form_has_a_line.nop }
-form_said (Moveq b m) v l ok = let t = signed_text b ok.0 in says MOVEQ· (given t m ok.1) (moveq t.reads ok.1)
+form_said (Moveq b m) v l ok = let t = signed_text b ok.0 in says moveq_head (given t m ok.1) (moveq t.reads ok.1)
 form_said (MoveWord n m) v l ok = says MOVE-as-W (both n m ok.0 ok.1) (copy ok.0 ok.1)
 form_said (Load n m) v l ok = says MOVE-as-L (two_operands (plain_at_a n ok.0) (plain_d m ok.1)) (load ok.0 ok.1)
 form_said (Store n m) v l ok = says MOVE-as-L (two_operands (plain_d n ok.0) (plain_at_a m ok.1)) (store ok.0 ok.1)

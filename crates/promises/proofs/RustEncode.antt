@@ -304,10 +304,10 @@ module _ (x : AssemblyInstruction) where
       branch_same c l = count_more _ _ (λ s ps. displaced_on s (λ z k. opcode (branch_word c z l k)))
 
 -- `match`: the arms, and the rules' list of mnemonics
-infixr 5 ◌then-arm◌
+infixr 5 ◌then_arm◌
 data Arms (y : Text → Option (List Content)) : List (Arm Code) → Type 0 where
   done : Arms y []
-  ◌then-arm◌ : {r : Arm Code} {rs : List (Arm Code)} → Same code_words r.result (y r.pattern) → Arms y rs → Arms y (r ∷ rs)
+  ◌then_arm◌ : {r : Arm Code} {rs : List (Arm Code)} → Same code_words r.result (y r.pattern) → Arms y rs → Arms y (r ∷ rs)
 
 Misses : Text → List (Arm Code) → Type 0
 Misses n [] = Unit {0}
@@ -319,7 +319,7 @@ equal s t e = same_eq s t (sym (equals_is s t) ∙ e)
 match_same : (y : Text → Option (List Content)) (n : Text) {rs : List (Arm Code)} → Arms y rs → (Misses n rs → y n ≡ none) → Same code_words (match n rs) (y n)
 unfolding match Misses
 match_same y n done k = rw (k tt) nothing
-match_same y n (◌then-arm◌ {r = r} {rs = rs} w ws) k = go (equals n r.pattern) refl (match_same y n ws)
+match_same y n (◌then_arm◌ {r = r} {rs = rs} w ws) k = go (equals n r.pattern) refl (match_same y n ws)
   where
     go : (x : Bool) → equals n r.pattern ≡ x → ((Misses n rs → y n ≡ none) → Same code_words (match n rs) (y n)) → Same code_words (match n (r ∷ rs)) (y n)
     go true e ih = rw (e, match, equal n r.pattern e) w
@@ -376,30 +376,30 @@ module _ (a : ℕ) (low : a < 2 ^ 30) (i : Said) {m : HashMap} {t : Table} (g : 
   unfolding encode_instruction_with_ext encode_by bind covered has equals bytes operation_in mnemonics other_mnemonics branches same encode_operation
   encode_same = match_same (λ q. encode t a (record { mnemonic = q; suffix = i.suffix; operands = ps })) i.mnemonic
       (no_ext_same (moveq_same x t ps)
-      then-arm move_same x g ps
-      then-arm movea_same x g ps
-      then-arm muls_same x t ps
-      then-arm no_ext_same (tst_same x t ps)
-      then-arm no_ext_same (subq_same x t ps)
-      then-arm no_ext_same (asl_same x t ps)
-      then-arm no_ext_same (dbra_same x g low ps)
-      then-arm by 0 (omega arith)
-      then-arm by 7 (omega arith)
-      then-arm by 6 (omega arith)
-      then-arm by 4 (omega arith)
-      then-arm by 5 (omega arith)
-      then-arm by 8 (omega arith)
-      then-arm by 9 (omega arith)
-      then-arm by 12 (omega arith)
-      then-arm by 13 (omega arith)
-      then-arm by 14 (omega arith)
-      then-arm by 15 (omega arith)
-      then-arm alone refl
-      then-arm alone refl
-      then-arm no_ext_same (add_same x t ps)
-      then-arm no_ext_same (sub_same x t ps)
-      then-arm cmp_same x t ps
-      then-arm no_ext_same (jump_same x g ps)
-      then-arm no_ext_same (jump_same x g ps)
-      then-arm done)
+      then_arm move_same x g ps
+      then_arm movea_same x g ps
+      then_arm muls_same x t ps
+      then_arm no_ext_same (tst_same x t ps)
+      then_arm no_ext_same (subq_same x t ps)
+      then_arm no_ext_same (asl_same x t ps)
+      then_arm no_ext_same (dbra_same x g low ps)
+      then_arm by 0 (omega arith)
+      then_arm by 7 (omega arith)
+      then_arm by 6 (omega arith)
+      then_arm by 4 (omega arith)
+      then_arm by 5 (omega arith)
+      then_arm by 8 (omega arith)
+      then_arm by 9 (omega arith)
+      then_arm by 12 (omega arith)
+      then_arm by 13 (omega arith)
+      then_arm by 14 (omega arith)
+      then_arm by 15 (omega arith)
+      then_arm alone refl
+      then_arm alone refl
+      then_arm no_ext_same (add_same x t ps)
+      then_arm no_ext_same (sub_same x t ps)
+      then_arm cmp_same x t ps
+      then_arm no_ext_same (jump_same x g ps)
+      then_arm no_ext_same (jump_same x g ps)
+      then_arm done)
       (λ ms. bind_none _ (missing i.mnemonic _ ms mnemonics refl))

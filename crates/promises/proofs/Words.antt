@@ -142,28 +142,28 @@ short_length a (long_address x ∷ cs) h = absurd h
 
 -- the law of all encoders: what changes each row's words by g changes an instruction's words by g
 module _ (g : List Content → List Content) (ls ls' : Table) (a a' : ℕ)
-    (word-by : (w : ℕ) → g (literal w ∷ []) ≡ literal w ∷ [])
+    (word_by : (w : ℕ) → g (literal w ∷ []) ≡ literal w ∷ [])
     (value_by : (w v : ℕ) → g (literal w ∷ literal v ∷ []) ≡ literal w ∷ literal v ∷ [])
-    (label-by : (w : ℕ) (l : Text) → Option.map g (with_label ls w l) ≡ with_label ls' w l)
-    (displacement-by : (s : Text) → displacement ls a s ≡ displacement ls' a' s)
-    (jumps-by : (s : Text) → jumps ls s ≡ jumps ls' s) where
+    (label_by : (w : ℕ) (l : Text) → Option.map g (with_label ls w l) ≡ with_label ls' w l)
+    (displacement_by : (s : Text) → displacement ls a s ≡ displacement ls' a' s)
+    (jumps_by : (s : Text) → jumps ls s ≡ jumps ls' s) where
   operation_by : (o : Operation) (ps : List Text) → Option.map g (encode_operation ls a o ps) ≡ encode_operation ls' a' o ps
   unfolding encode_operation registers_row high_row low_row from_indirect to_indirect from_label to_label move_rows movea_row muls_rows cmp_rows moveq_row quick_row tst_row jump_row dbra_row branch_row
-  operation_by move ps = simp (into, word-by, value_by, label-by)
-  operation_by movea ps = simp (into, label-by)
-  operation_by muls ps = simp (into, word-by, value_by)
-  operation_by add ps = simp (into, word-by)
-  operation_by sub ps = simp (into, word-by)
-  operation_by cmp ps = simp (into, word-by, value_by)
-  operation_by moveq ps = simp (into, word-by)
-  operation_by subq ps = simp (into, word-by)
-  operation_by asl ps = simp (into, word-by)
-  operation_by tst ps = simp (into, word-by)
-  operation_by nop ps = simp word-by
-  operation_by simhalt ps = simp word-by
-  operation_by jmp ps = simp (into, word-by, jumps-by)
-  operation_by dbra ps = simp (into, word-by, displacement-by)
-  operation_by (branch c) ps = simp (into, word-by, displacement-by)
+  operation_by move ps = simp (into, word_by, value_by, label_by)
+  operation_by movea ps = simp (into, label_by)
+  operation_by muls ps = simp (into, word_by, value_by)
+  operation_by add ps = simp (into, word_by)
+  operation_by sub ps = simp (into, word_by)
+  operation_by cmp ps = simp (into, word_by, value_by)
+  operation_by moveq ps = simp (into, word_by)
+  operation_by subq ps = simp (into, word_by)
+  operation_by asl ps = simp (into, word_by)
+  operation_by tst ps = simp (into, word_by)
+  operation_by nop ps = simp word_by
+  operation_by simhalt ps = simp word_by
+  operation_by jmp ps = simp (into, word_by, jumps_by)
+  operation_by dbra ps = simp (into, word_by, displacement_by)
+  operation_by (branch c) ps = simp (into, word_by, displacement_by)
 
   encode_by_lem : (names : List Mnemonic) (i : Instruction) → Option.map g (encode_by names ls a i) ≡ encode_by names ls' a' i
   unfolding encode_by

@@ -119,10 +119,10 @@ unfoldable pub parse_data_register : Text → Option ℕ
 parse_data_register operand =
     when (eqb (length operand) 2 && starts_with operand (bytes "D"))
     (do
-      reg-num ← get operand 1
-      when (is_ascii_digit reg-num)
+      reg_num ← get operand 1
+      when (is_ascii_digit reg_num)
           (do
-            d ← to_digit reg-num 10
+            d ← to_digit reg_num 10
             let num = as_u8 d in when (leb num 7) (some num)))
 
 -- an Option<u8>
@@ -130,10 +130,10 @@ unfoldable pub parse_address_register : Text → Option ℕ
 parse_address_register operand =
     when (eqb (length operand) 2 && starts_with operand (bytes "A"))
     (do
-      reg-num ← get operand 1
-      when (is_ascii_digit reg-num)
+      reg_num ← get operand 1
+      when (is_ascii_digit reg_num)
           (do
-            d ← to_digit reg-num 10
+            d ← to_digit reg_num 10
             let num = as_u8 d in when (leb num 7) (some num)))
 
 -- `&operand[1..operand.len() - 1]` cannot fail: no byte is both brackets
@@ -153,8 +153,8 @@ parse_immediate_address labels operand =
 unfoldable pub parse_branch_displacement : HashMap → Text → ℕ → Option ℤ
 parse_branch_displacement labels operand current_address =
     (do
-      target-address ← look_up labels operand
-      let displacement = sub_i32 (sub_i32 (as_signed 32 target-address) (as_signed 32 current_address)) (pos 2) in
+      target_address ← look_up labels operand
+      let displacement = sub_i32 (sub_i32 (as_signed 32 target_address) (as_signed 32 current_address)) (pos 2) in
           when (range_contains (negsuc 127) (pos 127) displacement) (some (as_i8 displacement)))
     then when (starts_with operand (bytes "+") || starts_with operand (bytes "-")) (i8_parse operand)
 
@@ -175,29 +175,29 @@ encode_move_with_ext labels instruction =
     let dest = at instruction.operands 1 in
     when (starts_with source (bytes "#"))
     (do
-      dest-reg ← parse_data_register dest
+      dest_reg ← parse_data_register dest
       imm_value ← parse_immediate_u16 source
-      some (0x21FC or (as_u16 dest-reg << 9), some imm_value))
+      some (0x21FC or (as_u16 dest_reg << 9), some imm_value))
     then (do
-      src-areg ← parse_indirect_register source
-      dest-reg ← parse_data_register dest
-      some (0x2010 or (as_u16 dest-reg << 9) or as_u16 src-areg, none))
+      src_areg ← parse_indirect_register source
+      dest_reg ← parse_data_register dest
+      some (0x2010 or (as_u16 dest_reg << 9) or as_u16 src_areg, none))
     then (do
-      src-reg ← parse_data_register source
-      dest-areg ← parse_indirect_register dest
-      some (0x2080 or (as_u16 dest-areg << 9) or as_u16 src-reg, none))
+      src_reg ← parse_data_register source
+      dest_areg ← parse_indirect_register dest
+      some (0x2080 or (as_u16 dest_areg << 9) or as_u16 src_reg, none))
     then (do
-      Source-Reg ← parse_data_register source
-      dest-reg ← parse_data_register dest
-      some (0x3000 or (as_u16 dest-reg << 9) or as_u16 Source-Reg, none))
+      source_reg ← parse_data_register source
+      dest_reg ← parse_data_register dest
+      some (0x3000 or (as_u16 dest_reg << 9) or as_u16 source_reg, none))
     then (do
-      dest-reg ← parse_data_register dest
-      label-addr ← look_up labels source
-      some (0x2078 or (as_u16 dest-reg << 9), some (as_u16 label-addr)))
+      dest_reg ← parse_data_register dest
+      label_addr ← look_up labels source
+      some (0x2078 or (as_u16 dest_reg << 9), some (as_u16 label_addr)))
     then (do
-      Source-Reg ← parse_data_register source
-      label-addr ← look_up labels dest
-      some (0x23C0 or as_u16 Source-Reg, some (as_u16 label-addr)))
+      source_reg ← parse_data_register source
+      label_addr ← look_up labels dest
+      some (0x23C0 or as_u16 source_reg, some (as_u16 label_addr)))
     then none)
 
 -- MOVEA #label, An
@@ -208,9 +208,9 @@ encode_movea_with_ext labels instruction =
     let dest = at instruction.operands 1 in
     when (starts_with source (bytes "#"))
     (do
-      dest-areg ← parse_address_register dest
-      label-addr ← look_up labels (drop 1 source)
-      some (0x207C or (as_u16 dest-areg << 9), some (as_u16 label-addr)))
+      dest_areg ← parse_address_register dest
+      label_addr ← look_up labels (drop 1 source)
+      some (0x207C or (as_u16 dest_areg << 9), some (as_u16 label_addr)))
     then none)
 
 -- MULS #imm, Dn or MULS Dn, Dm
@@ -220,14 +220,14 @@ encode_muls_with_ext instruction =
     (let source = at instruction.operands 0 in
     let dest = at instruction.operands 1 in
     (do
-      dest-reg ← parse_data_register dest
+      dest_reg ← parse_data_register dest
       cond (starts_with source (bytes "#"))
           (do
             imm_value ← parse_immediate_u16 source
-            some (0xC1FC or (as_u16 dest-reg << 9), some imm_value))
+            some (0xC1FC or (as_u16 dest_reg << 9), some imm_value))
           (do
-            src-reg ← parse_data_register source
-            some (0xC1C0 or (as_u16 dest-reg << 9) or as_u16 src-reg, none)))
+            src_reg ← parse_data_register source
+            some (0xC1C0 or (as_u16 dest_reg << 9) or as_u16 src_reg, none)))
     then none)
 
 -- Bcc displacement
@@ -243,18 +243,18 @@ unfoldable pub encode_add : AssemblyInstruction → Option ℕ
 encode_add instruction =
     cond (not (eqb (length instruction.operands) 2)) none
     (do
-      Source-Reg ← parse_data_register (at instruction.operands 0)
-      dest-reg ← parse_data_register (at instruction.operands 1)
-      some (0xD040 or (as_u16 dest-reg << 9) or as_u16 Source-Reg))
+      source_reg ← parse_data_register (at instruction.operands 0)
+      dest_reg ← parse_data_register (at instruction.operands 1)
+      some (0xD040 or (as_u16 dest_reg << 9) or as_u16 source_reg))
 
 -- SUB Dx, Dy
 unfoldable pub encode_sub : AssemblyInstruction → Option ℕ
 encode_sub instruction =
     cond (not (eqb (length instruction.operands) 2)) none
     (do
-      Source-Reg ← parse_data_register (at instruction.operands 0)
-      dest-reg ← parse_data_register (at instruction.operands 1)
-      some (0x9040 or (as_u16 dest-reg << 9) or as_u16 Source-Reg))
+      source_reg ← parse_data_register (at instruction.operands 0)
+      dest_reg ← parse_data_register (at instruction.operands 1)
+      some (0x9040 or (as_u16 dest_reg << 9) or as_u16 source_reg))
 
 -- CMP #immediate, Dy or CMP Dx, Dy
 unfoldable pub encode_cmp_with_ext : AssemblyInstruction → Option Code
@@ -263,12 +263,12 @@ encode_cmp_with_ext instruction =
     (cond (starts_with (at instruction.operands 0) (bytes "#"))
     (do
       immediate ← parse_immediate_u16 (at instruction.operands 0)
-      dest-reg ← parse_data_register (at instruction.operands 1)
-      some (0x0C80 or as_u16 dest-reg, some immediate))
+      dest_reg ← parse_data_register (at instruction.operands 1)
+      some (0x0C80 or as_u16 dest_reg, some immediate))
     (do
-      Source-Reg ← parse_data_register (at instruction.operands 0)
-      dest-reg ← parse_data_register (at instruction.operands 1)
-      some (0xB040 or (as_u16 dest-reg << 9) or as_u16 Source-Reg, none)))
+      source_reg ← parse_data_register (at instruction.operands 0)
+      dest_reg ← parse_data_register (at instruction.operands 1)
+      some (0xB040 or (as_u16 dest_reg << 9) or as_u16 source_reg, none)))
 
 -- JMP: the address is not encoded
 unfoldable pub encode_jump : HashMap → AssemblyInstruction → Option ℕ
@@ -484,7 +484,7 @@ push_instruction labels machine_code inst = push_code machine_code inst.address 
 
 -- the lines' machine code: addresses and words
 unfoldable pub assemble : List Text → List (ℕ × ℕ)
-assemble assembly-lines =
-    let s = rust_first_pass assembly-lines (record { labels = []; instructions = []; data_values = []; current_address = 0 }) in
+assemble assembly_lines =
+    let s = rust_first_pass assembly_lines (record { labels = []; instructions = []; data_values = []; current_address = 0 }) in
     let machine_code = foldl push_data [] s.data_values in
     foldl (push_instruction s.labels) machine_code s.instructions
