@@ -1,3 +1,5 @@
+#![tactic(auto)]
+
 // The machine of W-213 as definitions: its forms with their words, its state, what a step does, and a run stand in specs/. Here
 // are the types that its code shares with them.
 
@@ -6,7 +8,7 @@ pub const MEMORY: usize = 16384;
 
 // The forms that are run, 01's that are proved equal to the manual, with the numbers that stand in the word: registers, source
 // first, immediate data, and a branch's condition and displacement as bits.
-#[derive(Drop)]
+#[derive(Clone, Copy)]
 pub enum Form {
     Nop,
     // MOVEQ of a byte to Dm.
@@ -34,7 +36,7 @@ pub enum Form {
 }
 
 // What a word is: a form's, the halt's, or no such word.
-#[derive(Drop)]
+#[derive(Clone, Copy)]
 pub enum Decoded {
     Is(Form),
     Halt,
@@ -42,7 +44,7 @@ pub enum Decoded {
 }
 
 // The condition flags.
-#[derive(Drop)]
+#[derive(Clone, Copy)]
 pub struct Flags {
     pub x: bool,
     pub n: bool,
@@ -52,14 +54,14 @@ pub struct Flags {
 }
 
 // The part of the state that is handed around by value; registers and memory are lent.
-#[derive(Drop)]
+#[derive(Clone, Copy)]
 pub struct Status {
     pub flags: Flags,
     pub pc: u32,
 }
 
 // The step that is next: a form, the halt, a word that is none, or an access that is odd or outside.
-#[derive(Drop)]
+#[derive(Clone, Copy)]
 pub enum Judged {
     Runs(Form),
     Halts,
@@ -68,7 +70,7 @@ pub enum Judged {
 }
 
 // Why a run ended.
-#[derive(Drop)]
+#[derive(Clone, Copy)]
 pub enum End {
     OnHalt,
     OnWord,
@@ -77,7 +79,7 @@ pub enum End {
 }
 
 // What a run hands back by value.
-#[derive(Drop)]
+#[derive(Clone, Copy)]
 pub struct Ran {
     pub end: End,
     pub steps: u64,

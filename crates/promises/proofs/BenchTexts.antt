@@ -1,17 +1,17 @@
 -- Lines whose operands are made of plain bytes, read: what a line's text comes to where it has a mnemonic with or without a suffix, a
 -- blank, and operands parted by a comma; and immediates in hexadecimal. Assumes nothing.
-use Prim.Native.Nat.{ℕ, suc, ◌+◌, ◌*◌, ◌/◌, ◌%◌, ◌<◌, ◌≤◌}
-use mathlib.Core.Path.{◌≡◌, refl, sym, ◌∙◌, ap}
+use Prim.Native.Nat.{ℕ, suc, ◌+◌, ◌*◌, ◌/◌, ◌%◌, ◌<◌}
+use mathlib.Core.Path.{◌≡◌, refl, ◌∙◌, ap}
 use mathlib.Core.Bool.{Bool, true, false, cond}
 use mathlib.Core.Option.{Option, none, some, bind}
 use mathlib.Core.List.{List, [], ◌∷◌, ◌++◌, map, append-nil}
 use native.Mathlib.Omega.{arith}
 use lib.Dec.{ltb, eqb}
 use lib.IntN.{ℤ, pos, negsuc, neg_ℤ}
-use borrow.Author.Tests.{lt-ltb, le-ltb, ltb-true, ltb-false, le-leb, lt-leb, ne_eqb}
-use Rattle.rules.specs.Text.{Text, bytes, blank, upper, uppers, leading, trim_start, keep_end, trim_end, trim, on_first, cut_where, cut_at, drop_empty, pieces, join_more, joined, Cut, uncut, in_front, first_cut, starts, contains, after, nth, first_text, other_texts}
+use borrow.Author.Tests.{lt-ltb, ltb-true, ltb-false, le-leb, lt-leb, ne_eqb}
+use Rattle.rules.specs.Text.{Text, bytes, blank, upper, uppers, trim_start, keep_end, trim_end, trim, on_first, cut_where, cut_at, drop_empty, pieces, join_more, joined, uncut, in_front, first_cut, starts, contains, after, nth, first_text, other_texts}
 use Rattle.rules.specs.Number.{Reading, read, digit_value, digits, some_digits, ranged, below, within, without, unsigned_reading, signed_reading, hex_tail, by_prefix, reading16, reading8, immediate, value_of, imm8, imm16}
-use Rattle.rules.specs.Line.{Instruction as Said, instruction, instruction_of, operands_of, is_data, rest_line, after_label, label_line, trimmed_line, line_of}
+use Rattle.rules.specs.Line.{Instruction as Said, instruction, instruction_of, operands_of, is_data, rest_line, label_line, trimmed_line, line_of}
 use Rattle.rules.proofs.Readings.{ranged_value}
 use Rattle.promises.specs.Demand2Manual.{D, at_a, L, W}
 

@@ -1,31 +1,30 @@
 -- Which words run, and that they are exactly those of lines of 01's listed forms, which run as what they say. Assumes nothing.
-use Prim.Native.Nat.{ℕ, zero, suc, ◌+◌, ◌-◌, ◌%◌, ◌^◌, ◌<◌, ◌≤◌}
+use Prim.Native.Nat.{ℕ, zero, suc, ◌+◌, ◌-◌, ◌%◌, ◌^◌, ◌<◌}
 use mathlib.Core.Path.{◌≡◌, refl, sym, ◌∙◌, ap}
 use mathlib.Core.Logic.{◌≢◌}
 use mathlib.Core.Bool.{Bool, true, false, cond, false≢true}
 use mathlib.Core.Option.{Option}
 use mathlib.Core.List.{List, [], ◌∷◌, ◌++◌}
 use native.Mathlib.Omega.{arith}
-use lib.Dec.{ltb, eqb}
-use lib.IntN.{ℤ, pos, negsuc, sub_ℕ, ◌+ℤ◌}
+use lib.Dec.{ltb}
+use lib.IntN.{ℤ, pos, negsuc, sub_ℕ}
 use borrow.Author.Tests.{lt-ltb, le-ltb, ltb-true, ltb-false}
 use Rattle.rules.specs.Text.{Text, bytes, same}
 use Rattle.rules.specs.Number.{imm8}
 use Rattle.rules.specs.Label.{Table, find}
 use Rattle.rules.proofs.Tables.{same_below}
 use Rattle.rules.proofs.Readings.{all_some, imm16_all}
-use Rattle.manual.specs.Manual.{InByte, byte, sign_by, sign_of, Condition, T, CC, CS, NE, EQ, PL, MI, GE, LT, GT, LE, condition, Instruction, Bcc, MOVEQ, operation_word, extensions, manual_words}
+use Rattle.manual.specs.Manual.{InByte, byte, sign_by, sign_of, Condition, T, CC, CS, NE, EQ, PL, MI, GE, LT, GT, LE, condition, Instruction, Bcc, MOVEQ, manual_words}
 use Rattle.machine.specs.Form.{Valid, manual, listed, condition_at}
 use Rattle.machine.proofs.Inverse.{complete, inverse, halts, byte_back, word_same}
 use Rattle.machine.specs.declared.Form.{Form}
 use Rattle.machine.specs.declared.Form.TheVariants.{Nop, Moveq, MoveWord, Load, Store, Add, Sub, Cmp, Muls, MulsImmediate, Tst, Subq, Asl, Branch}
-use Rattle.promises.specs.Demand2Manual.{D, at_a, InReach, label, Branch as Branched, BRA, BCC, BCS, BNE, BEQ, BGE, BLT, BGT, BLE, condition_of, branch_name, Written, moveq, load, store, copy, muls_data, muls, add, sub, cmp, tst, subq, asl, nop, branch, LineSays}
-use Rattle.promises.specs.Bench.{DecodesExactly, HaltsExactly, RunsAs, Said, LinesRun, Puts, WordsHaveLines}
-use Rattle.promises.proofs.Compared.{clash}
-use Rattle.promises.proofs.ManualLaws.{imm8_byte, bytes_read_back, displaced_byte, leads_there}
+use Rattle.promises.specs.Demand2Manual.{D, InReach, label, Branch as Branched, BRA, BCC, BCS, BNE, BEQ, BGE, BLT, BGT, BLE, condition_of, branch_name, Written, moveq, load, store, copy, muls_data, muls, add, sub, cmp, tst, subq, asl, nop, branch}
+use Rattle.promises.specs.Bench.{DecodesExactly, HaltsExactly, RunsAs, Said, LinesRun, WordsHaveLines}
+use Rattle.promises.proofs.ManualLaws.{imm8_byte, bytes_read_back, displaced_byte}
 use Rattle.promises.proofs.ManualForms.{every_form_has_a_line, branch_lines}
 use Rattle.promises.proofs.ManualLines.{lines_are_the_manuals}
-use Rattle.promises.proofs.BenchTexts.{Plains, Head, MOVEQ as moveq_head, MOVE-as-L, MOVE-as-W, MULS-as-W, ADD-as-W, SUB-as-W, CMP-as-W, TST-as-L, SUBQ-as-L, ASL-as-L, head_text, head_says, head_reads, Tail, one_operand, two_operands, plain_d, plain_at_a, Immediate, immediate_16, immediate_8, immediate_below}
+use Rattle.promises.proofs.BenchTexts.{Head, MOVEQ as moveq_head, move_l, move_w, muls_w, add_w, sub_w, cmp_w, tst_l, subq_l, asl_l, head_text, head_says, head_reads, Tail, one_operand, two_operands, plain_d, plain_at_a, Immediate, immediate_16, immediate_8, immediate_below}
 
 pub decodes_exactly : DecodesExactly
 unfolding DecodesExactly
@@ -178,17 +177,17 @@ form_said : (f : Form) (v : ℕ) → v < 2 ^ 16 → Valid f → Said (manual v f
 unfolding manual
 form_said Nop v l ok = record { labels = []; address = 0; line = bytes "NOP"; says = every_form_has_a_line.nop }
 form_said (Moveq b m) v l ok = let t = signed_text b ok.0 in says moveq_head (given t m ok.1) (moveq t.reads ok.1)
-form_said (MoveWord n m) v l ok = says MOVE-as-W (both n m ok.0 ok.1) (copy ok.0 ok.1)
-form_said (Load n m) v l ok = says MOVE-as-L (two_operands (plain_at_a n ok.0) (plain_d m ok.1)) (load ok.0 ok.1)
-form_said (Store n m) v l ok = says MOVE-as-L (two_operands (plain_d n ok.0) (plain_at_a m ok.1)) (store ok.0 ok.1)
-form_said (Add n m) v l ok = says ADD-as-W (both n m ok.0 ok.1) (add ok.0 ok.1)
-form_said (Sub n m) v l ok = says SUB-as-W (both n m ok.0 ok.1) (sub ok.0 ok.1)
-form_said (Cmp n m) v l ok = says CMP-as-W (both n m ok.0 ok.1) (cmp ok.0 ok.1)
-form_said (Muls n m) v l ok = says MULS-as-W (both n m ok.0 ok.1) (muls ok.0 ok.1)
-form_said (MulsImmediate m) v l ok = let t = immediate_16 v l in says MULS-as-W (given t m ok) (muls_data t.reads ok)
-form_said (Tst n) v l ok = says TST-as-L (one_operand (plain_d n ok)) (tst ok)
-form_said (Subq k n) v l ok = let t = immediate_8 k (omega arith) in says SUBQ-as-L (given t n ok.2) (subq t.reads (omega arith) ok.1 ok.2)
-form_said (Asl k n) v l ok = let t = immediate_8 k (omega arith) in says ASL-as-L (given t n ok.2) (asl t.reads (omega arith) ok.1 ok.2)
+form_said (MoveWord n m) v l ok = says move_w (both n m ok.0 ok.1) (copy ok.0 ok.1)
+form_said (Load n m) v l ok = says move_l (two_operands (plain_at_a n ok.0) (plain_d m ok.1)) (load ok.0 ok.1)
+form_said (Store n m) v l ok = says move_l (two_operands (plain_d n ok.0) (plain_at_a m ok.1)) (store ok.0 ok.1)
+form_said (Add n m) v l ok = says add_w (both n m ok.0 ok.1) (add ok.0 ok.1)
+form_said (Sub n m) v l ok = says sub_w (both n m ok.0 ok.1) (sub ok.0 ok.1)
+form_said (Cmp n m) v l ok = says cmp_w (both n m ok.0 ok.1) (cmp ok.0 ok.1)
+form_said (Muls n m) v l ok = says muls_w (both n m ok.0 ok.1) (muls ok.0 ok.1)
+form_said (MulsImmediate m) v l ok = let t = immediate_16 v l in says muls_w (given t m ok) (muls_data t.reads ok)
+form_said (Tst n) v l ok = says tst_l (one_operand (plain_d n ok)) (tst ok)
+form_said (Subq k n) v l ok = let t = immediate_8 k (omega arith) in says subq_l (given t n ok.2) (subq t.reads (omega arith) ok.1 ok.2)
+form_said (Asl k n) v l ok = let t = immediate_8 k (omega arith) in says asl_l (given t n ok.2) (asl t.reads (omega arith) ok.1 ok.2)
 form_said (Branch k b) v l ok = branch_said k b (of_condition (condition_at k) k (condition_at_lem k ok.0 ok.1) ok.1) ok.2 ok.3
 
 pub lines_run : LinesRun

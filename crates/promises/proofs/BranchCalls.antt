@@ -13,7 +13,7 @@ use Rattle.rules.specs.Assemble.{Place, Slices, pass_at, encoded, assemble_by, a
 use Rattle.rules.specs.Tally.{held}
 use Rattle.requests.specs.Explain.{explain_all_by, explain_by}
 use Rattle.requests.specs.Branches.{loaded, names_with, under, assemble_under, assemble_under_answer, assemble_under_slices}
-use Rattle.promises.specs.Stages.{Stage, all, OneOf, Checked, at_once, CheckedBefore, by_stage, within_line, on_line, further_on, FirstOf, RefusesExactly}
+use Rattle.promises.specs.Stages.{Stage, all, OneOf, Checked, at_once, CheckedBefore, by_stage, within_line, on_line, further_on, FirstOf, RefusesExactly, after}
 use Rattle.promises.specs.Demand1.{PassCondition, passing, assembling, SamePast}
 use Rattle.promises.specs.Lawful.{RulesAreLawful, RulesAreShort}
 use Rattle.promises.specs.Demand3.{Demand3For, WordsDifferFor, LawfulMoves, ShortWordsDiffer}
@@ -58,6 +58,7 @@ module _ (t : Text) (C : ℕ → ℕ → Type 0) (ss : List Stage) (d : Apart (l
     where
       go : Checked n loading → OneOf n (16 ∷ 17 ∷ [])
       go (at_once i) = i
+      go (after i) = elim i [ ]
 
   -- the first of the table's is the first of all
   first_loading : {n p : ℕ} → FirstOf loading (TableCondition t) n p → FirstOf (loading ++ ss) U n p

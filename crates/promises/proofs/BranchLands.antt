@@ -12,7 +12,7 @@ use Rattle.rules.specs.Encode.{Operation, branch, Mnemonic, mnemonic, other_mnem
 use Rattle.requests.proofs.Mnemonics.{in_both}
 use Rattle.promises.specs.Nearest.{In, head, tail}
 use Rattle.promises.specs.Lands.{BranchesLandBy}
-use Rattle.promises.specs.Branches.{Row, four, Padded, Named, no_row, row, Misnamed, twice, taken, Accepted}
+use Rattle.promises.specs.Branches.{Row, four, Padded, Named, no_row, row, twice, taken, Accepted}
 use Rattle.promises.specs.BranchCalls.{ListsUnder, BranchesLandUnder}
 use Rattle.promises.proofs.Compared.{clash}
 use Rattle.promises.proofs.Lands.{branches_land_by}
@@ -35,6 +35,7 @@ row_of {m = m} (row {r} {rs} {n} p h) (head e) =
 row_of (row {r} p h) (tail i) =
     let k = row_of h i in
     record { front = r ∷ k.front; row = k.row; back = k.back; stands = ap (λ (x : List Row). r ∷ x) k.stands; padded = k.padded; means = k.means }
+row_of no_row i = elim i [ ]
 
 -- rows of one name have the same four bytes
 same_four : {m : Text} (q r : Row) → Padded m (four q) → Padded m (four r) → four q ≡ four r

@@ -85,7 +85,7 @@ front_rows (r ∷ rs) s (suc j) h =
     let f = front_rows rs s j (omega arith) in
     (row_on r (rows_bytes rs ++ s) j ∙ f.0, end_on r (rows_bytes rs ++ s) j ∙ f.1, tail {ys = rs} (rw (at_on r (rows_bytes rs ++ s) j) f.2))
 
-pub front_command : {rs : List Row} {q : Row} (s : Text) → In q rs → (j : ℕ) × (j < length rs) × (row_at (rows_bytes rs ++ s) j ≡ q)
+pub front_command : {q : Row} {rs : List Row} (s : Text) → In q rs → (j : ℕ) × (j < length rs) × (row_at (rows_bytes rs ++ s) j ≡ q)
 unfolding rows_bytes
 front_command s (head {y = r} {ys = rs} e) = (0, omega arith, (is_first r (rows_bytes rs ++ s)).2 ∙ sym e)
 front_command s (tail {y = r} {ys = rs} i) =

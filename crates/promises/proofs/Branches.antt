@@ -231,6 +231,7 @@ none_ahead t k m n f g (ahead e (here h)) c =
     broken_only (broken_16 u v) x y = let a = sym x ∙ v in clash cc
     broken_only (past_16 u v) x y = omega arith
 none_ahead t k m n f g (behind a) c = alone a
+none_ahead t k m n f g (ahead e (there i)) c = elim i [ ]
 
 one_of : {t : Text} {k n : ℕ} → Tested t k n → OneOf n (16 ∷ 17 ∷ [])
 one_of (broken_16 e b) = here refl

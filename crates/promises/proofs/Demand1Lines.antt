@@ -40,6 +40,7 @@ pub data Either (m : ℕ) : Type 0 where
 pub either : {m : ℕ} → Lines m → Either m
 either (here e) = six e
 either (there (here e)) = five e
+either (there (there i)) = elim i [ ]
 
 module _ (C : ℕ → ℕ → Type 0) where
   -- neither 5 nor 6 holds at the first j lines
@@ -70,6 +71,8 @@ module _ (C : ℕ → ℕ → Type 0) where
         where
           no_one : OneOf 6 [] → ¬ C m (suc j)
           no_one = elim [ ]
+      none_ahead m (ahead e (there i)) = elim i [ ]
+      none_ahead m (behind (behind i)) = elim i [ ]
 
   pub stop_address : (j : ℕ) → Fine j → ¬ C 6 (suc j) → C 5 (suc j) → Through (refused 5 (suc j))
   stop_address j f d c = stop_line (there (here refl)) c (λ m q i h. f m q i (omega arith)) none_ahead
@@ -80,6 +83,7 @@ module _ (C : ℕ → ℕ → Type 0) where
         where
           no_one : OneOf 5 [] → ¬ C m (suc j)
           no_one = elim [ ]
+      none_ahead m (behind (behind i)) = elim i [ ]
 
   -- no condition at the first j lines, and none after them
   pub clear : (j : ℕ) → Fine j → ((m q : ℕ) → Lines m → C m q → q ≤ j) → (p : Pass) → Through (accepted p)

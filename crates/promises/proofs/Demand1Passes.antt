@@ -12,7 +12,7 @@ use Rattle.rules.specs.Line.{SourceLine, numbered, lines_of, end, line_of}
 use Rattle.rules.specs.Label.{Table, record_all}
 use Rattle.rules.specs.Answer.{accepted}
 use Rattle.rules.specs.Assemble.{Sizes, Pass, address_after, first_pass_by}
-use Rattle.promises.specs.Demand1.{IsLine, next_address, names_of, on_top, Reached, start, further, TooMany, PassCondition, address_over, labels_over}
+use Rattle.promises.specs.Demand1.{IsLine, next_address, names_of, on_top, Reached, start, further, TooMany, PassCondition, address_over, labels_over, of_source}
 use Rattle.promises.proofs.Compared.{Compared, less, more, equal, compared}
 use Rattle.promises.proofs.Stages.{done, pass_lines}
 use Rattle.promises.proofs.Demand1Lines.{line_at, no_line, Lines, Either, six, five, either, Fine, fine_next, Through, stop_labels, stop_address, putting_through, From}
@@ -51,12 +51,14 @@ module _ (z : Sizes) (base : ℕ) (s : Text) where
       let u = (reached_once z base s r q).0 in
       let w : l ≡ k = cc in
       rw (u, w) (omega (arith, h))
+  address_at r e (of_source i) = elim i [ ]
 
   labels_at : {j a : ℕ} {ns : List Text} {l : Text} → Reached z base s j a ns → IsLine s j l → C 6 (suc j) → TooMany (names_of (line_of l)) ns
   labels_at {l = l} r e (labels_over {l = k} q f h) =
       let u = (reached_once z base s r q).1 in
       let w : l ≡ k = cc in
       rw (u, w) h
+  labels_at r e (of_source i) = elim i [ ]
 
   -- 5 or 6 at a place is at a line that the passes come to
   record AtLine (p : ℕ) : Type 0 where
@@ -71,9 +73,11 @@ module _ (z : Sizes) (base : ℕ) (s : Text) where
   -- 5, 6, and either of the two
   at_address : {p : ℕ} → C 5 p → AtLine p
   at_address (address_over {j} {a} {ns} {l} r f h) = record { index = j; place = refl; address = a; names = ns; text = l; reached = r; is = f }
+  at_address (of_source i) = elim i [ ]
 
   at_labels : {p : ℕ} → C 6 p → AtLine p
   at_labels (labels_over {j} {a} {ns} {l} r f h) = record { index = j; place = refl; address = a; names = ns; text = l; reached = r; is = f }
+  at_labels (of_source i) = elim i [ ]
 
   at_line : (m p : ℕ) → Lines m → C m p → AtLine p
   at_line m p i c = go (either i)

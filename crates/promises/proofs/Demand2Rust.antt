@@ -12,7 +12,7 @@ use Rattle.rules.specs.Line.{numbered, lines_of, Instruction as Said, Task, size
 use Rattle.rules.specs.Label.{Table, find}
 use Rattle.rules.specs.Encode.{Content, literal, address, long_address, encode}
 use Rattle.rules.specs.Answer.{Answer, accepted, refused, and_then}
-use Rattle.rules.specs.Assemble.{Put, Pass, first_pass, Place, places_at, data_contents, words_by, code_contents, code_contents_by, data_places, code_places, second_pass, assemble, second_pass_by, code_places_by}
+use Rattle.rules.specs.Assemble.{Put, Pass, first_pass, Place, places_at, data_contents, words_by, code_contents, code_contents_by, data_places, code_places, second_pass, second_pass_by, code_places_by}
 use Rattle.promises.specs.RustStr.{split, HashMap, look_up, push, add_u32}
 use Rattle.promises.specs.RustAssembler.{AssemblyInstruction, Code, encode_instruction_with_ext, State, rust_first_pass, push_data, push_ext, push_code, push_instruction}
 use Rattle.promises.specs.RustAssembler as Rust

@@ -107,7 +107,7 @@ module _ {z : Sizes} {e : Encoder} {most : ℕ} (law : Lawful z e most) where
   pass_sound base a t (l ∷ ls) h =
       pass_line z base a t l ls (Holds (Sound (l ∷ ls)))
       (λ k. record { low = tt; count = omega arith }) (λ k o. tt) (λ t' k o v. tt)
-      (λ t' k o v. holds_then (Sound ls) (Sound (l ∷ ls)) (first_pass_by z base _ t' ls) (putting a task) (pass_sound base _ t' ls v)
+      (λ t' k o v. holds_then (Sound ls) (Sound (l ∷ ls)) (first_pass_by z base _ t' ls) (putting a task) (pass_sound base (address_after z base a (line_of l.text).task) t' ls v)
       (λ p s. record { low = (record { address = h; ends = λ u. code_ends u base a (worded task) h v }, s.low); count = omega (arith, s.count) }))
     where
       task : Task

@@ -40,7 +40,7 @@ record Taken (x : Label) (t u : Table) : Type 0 where
 
 taken : (x : Label) (t : Table) → Unique t → Taken x t (recorded x t)
 unfolding recorded
-taken x [] u = record { unique = ((λ m. elim [ ]), tt); has = head refl; keeps = λ i d. tail i; is = elim [ head e ↦ inl e ] }
+taken x [] u = record { unique = ((λ m. elim [ ]), tt); has = head refl; keeps = λ i d. tail i; is = elim [ head e ↦ inl e | tail i ↦ elim i [ ] ] }
 taken x (l ∷ t) u = go (same x.name l.name) refl (taken x t u.1)
   where
     go : (y : Bool) → same x.name l.name ≡ y → Taken x t (recorded x t) → Taken x (l ∷ t) (recorded x (l ∷ t))
@@ -159,16 +159,16 @@ keeps_one P b t x l k = record { unique = r.unique; is = is; has = has; covers =
 
 -- the names of a line
 module _ (l : SourceLine) (a : ℕ) where
-  pub keeps_all : (P : Label → Type 0) {ns : List Name} {c e : ℕ} (b : ℕ) (t t' : Table) → b ≤ l.start + c → Rising l.text e c ns → record_all l a ns t ≡ some t'
+  pub keeps_all : {e : ℕ} (P : Label → Type 0) {ns : List Name} {c : ℕ} (b : ℕ) (t t' : Table) → b ≤ l.start + c → Rising l.text e c ns → record_all l a ns t ≡ some t'
       → Keeps P b t → Keeps (λ y. P y ⊎ In y (map (label_of l a) ns)) (l.start + e) t'
   unfolding record_all
-  keeps_all P {e = e} b t t' h (over r) f k =
+  keeps_all {e = e} P b t t' h (over r) f k =
       let g : t ≡ t' = cc in
       rw (← g) (keeps_by P (λ y. P y ⊎ In y []) b (l.start + e) t (omega arith) (λ x p. inl p) (λ x. elim [ inl p ↦ p | inr i ↦ absurd (nowhere i) ]) k)
     where
       nowhere : {y : Label} → In y [] → ⊥
       nowhere = elim [ ]
-  keeps_all P {e = e} b t t' h (next {m = n} {ms = ns} r w q) f k = go (has_room (find n.text t) t) refl (λ c u v. keeps_all Q c u t' v q)
+  keeps_all {e = e} P b t t' h (next {m = n} {ms = ns} r w q) f k = go (has_room (find n.text t) t) refl (λ c u v. keeps_all Q c u t' v q)
     where
       x : Label
       x = label_of l a n
@@ -199,6 +199,7 @@ module _ (l : SourceLine) (a : ℕ) where
 pub mapped : (l : SourceLine) (a : ℕ) {y : Label} (ns : List Name) → In y (map (label_of l a) ns) → (n : Name) × In n ns × (y ≡ label_of l a n)
 mapped l a (n ∷ ns) (head e) = (n, head refl, e)
 mapped l a (n ∷ ns) (tail i) = let h = mapped l a ns i in (h.0, tail h.1, h.2)
+mapped l a [] i = elim i [ ]
 
 pub map_in : (l : SourceLine) (a : ℕ) {n : Name} {ns : List Name} → In n ns → In (label_of l a n) (map (label_of l a) ns)
 map_in l a (head e) = head (ap (label_of l a) e)

@@ -43,6 +43,7 @@ module _ (ls : Table) (a : ℕ) (g : Branching) (s : Text) where
     where
       go : (xs : List ℤ) → Among o.displacement xs → first_that (fits g) xs ≡ none → range_fault (fits g) xs ≡ some 15
       go (x ∷ xs) k e = rw e
+      go [] k e = elim k [ ]
 
   none_outside : (x : ℤ) (xs : List ℤ) → ds ≡ x ∷ xs → first_that (fits g) ds ≡ none → Outside ls a (Range g) s
   none_outside x xs e f =

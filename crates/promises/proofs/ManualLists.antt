@@ -14,7 +14,7 @@ use Rattle.rules.specs.Line.{SourceLine, Name, lines_of, end, Instruction as Sai
 use Rattle.rules.specs.Label.{Label, Table, find, recorded, has_room, label_of, record_all}
 use Rattle.rules.specs.Encode.{Content, literal, address, long_address, encode}
 use Rattle.rules.specs.Answer.{Answer, accepted, and_then}
-use Rattle.rules.specs.Assemble.{Put, Pass, Sizes, Encoder, first_pass_by, putting, Place, place, places_at, data_places, code_contents_by, code_places, code_places_by, second_pass_by, pass_at_by, assemble_by}
+use Rattle.rules.specs.Assemble.{Put, Pass, Sizes, Encoder, first_pass_by, putting, Place, place, places_at, data_places, code_contents_by, code_places, code_places_by, second_pass_by, pass_at_by, assemble_by, address_after}
 use Rattle.manual.specs.Manual.{Instruction, manual_words}
 use Rattle.requests.specs.ManualCall.{manual_size, manual_encode}
 use Rattle.requests.specs.ManualAssemble.{task_fault, faultless, encoded_manual, assemble_manual}
@@ -105,7 +105,7 @@ pass_low z base a t [] k h = h
 pass_low z base a t (l ∷ ls) k h =
     pass_line z base a t l ls (Holds LowPass) (λ e. h) (λ e o. tt) (λ t' e o v. tt)
     (λ t' e o v. holds_then LowPass LowPass (first_pass_by z base _ t' ls) (putting a (line_of l.text).task)
-    (pass_low z base _ t' ls v (all_low l a (line_of l.text).names t k h t' o)) (λ p q. q))
+    (pass_low z base (address_after z base a (line_of l.text).task) t' ls v (all_low l a (line_of l.text).names t k h t' o)) (λ p q. q))
 
 low_addresses : (z : Sizes) (base : ℕ) (s : Text) (p : Pass) → pass_at_by z base s ≡ accepted p → Addresses32 p.labels
 low_addresses z base s p h l x e =

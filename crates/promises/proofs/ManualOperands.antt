@@ -276,6 +276,10 @@ among_gives ls a s d h = go (find s ls) refl (signed_digits s) refl h
     go none e (some y) k (here r) = by_number (signed_number s d (k ∙ ap some (sym r)))
     go (some t) e q k (here r) = by_label (record { target = t; found = e; leads = rw r (leads_there (a + 2) t) })
     go (some t) e (some y) k (there (here r)) = by_number (signed_number s d (k ∙ ap some (sym r)))
+    go none e none k i = elim i [ ]
+    go none e (some y) k (there i) = elim i [ ]
+    go (some t) e none k (there i) = elim i [ ]
+    go (some t) e (some y) k (there (there i)) = elim i [ ]
 
 -- none is found exactly if none passes the test
 pub none_passes : (f : ℤ → Bool) (ds : List ℤ) → first_that f ds ≡ none → (e : ℤ) → Among e ds → f e ≡ false
@@ -287,6 +291,7 @@ none_passes f (d ∷ ds) h e k = go (f d) refl h k (none_passes f ds)
     go true p q r ih = clash cc
     go false p q (here r) ih = rw r p
     go false p q (there r) ih = ih q e r
+none_passes f [] h e k = elim k [ ]
 
 pub passes_none : (f : ℤ → Bool) (ds : List ℤ) → ((e : ℤ) → Among e ds → f e ≡ false) → first_that f ds ≡ none
 unfolding first_that

@@ -1,5 +1,5 @@
 -- The manual's call refuses exactly by its conditions, in their order, and writes what it answers. Assumes nothing.
-use Prim.Native.Nat.{ℕ, zero, suc, ◌+◌, ◌≤◌}
+use Prim.Native.Nat.{ℕ, zero, suc, ◌≤◌}
 use mathlib.Core.Path.{◌≡◌, refl, sym, ap, ◌∙◌}
 use mathlib.Core.Logic.{◌≢◌}
 use mathlib.Core.Bool.{true}
@@ -110,6 +110,7 @@ module _ (base : ℕ) (s : Text) (x : Slices) (p : Pass) (accepts : pass_at_by m
   at_a_line : (m q : ℕ) → Faulty m → C m q → AtLine m q
   at_a_line m q (here e) c = rw e (at_14 (rw e at c))
   at_a_line m q (there (here e)) c = rw e (at_15 (rw e at c))
+  at_a_line m q (there (there i)) c = elim i [ ]
 
   -- and the fault of what is asked at an index is a line's condition
   record LineOf (j : ℕ) (k : Put) : Type 0 where
@@ -144,6 +145,7 @@ module _ (base : ℕ) (s : Text) (x : Slices) (p : Pass) (accepts : pass_at_by m
       holds : {a : ℕ} {i : Instruction} → Instructs base s j a i p.labels → Faulty m → manual_fault p.labels a i ≡ some m → C m (suc j)
       holds {a} {i} r (here u) g = rw u (unencoded r ((faults_exactly.fourteen p.labels a i).0 (rw u at g)))
       holds {a} {i} r (there (here u)) g = rw u (far r ((faults_exactly.fifteen p.labels a i).0 (rw u at g)))
+      holds r (there (there i)) g = elim i [ ]
 
   -- the faults of what is asked from index j on, if there is none before
   abbrev Fine : ℕ → Type 0
@@ -194,6 +196,8 @@ module _ (base : ℕ) (s : Text) (x : Slices) (p : Pass) (accepts : pass_at_by m
             where
               no_one : OneOf m [] → ¬ C n (suc j)
               no_one = elim [ ]
+          ahead_not i n (ahead u (there j)) = elim j [ ]
+          ahead_not i n (behind (behind j)) = elim j [ ]
 
   pub second_runs : Runs C (by_line (14 ∷ 15 ∷ []) ∷ []) (encoded_manual p)
   unfolding encoded_manual

@@ -170,6 +170,7 @@ module _ (ls : Table) (a : ℕ) where
   never (and_an p) (later b) = never p b
   never (and_at_an p) (here b) = no_at_an b
   never (and_at_an p) (later b) = never p b
+  never plain i = elim i [ ]
 
 -- ---- what is wrong in a form's places is a reason of its operation, where At says what the table of labels does
 module _ (ls : Table) (a : ℕ) (At : Text → ℕ → Type 0) (at : (l : Text) (x : ℕ) → find l ls ≡ some x → At l x)
@@ -202,6 +203,7 @@ module _ (ls : Table) (a : ℕ) (At : Text → ℕ → Type 0) (at : (l : Text) 
   sound branch_row (stands k h) (here (of_far {l} {x} n e i)) = far (branching_to n) (at l x e) i
   sound branch_row (stands k h) (later b) = absurd (never ls a plain b)
   sound (plain_row p) h b = absurd (never ls a p b)
+  sound to_row (stands k (stands j h)) (later (later b)) = elim b [ ]
 
 -- ---- and the other way round: of operands that have a form's kinds, a reason after the kinds is what is wrong in its places
 -- the one form there is

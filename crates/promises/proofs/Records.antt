@@ -14,7 +14,7 @@ use Rattle.rules.specs.Label.{Label, Table, find, label_of, record_all}
 use Rattle.rules.specs.Answer.{Answer, accepted, refused, and_then}
 use Rattle.rules.specs.Assemble.{Sizes, Pass, address_after, putting, first_pass_by, pass_at_by, pass_at}
 use Rattle.rules.proofs.Standing.{At, at_within, at_take, at_in}
-use Rattle.rules.proofs.Names.{Rising, next, names_rise}
+use Rattle.rules.proofs.Names.{Rising, next, names_rise, over}
 use Rattle.promises.specs.Demand1.{IsLine, names_of, on_top, Reached, start, further}
 use Rattle.promises.specs.Nearest.{In, head, tail, start_after, RecordsBy, records, LastRecordBy, RecordedAtBy, recorded_at, FoundIsLast, Records, RecordsStand}
 use Rattle.promises.proofs.Compared.{clash, Compared, less, more, equal, compared}
@@ -235,16 +235,19 @@ start_le (l ∷ ls) (suc j) (suc k) h = omega (arith, start_le ls j k (omega ari
 name_at : {l : Text} {e b : ℕ} {m : Name} {ms : List Name} → Rising l e b ms → In m ms → At m.text m.start l
 name_at (next h c r) (head f) = rw f c
 name_at (next h c r) (tail i) = name_at r i
+name_at (over _) i = elim i [ ]
 
 name_from : {l : Text} {e b : ℕ} {m : Name} {ms : List Name} → Rising l e b ms → In m ms → b ≤ m.start
 name_from (next h c r) (head f) = rw f h
 name_from (next h c r) (tail i) = omega (arith, name_from r i)
+name_from (over _) i = elim i [ ]
 
 name_behind : {l : Text} {e b : ℕ} {m m' : Name} {ms : List Name} → Rising l e b ms → In m ms → In m' ms → m.start < m'.start → m.start + length m.text ≤ m'.start
 name_behind (next h c r) (head f) (head g) k = let u = rw (f, g) at k in absurd (omega arith)
 name_behind (next h c r) (head f) (tail i) k = let u = name_from r i in rw f (omega arith)
 name_behind (next h c r) (tail i) (head g) k = let u = name_from r i in let v = rw g at k in absurd (omega arith)
 name_behind (next h c r) (tail i) (tail j) k = name_behind r i j k
+name_behind (over _) i _ k = elim i [ ]
 
 -- records stand where they say, in their order, and do not overlap
 module _ {base : ℕ} {s : Text} where

@@ -15,7 +15,7 @@ use Rattle.rules.specs.Line.{Instruction as Said}
 use Rattle.rules.specs.Label.{Table}
 use Rattle.rules.specs.Encode.{Content, literal, address, long_address, moveq, move, movea, muls, tst, subq, asl, dbra, add, sub, cmp, jmp, branch, Mnemonic, branches, other_mnemonics, mnemonics, operation_in, R, register_digit, data_register, address_register, two, one, one_or_more, displacement, jumps, with_label, registers_row, high_row, low_row, from_indirect, to_indirect, from_label, to_label, move_rows, movea_row, muls_rows, cmp_rows, moveq_row, quick_row, tst_row, jump_row, dbra_row, branch_row, encode_operation, encode_by, encode}
 use Rattle.rules.proofs.Readings.{All}
-use Rattle.promises.specs.RustStr.{when, at, is_empty, equals, starts_with, as_u16, i8_as_u16, HashMap, look_up, Arm, match}
+use Rattle.promises.specs.RustStr.{when, is_empty, equals, starts_with, as_u16, i8_as_u16, HashMap, look_up, Arm, match}
 use Rattle.promises.specs.RustAssembler.{AssemblyInstruction, Code, no_ext, parse_immediate, parse_immediate_u16, parse_data_register, parse_address_register, parse_branch_displacement, encode_moveq, encode_move_with_ext, encode_movea_with_ext, encode_muls_with_ext, encode_branch, encode_add, encode_sub, encode_cmp_with_ext, encode_jump, encode_tst, encode_subq, encode_asl, encode_dbra, encode_instruction_with_ext, ◌or◌, ◌and◌, ◌<<◌}
 use Rattle.promises.specs.Demand2Rust.{inst_at}
 use Rattle.promises.proofs.RustText.{same_eq, equals_is, after_is}

@@ -8,7 +8,7 @@ use native.Mathlib.Omega.{arith}
 use lib.ListN.{length, drop, get_or}
 use lib.Dec.{leb, ltb, eqb}
 use borrow.Author.Tests.{lt-ltb, le-leb}
-use Rattle.rules.specs.Text.{Text, bytes, uppers, leading, trim, trim_start, trim_end, cut_where, cut_at, drop_empty, pieces, joined, Cut, uncut, around, first_cut, same, starts, contains, nth, first_text, other_texts, last_text}
+use Rattle.rules.specs.Text.{Text, bytes, uppers, leading, trim, trim_start, trim_end, cut_where, cut_at, drop_empty, pieces, joined, Cut, uncut, around, first_cut, same, starts, nth, first_text, other_texts, last_text}
 use Rattle.rules.specs.Number.{value_of}
 use Rattle.rules.specs.Line.{Name, name, instruction, line, reading_in, number_in, operands_of, instruction_of, data_size, data_value, sized, data_task, is_directive, data_pieces, nonempty, data_line, is_data, rest_line, after_label, label_line, org_task, trimmed_line, line_of, is_l, is_plain, is_long, instruction_size, size}
 use Rattle.promises.specs.RustStr.{at, add_u32, filter, is_empty, split, split_whitespace, splitn_2, to_uppercase, starts_with, join}

@@ -54,9 +54,11 @@ module _ (s : Text) (free : AllFree (split 10 s)) where
   -- 5 and 6 at a line after which the state is known
   address_at : {j : ℕ} {st : State} → Looped s (suc j) st → C 5 (suc j) → address_limit ≤ st.current_address
   address_at r (address_over q h) = rw (loop_once r q) h
+  address_at r (of_source i) = elim i [ ]
 
   labels_at : {j : ℕ} {st : State} → Looped s (suc j) st → C 6 (suc j) → max_labels < keys st.labels
   labels_at r (labels_over q h) = rw (loop_once r q) h
+  labels_at r (of_source i) = elim i [ ]
 
   -- 5 or 6 is at a line that the loop has gone through
   record AtLine (p : ℕ) : Type 0 where
@@ -65,9 +67,11 @@ module _ (s : Text) (free : AllFree (split 10 s)) where
 
   at_address : {p : ℕ} → C 5 p → AtLine p
   at_address (address_over {st = st} r h) = record { state = st; looped = r }
+  at_address (of_source i) = elim i [ ]
 
   at_labels : {p : ℕ} → C 6 p → AtLine p
   at_labels (labels_over {st = st} r h) = record { state = st; looped = r }
+  at_labels (of_source i) = elim i [ ]
 
   at_line : (m p : ℕ) → Lines m → C m p → AtLine p
   at_line m p i c = go (either i)
@@ -171,9 +175,11 @@ module _ (s : Text) (free : AllFree (split 10 s)) where
     where
       first : (p : ℕ) → C 5 p → p ≤ 0 → ⊥
       first p (address_over r u) v = omega arith
+      first p (of_source i) v = elim i [ ]
 
       second : (p : ℕ) → C 6 p → p ≤ 0 → ⊥
       second p (labels_over r u) v = omega arith
+      second p (of_source i) v = elim i [ ]
 
       go : AtLine q → ⊥
       go at = on (either i)

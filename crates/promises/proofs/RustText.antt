@@ -9,7 +9,7 @@ use lib.Dec.{leb, ltb, eqb}
 use borrow.Author.Tests.{eqb-true, eqb-false, ne_eqb, le-ltb, le-leb}
 use native.Mathlib.Omega.{arith}
 use Rattle.rules.specs.Text.{Text, bytes, blank, upper, uppers, trim_start, keep_end, trim_end, trim, on_first, cut_where, cut_at, drop_empty, pieces, join_more, joined, Cut, uncut, around, in_front, first_cut, same, starts, contains, after, nth}
-use Rattle.promises.specs.RustStr.{at, get, filter, is_empty, equals, is_whitespace, trim_start, trim_end, extend, split_by, split, split_whitespace, splitn_2, to_upper, to_uppercase, starts_with, join_more, join}
+use Rattle.promises.specs.RustStr.{at, get, filter, is_empty, equals, is_whitespace, extend, split_by, split, split_whitespace, splitn_2, to_upper, to_uppercase, starts_with, join}
 use Rattle.promises.specs.RustStr as Rust
 
 pub starts_is : (p t : Text) → starts_with t p ≡ starts p t
@@ -59,14 +59,14 @@ uppercase_is [] = refl
 uppercase_is (b ∷ s) = ap (λ (u : Text). upper b ∷ u) (uppercase_is s)
 
 -- trim, from the end by reversing
-start_is : (s : Text) → trim_start s ≡ trim_start s
-unfolding trim_start trim_start is_whitespace blank
+start_is : (s : Text) → Rust.trim_start s ≡ trim_start s
+unfolding Rust.trim_start trim_start is_whitespace blank
 start_is [] = refl
 start_is (b ∷ s) = go (blank b) refl (start_is s)
   where
-    go : (x : Bool) → blank b ≡ x → trim_start s ≡ trim_start s → trim_start (b ∷ s) ≡ trim_start (b ∷ s)
-    go true e ih = rw (e, trim_start, trim_start) ih
-    go false e ih = rw (e, trim_start, trim_start)
+    go : (x : Bool) → blank b ≡ x → Rust.trim_start s ≡ trim_start s → Rust.trim_start (b ∷ s) ≡ trim_start (b ∷ s)
+    go true e ih = rw (e, Rust.trim_start, trim_start) ih
+    go false e ih = rw (e, Rust.trim_start, trim_start)
 
 -- b after s, unless b is a blank and nothing stands before it
 keep_last : Text → ℕ → Text
@@ -100,8 +100,8 @@ keep_reverse [] b = go (blank b)
     go false = refl
 keep_reverse (c ∷ s) b = rw (reverse-append (c ∷ s) (b ∷ []), reverse-cons c s) (sym (keep_more b c (reverse s)))
 
-end_is : (s : Text) → trim_end s ≡ trim_end s
-unfolding trim_end trim_start trim_end
+end_is : (s : Text) → Rust.trim_end s ≡ trim_end s
+unfolding Rust.trim_end Rust.trim_start trim_end
 end_is [] = refl
 end_is (b ∷ s) = rw (
   reverse-cons b s,
@@ -144,11 +144,11 @@ unfolding split_whitespace pieces is_whitespace blank
 pieces_is s = nonempty_is (split_by blank s) ∙ ap drop_empty (by_is blank s)
 
 pub join_is : (ps : List Text) → join ps (bytes " ") ≡ joined ps
-unfolding join joined join_more join_more bytes
+unfolding join joined Rust.join_more join_more bytes
 join_is [] = refl
 join_is (p ∷ ps) = ap (λ (u : Text). p ++ u) (more ps)
   where
-    more : (ps : List Text) → join_more ps (32 ∷ []) ≡ join_more ps
+    more : (ps : List Text) → Rust.join_more ps (32 ∷ []) ≡ join_more ps
     more [] = refl
     more (p ∷ ps) = ap (λ (u : Text). 32 ∷ (p ++ u)) (more ps)
 

@@ -1,6 +1,6 @@
 -- W-214 holds: each line is in one class, a source adds its own totals, 20 and 21 come exactly by their conditions, and sheets add up.
 -- Assumes nothing.
-use Prim.Native.Nat.{ℕ, suc, ◌+◌, ◌*◌, ◌^◌, ◌≤◌, ◌<◌}
+use Prim.Native.Nat.{ℕ, ◌+◌, ◌≤◌, ◌<◌}
 use mathlib.Core.Path.{◌≡◌, refl, sym, ap, ◌∙◌}
 use mathlib.Core.Bool.{Bool, true, false, ◌||◌}
 use mathlib.Core.List.{List, [], ◌∷◌}
@@ -8,27 +8,25 @@ use native.Mathlib.Omega.{arith}
 use borrow.Author.Tests.{ltb-true, lt-ltb, ltb-false, leb-true, le-leb}
 use lib.Dec.{leb, ltb}
 use lib.ListN.{length}
-use Rattle.rules.specs.Limits.{max_lines, max_labels}
+use Rattle.rules.specs.Limits.{max_lines}
 use Rattle.rules.specs.Text.{Text, cut_at}
 use Rattle.rules.specs.Line.{size}
-use Rattle.rules.specs.Encode.{encode}
-use Rattle.rules.specs.Answer.{Answer, accepted, refused, refuse_if, and_then}
-use Rattle.rules.specs.Assemble.{Pass, Place, encoded, second_pass, pass_at_by, pass_at, assemble_by, assemble}
+use Rattle.rules.specs.Answer.{Answer, accepted, refused, and_then}
+use Rattle.rules.specs.Assemble.{Pass, second_pass, pass_at_by, pass_at, assemble_by, assemble}
 use Rattle.requests.specs.Symbols.{in_order, symbols}
-use Rattle.requests.specs.Sheet.{max_sources, max_total, Class, skip, origin, bare_label, datum, emitting, wordless, ending, classes, how_many, marked_in, Totals, totals, no_totals, one_refused, numbers_in, accepted_sheet, answer_sheet, source_sheet, plus, sources, any_over, add_source, plant_sheet}
-use Rattle.promises.specs.Stages.{all, Checked}
+use Rattle.requests.specs.Sheet.{max_sources, max_total, skip, origin, bare_label, datum, emitting, wordless, ending, classes, Totals, one_refused, numbers_in, accepted_sheet, answer_sheet, source_sheet, plus, sources, any_over, add_source}
+use Rattle.promises.specs.Stages.{Checked}
 use Rattle.promises.specs.Demand1.{line_count, PassCondition, PassRefusesExactly}
 use Rattle.promises.specs.Longest.{AtMostTwoALine}
 use Rattle.promises.specs.Nearest.{In, head, tail}
 use Rattle.promises.specs.Symbols.{SymbolsAreListed, EachListFits}
-use Rattle.promises.specs.Sheet.{EachInOneClass, OfAccepted, OfRefused, IsSheet, of_accepted, of_refused, OneOfTotals, SheetCondition, source_more, total_over, sheeting, SheetRefusesExactly, SourceAdded, SourcesAreAdded, OfSeries, no_source, with_source, AcceptedLines, no_lines, accepted_lines, refused_lines, ClassesAddUp, SeriesAdded, SheetsAddUp}
+use Rattle.promises.specs.Sheet.{EachInOneClass, OfAccepted, IsSheet, of_accepted, of_refused, SheetCondition, source_more, total_over, sheeting, SheetRefusesExactly, SourceAdded, SourcesAreAdded, OfSeries, no_source, with_source, AcceptedLines, no_lines, accepted_lines, refused_lines, ClassesAddUp, SheetsAddUp}
 use Rattle.promises.proofs.Compared.{clash, Compared, less, more, equal, compared}
 use Rattle.promises.proofs.Stages.{is_checked, checked_by, apart, are_apart, Runs, done, refuse_if_lem, refuses_exactly, none_holds}
 use Rattle.promises.proofs.Demand1.{pass_refuses_exactly}
 use Rattle.promises.proofs.Demand1Assemble.{counted}
 use Rattle.promises.proofs.Accepted.{not_refused, checks_passed}
 use Rattle.promises.proofs.Longest.{at_most_two_a_line}
-use Rattle.promises.proofs.Sorted.{Sorted}
 use Rattle.promises.proofs.Records.{labels_are_last}
 use Rattle.promises.proofs.Nearest.{clear}
 use Rattle.promises.proofs.Symbols.{in_order_lem, symbols_are_listed}
@@ -171,6 +169,7 @@ one_over (m ∷ ns) n (tail i) h = rw (one_over ns n i h) (go (ltb max_total m))
     go : (x : Bool) → (x || true) ≡ true
     go true = refl
     go false = refl
+one_over [] n i h = elim i [ ]
 
 module _ (t : Totals) (s : Text) where
   abbrev C : ℕ → ℕ → Type 0

@@ -4,18 +4,18 @@ use Prim.Native.Nat.{ℕ, zero, suc, ◌+◌, ◌-◌, ◌<◌, ◌≤◌}
 use mathlib.Core.Path.{◌≡◌, refl, sym, ap, ◌∙◌}
 use mathlib.Core.Logic.{◌≢◌}
 use mathlib.Core.Bool.{Bool, true, false, cond}
-use mathlib.Core.Option.{Option, none, some}
+use mathlib.Core.Option.{some}
 use mathlib.Core.List.{List, [], ◌∷◌, ◌++◌, map}
 use native.Mathlib.Omega.{arith}
 use borrow.Author.Tests.{eqb-true, eqb-false}
 use lib.Dec.{eqb}
 use lib.ListN.{length, get_elem?, drop, replicate, length-append, length-map, length-drop, length-replicate}
 use Rattle.rules.specs.Text.{Text, trim, cut_at}
-use Rattle.rules.specs.Line.{SourceLine, lines_of, numbered, Instruction, Task, skipped, end, org, no_org, label_only, instruction, value, space, line_of, size}
+use Rattle.rules.specs.Line.{SourceLine, lines_of, numbered, Task, skipped, end, org, no_org, label_only, instruction, value, space, line_of, size}
 use Rattle.rules.specs.Label.{Table}
 use Rattle.rules.specs.Encode.{Content, literal, address, long_address, mnemonics, encode}
 use Rattle.rules.specs.Answer.{accepted}
-use Rattle.rules.specs.Assemble.{Put, Pass, Place, putting, first_pass_by, places_at, data_contents, code_contents_by, code_places_by, code_places, pass_at_by, pass_at}
+use Rattle.rules.specs.Assemble.{Put, Pass, Place, putting, first_pass_by, places_at, data_contents, code_contents_by, code_places_by, code_places, pass_at_by, pass_at, address_after}
 use Rattle.requests.specs.Sheet.{Class, skip, origin, bare_label, datum, emitting, wordless, ending, class_number, word_class, class_of, read_classes, classes, how_many, marked_in}
 use Rattle.promises.specs.Demand1.{line_count, IsLine, Reached}
 use Rattle.promises.specs.Explain.{PutsWords, PutsNone}
@@ -90,7 +90,7 @@ unfolding first_pass_by putting
 few a t [] = omega arith
 few a t (l ∷ ls) =
     pass_line size 0 a t l ls (Holds (Few (suc (length ls)))) (λ k. omega arith) (λ k o. tt) (λ t' k o v. tt)
-    (λ t' k o v. holds_then (Few (length ls)) (Few (suc (length ls))) (first_pass_by size 0 _ t' ls) (putting a (line_of l.text).task) (few _ t' ls) (λ p h. omega arith))
+    (λ t' k o v. holds_then (Few (length ls)) (Few (suc (length ls))) (first_pass_by size 0 _ t' ls) (putting a (line_of l.text).task) (few (address_after size 0 a (line_of l.text).task) t' ls) (λ p h. omega arith))
 
 as_many_lines : (n i : ℕ) (ls : List Text) → length (numbered n i ls) ≡ length ls
 unfolding numbered

@@ -9,7 +9,7 @@ use native.Mathlib.Omega.{arith}
 use borrow.Author.Tests.{eqb-true, eqb-false, eq-eqb, ne_eqb}
 use lib.Dec.{eqb}
 use Rattle.rules.specs.Text.{Text, bytes, upper, uppers, leading, trim, pieces, joined, Cut, uncut, around, in_front, first_cut, starts, contains, nth}
-use Rattle.rules.specs.Line.{Name, name, Instruction, Task, skipped, end, org, no_org, label_only, instruction, value, space, Line, line, number_in, instruction_of, data_size, data_value, sized, data_task, is_directive, data_pieces, nonempty, data_line, is_data, rest_line, after_label, label_line, org_task, trimmed_line, line_of}
+use Rattle.rules.specs.Line.{Name, name, Task, skipped, end, org, no_org, label_only, instruction, value, space, line, number_in, data_size, data_value, sized, data_task, is_directive, data_pieces, data_line, is_data, rest_line, after_label, label_line, org_task, trimmed_line, line_of}
 use Rattle.promises.specs.Nearest.{In, head, tail}
 use Rattle.promises.specs.Sheet.{Skips, is_empty, is_comment, Ends, Orgs, LastPart, without_colon, past_colon, Judged, HoldsData, a_constant, a_space, HoldsInstruction}
 use Rattle.promises.proofs.Compared.{clash}

@@ -1,16 +1,15 @@
 -- W-214: totals added up. The sum's laws, the bounds of a series' totals, and so what a series comes to, in parts and in any order.
 -- Assumes nothing.
-use Prim.Native.Nat.{ℕ, zero, suc, ◌+◌, ◌*◌, ◌^◌, ◌≤◌, ◌<◌, max}
+use Prim.Native.Nat.{ℕ, suc, ◌+◌, ◌*◌, ◌≤◌, ◌<◌, max}
 use mathlib.Core.Path.{◌≡◌, refl, sym, ap, ◌∙◌}
-use mathlib.Core.Bool.{Bool, true, false, ◌||◌}
+use mathlib.Core.Bool.{false}
 use mathlib.Core.List.{List, [], ◌∷◌, ◌++◌}
 use native.Mathlib.Omega.{arith}
 use native.Mathlib.Nat.{max_comm}
 use borrow.Author.Tests.{le-leb, lt-leb, le-ltb, lt-ltb}
-use lib.Dec.{leb, ltb}
 use lib.ListN.{length, length-append}
 use Rattle.rules.specs.Text.{Text}
-use Rattle.rules.specs.Answer.{Answer, accepted, refused, refuse_if, and_then}
+use Rattle.rules.specs.Answer.{accepted, refused, refuse_if, and_then}
 use Rattle.requests.specs.Sheet.{max_sources, max_total, Totals, totals, numbers_in, no_totals, source_sheet, plus, sources, any_over, add_source, add_sheet, add_all, plant_sheet}
 use Rattle.promises.specs.Nearest.{In, head, tail}
 use Rattle.promises.specs.Sheet.{Larger, the_first, the_second, Added, OneOfTotals, skipped_total, org_total, label_total, data_total, word_total, wordless_total, end_total, words_total, marked_total, labels_total, accepted_total, refused_total, Reordered, as_it_is, exchanged}
@@ -147,6 +146,7 @@ is_one t n (tail (tail (tail (tail (tail (tail (tail (tail (head e))))))))) = rw
 is_one t n (tail (tail (tail (tail (tail (tail (tail (tail (tail (head e)))))))))) = rw e labels_total
 is_one t n (tail (tail (tail (tail (tail (tail (tail (tail (tail (tail (head e))))))))))) = rw e accepted_total
 is_one t n (tail (tail (tail (tail (tail (tail (tail (tail (tail (tail (tail (head e)))))))))))) = rw e refused_total
+is_one t n (tail (tail (tail (tail (tail (tail (tail (tail (tail (tail (tail (tail i)))))))))))) = elim i [ ]
 
 pub one_is : (t : Totals) (n : ℕ) → OneOfTotals t n → In n (numbers_in t)
 unfolding numbers_in

@@ -39,7 +39,7 @@ record Put (x : Label) (l u : List Label) : Type 0 where
 
 put : (x : Label) (l : List Label) → Put x l (put_in_order x l)
 unfolding put_in_order
-put x [] = record { is = elim [ head e ↦ inl e ]; has = head refl; keeps = λ i. tail i; long = refl }
+put x [] = record { is = elim [ head e ↦ inl e | tail i ↦ elim i [ ] ]; has = head refl; keeps = λ i. tail i; long = refl }
 put x (m ∷ l) = go (ltb x.start m.start) (put x l)
   where
     go : (b : Bool) → Put x l (put_in_order x l) → Put x (m ∷ l) (cond b (x ∷ m ∷ l) (m ∷ put_in_order x l))
@@ -145,7 +145,7 @@ entry_in [] i e = clash cc
 entry_in (y ∷ l) zero {x} e = let f : x ≡ y = cc in head f
 entry_in (y ∷ l) (suc i) e = tail (entry_in l i e)
 
-pub in_entry : {l : List Label} {x : Label} → In x l → (i : ℕ) × IsEntry l i x
+pub in_entry : {x : Label} {l : List Label} → In x l → (i : ℕ) × IsEntry l i x
 in_entry (head e) = (zero, ap some (sym e))
 in_entry (tail i) = let h = in_entry i in (suc h.0, h.1)
 

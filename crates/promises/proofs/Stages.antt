@@ -96,6 +96,7 @@ none_checked_lem : (ns : List ℕ) (ss : List Stage) → none_checked ns ss ≡ 
 unfolding none_checked
 none_checked_lem (k ∷ ns) ss e n (here f) c = not_true (is_checked k ss) (and_both (not (is_checked k ss)) (none_checked ns ss) e).0 (is_checked_lem (rw f at c))
 none_checked_lem (k ∷ ns) ss e n (there i) c = none_checked_lem ns ss (and_both (not (is_checked k ss)) (none_checked ns ss) e).1 n i c
+none_checked_lem [] ss e n i c = elim i [ ]
 
 pub are_apart : (ss : List Stage) → apart ss ≡ true → Apart ss
 unfolding apart
@@ -153,6 +154,7 @@ still_checked ss' (after c) = after (still_checked ss' c)
 -- a stage of one number has that one
 sole : {m n : ℕ} → OneOf m (n ∷ []) → m ≡ n
 sole (here e) = e
+sole (there i) = elim i [ ]
 
 -- the first condition of a later stage
 first_later : (C : ℕ → ℕ → Type 0) {s : Stage} {ss : List Stage} {n p : ℕ} → FirstOf (s ∷ ss) C n p → FirstOf ss C n p
@@ -198,6 +200,7 @@ module _ (C : ℕ → ℕ → Type 0) {A : Type 0} where
   is_first (stop_line {n = m} {p = q} i c f g) n p (after k) h = absurd (h.1 m q (by_stage i k) c)
   is_first (pass_lines d k) n p (at_once j) h = absurd (d n p j h.0)
   is_first (pass_lines d k) n p (after j) h = is_first k n p j (first_later C h)
+  is_first done n p i h = elim i [ ]
 
   -- an accepted answer: no condition of its stages holds
   none_checked_holds : {ss : List Stage} {r : Answer A} (a : A) → r ≡ accepted a → Runs C ss r → (m q : ℕ) → Checked m ss → ¬ C m q
@@ -207,6 +210,7 @@ module _ (C : ℕ → ℕ → Type 0) {A : Type 0} where
   none_checked_holds a f (stop_line i c h g) m q k v = clash cc
   none_checked_holds a f (pass_lines h k) m q (at_once i) v = h m q i v
   none_checked_holds a f (pass_lines h k) m q (after c) v = none_checked_holds a f k m q c v
+  none_checked_holds a f done m q k v = elim k [ ]
 
   -- so an answer whose conditions all have a number in its stages refuses exactly by them
   module _ (ss : List Stage) (d : Apart ss) (known : (n p : ℕ) → C n p → Checked n ss) where

@@ -22,6 +22,7 @@ use Rattle.promises.proofs.Sorted.{are_apart, Sorted, sorted, once, entry_in, as
 -- of a line's names, of which there are at most two, one starts before the other: they are all, in that order
 only : {m x : Name} → In m (x ∷ []) → m ≡ x
 only (head e) = e
+only (tail i) = elim i [ ]
 
 both_names : {l : Text} {e b : ℕ} {m m' : Name} (ms : List Name) → Rising l e b ms → length ms ≤ 2 → In m ms → In m' ms → m.start < m'.start → ms ≡ m ∷ m' ∷ []
 both_names {m = m} {m' = m'} (x ∷ []) r k i j u = let v = rw (only i, only j) at u in absurd (omega arith)
@@ -33,6 +34,7 @@ both_names {m = m} {m' = m'} (x ∷ y ∷ []) (next h a (next g c r)) k i j u = 
     go (tail i) (head f) = let v = rw (only i, f) at u in absurd (omega arith)
     go (tail i) (tail j) = let v = rw (only i, only j) at u in absurd (omega arith)
 both_names (x ∷ y ∷ z ∷ ms) r k i j u = absurd (omega arith)
+both_names [] r k i j u = elim i [ ]
 
 module _ (base : ℕ) (s : Text) where
   -- records start in the order of their lines and steps

@@ -12,7 +12,7 @@ use Rattle.rules.specs.Text.{Text, cut_at}
 use Rattle.rules.specs.Line.{SourceLine, lines_of, Name, line_of, size}
 use Rattle.rules.specs.Label.{Label, Table, find, recorded, has_room, label_of, record_all}
 use Rattle.rules.specs.Answer.{Answer, accepted, refused, and_then}
-use Rattle.rules.specs.Assemble.{Pass, putting, first_pass_by, pass_at_by, pass_at}
+use Rattle.rules.specs.Assemble.{Pass, putting, first_pass_by, pass_at_by, pass_at, address_after}
 use Rattle.rules.proofs.Standing.{at_within}
 use Rattle.requests.specs.Symbols.{in_order, symbols}
 use Rattle.promises.specs.Demand1.{next_address, Reached, start, further, PassCondition, base_over, address_over}
@@ -47,7 +47,7 @@ unfolding first_pass_by putting
 few_labels base a t [] h = h
 few_labels base a t (l ∷ ls) h =
     pass_line size base a t l ls (Holds Few) (λ k. h) (λ k o. tt) (λ t' k o v. tt)
-    (λ t' k o v. holds_then Few Few (first_pass_by size base _ t' ls) (putting a (line_of l.text).task) (few_labels base _ t' ls (room_all l a _ t t' h o)) (λ p q. q))
+    (λ t' k o v. holds_then Few Few (first_pass_by size base _ t' ls) (putting a (line_of l.text).task) (few_labels base (address_after size base a (line_of l.text).task) t' ls (room_all l a _ t t' h o)) (λ p q. q))
 
 -- ---- where they lie
 index_below : (ls : List Text) (j : ℕ) (l : Text) → get_elem? ls j ≡ some l → j < length ls

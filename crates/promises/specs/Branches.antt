@@ -1,6 +1,6 @@
 -- W-210, "Our own branch names": when a table is accepted, with which names, and which command is blamed with 16 or 17, said of the bytes as
 -- rows written one after another and apart from how they are read; and how many of a table's bytes count. Assumes nothing.
-use Rattle.std.specs.Prelude.{ℕ, ◌+◌, ◌*◌, ◌≤◌, ◌<◌, ◌≡◌, ◌↔◌, ◌≢◌, List, [], ◌∷◌, ◌++◌, length, take, replicate}
+use Rattle.std.specs.Prelude.{ℕ, ◌*◌, ◌≤◌, ◌<◌, ◌≡◌, ◌↔◌, ◌≢◌, List, [], ◌∷◌, ◌++◌, length, take, replicate}
 use Rattle.rules.specs.Text.{Text}
 use Rattle.rules.specs.Encode.{branch, Mnemonic, mnemonic, other_mnemonics}
 use Rattle.rules.specs.Answer.{accepted}

@@ -1,6 +1,6 @@
--- The Rust original, src/assembler.rs, function by function under its own names, a hyphen for each `_`. Callees stand first, so
--- the file's order is the Rust's by groups: parsers, encoders, instructions, `assemble`. `self.labels` is a parameter, `println!`
--- and what is marked `#[allow(dead_code)]` are left out. Assumes nothing.
+-- The Rust original, src/assembler.rs, function by function under its own names, `rust_` in front where another definition
+-- has the name. Callees stand first, so the file's order is the Rust's by groups: parsers, encoders, instructions, `assemble`.
+-- `self.labels` is a parameter, `println!` and what is marked `#[allow(dead_code)]` are left out. Assumes nothing.
 use Rattle.std.specs.Prelude.{ℕ, ◌-◌, Bool, false, not, ◌&&◌, ◌||◌, cond, length, drop, leb, ltb, eqb, ℤ, pos, negsuc}
 use Rattle.std.proofs.Math.Option
 use Rattle.std.proofs.Math.Option.{Option, none, some}

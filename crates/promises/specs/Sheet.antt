@@ -1,6 +1,6 @@
 -- W-214, "One sheet for a plant": of which class a line is, by its text and by the list; what a source adds to the totals; refusals 20 and
 -- 21; that the classes add up to the lines, and the sheets of a series' parts to that of the series, in any order. Assumes nothing.
-use Rattle.std.specs.Prelude.{ℕ, zero, suc, ◌+◌, ◌^◌, ◌<◌, ◌≤◌, ◌≡◌, ◌≢◌, true, List, [], ◌∷◌, ◌++◌, length}
+use Rattle.std.specs.Prelude.{ℕ, suc, ◌+◌, ◌^◌, ◌<◌, ◌≤◌, ◌≡◌, ◌≢◌, true, List, [], ◌∷◌, ◌++◌, length}
 use Rattle.std.proofs.Math.Option.{some}
 use Rattle.std.proofs.Math.ListN.{get_elem?}
 use Rattle.rules.specs.Text.{Text, bytes, uppers, trim, starts, contains}

@@ -1,6 +1,6 @@
 -- W-211, "Sums in DC": which texts are sums, by a grammar; what a sum is worth, by arithmetic in whole numbers; and that a text's reading
 -- is what these two say, apart from the reader and its steps; and examples. Assumes nothing.
-use Rattle.std.specs.Prelude.{ℕ, suc, ◌+◌, ◌^◌, ◌<◌, ◌≤◌, max, ◌≡◌, ◌≢◌, true, false, List, [], ◌∷◌, ◌++◌, ℤ, pos, ◌+ℤ◌, ◌-ℤ◌, ◌*ℤ◌}
+use Rattle.std.specs.Prelude.{ℕ, suc, ◌^◌, ◌<◌, ◌≤◌, max, ◌≡◌, ◌≢◌, true, false, List, [], ◌∷◌, ◌++◌, ℤ, pos, ◌+ℤ◌, ◌-ℤ◌, ◌*ℤ◌}
 use Rattle.std.proofs.Math.Option.{Option, none, some}
 use Rattle.rules.specs.Text.{Text, bytes, starts}
 use Rattle.rules.specs.Number.{no_digits, bad_digit, out_of_range, Reading, read, failed}

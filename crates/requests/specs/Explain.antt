@@ -1,5 +1,5 @@
 -- W-205, "The line with no word": the verdict on each line that is read, "word emitted" or the first of 02's seven reasons, by the
--- table of forms and without the encoder. The mnemonics are those in use, `..By names`; 01's have the plain names. Assumes nothing.
+-- table of forms and without the encoder. The mnemonics are those in use, `.._by names`; 01's have the plain names. Assumes nothing.
 use Rattle.std.specs.Prelude.{ℕ, zero, suc, Bool, true, false, ◌&&◌, ◌||◌, cond, List, [], ◌∷◌, map, ◌++◌, ltb, length}
 use Rattle.std.proofs.Math.Option.{Option, none, some}
 use Rattle.std.proofs.Math.ListN.{get_elem?}

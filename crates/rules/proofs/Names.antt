@@ -18,7 +18,7 @@ pub data Rising (l : Text) (e : ℕ) : ℕ → List Name → Type 0 where
 
 module _ (l : Text) where
   -- more room at the end, and a name there
-  wider : {b d e : ℕ} {ms : List Name} → d ≤ e → Rising l d b ms → Rising l e b ms
+  wider : {d b e : ℕ} {ms : List Name} → d ≤ e → Rising l d b ms → Rising l e b ms
   wider h (over {b} k) = over {b = b} (omega arith)
   wider h (next k a r) = next k a (wider h r)
 

@@ -1,5 +1,5 @@
 -- The two passes, refusals 1 to 7, the list, and the lent slices after a call, by paper 01. The passes are said over a size and an
--- encoder, `..By`; 01's own size and words have the plain names. A call goes in stages: `checks`, `pass_at`, `encoded`, `room`. Assumes nothing.
+-- encoder, `.._by`; 01's own size and words have the plain names. A call goes in stages: `checks`, `pass_at`, `encoded`, `room`. Assumes nothing.
 use Rattle.std.specs.Prelude.{ℕ, suc, ◌+◌, ◌/◌, ◌%◌, Bool, true, false, ◌||◌, length, drop, leb, ltb}
 use Rattle.std.proofs.Math.Option.{Option, none, some, get_or}
 use mathlib.Core.List.{List, [], ◌∷◌, map, flat_map, ◌++◌}

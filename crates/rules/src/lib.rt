@@ -1,3 +1,5 @@
+#![tactic(auto)]
+
 // Paper 01's limits, for the code. What they mean stands in specs/, which is all of paper 01 as definitions.
 
 // The longest source, in bytes.
