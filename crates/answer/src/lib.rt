@@ -1,9 +1,11 @@
+#![tactic(auto)]
+
 // What a call answers, the count or one of paper 01's refusals; and whether the slices lent to it are too short.
 ghost use Rattle.std.specs.Prelude.{◌≡◌};
 ghost use Rattle.rules.specs.Assemble.{slices, short};
 ghost use Rattle.answer.specs.Answer.{answer_number, answer_place};
 
-#[derive(Drop)]
+#[derive(Clone, Copy)]
 pub enum Answer {
     // Accepted: how many places the list has.
     Accepted(usize),

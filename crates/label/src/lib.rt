@@ -1,3 +1,5 @@
+#![tactic(auto)]
+
 // The labels recorded: a table of rows (start, length, address, row before) into the source, written and searched.
 // A name is sought only among the rows of its hash: from the hash's head, at the table's front, to the last of these
 // rows, and from each row to the one before. Rows count from 1 there; 0 is none. A table of zeros has no labels.
@@ -22,7 +24,7 @@ pub const SMALL_LABELS: usize = 64;
 // Its cells.
 pub const SMALL: usize = HEADS + 4 * SMALL_LABELS;
 
-#[derive(Drop)]
+#[derive(Clone, Copy)]
 pub enum Address {
     At(u32),
     Nothing,
@@ -92,7 +94,7 @@ pub fn find_label(source: &[u8], table: &[u32], count: usize, name: &[u8]) -> Ad
 }
 
 // A row's numbers: where the label's name starts in the source, how long it is, and the label's address.
-#[derive(Drop)]
+#[derive(Clone, Copy)]
 pub struct Row {
     pub start: usize,
     pub length: usize,
@@ -133,7 +135,7 @@ fn link_row(table: &mut [u32], k: usize, hash: usize)
     table[hash] = (k + 1) as u32;
 }
 
-#[derive(Drop)]
+#[derive(Clone, Copy)]
 pub enum Recorded {
     // How many labels the table now has.
     Count(usize),

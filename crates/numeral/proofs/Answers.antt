@@ -1,8 +1,6 @@
 -- For callers: from the answer that the code has to paper 01's number. Assumes nothing.
 use Rattle.std.proofs.Common.{◌≡◌, ℕ, [], ◌∷◌, ℤ, sym, refl, ◌∙◌}
 use mathlib.Core.Option.{Option, none, some, bind}
-use types.Run.{OneOf, miss}
-use denote.Enum.Declared.{tag_of}
 use Rattle.rules.specs.Text.{Text}
 use Rattle.rules.specs.Number.{Reading, read, failed, signed_reading, reading16, reading8, immediate, value_of, number16, signed, imm8, imm16}
 use Rattle.numeral.specs.Number.{number_of, signed_of, immediate_of, signed_immediate_of, reach_of}
@@ -16,8 +14,6 @@ use Rattle.numeral.specs.declared.signed.Signed.TheVariants as S
 use Rattle.numeral.specs.declared.signed.SignedImmediate.{SignedImmediate}
 use Rattle.numeral.specs.declared.signed.SignedImmediate.TheVariants as J
 use Rattle.numeral.specs.declared.signed.Reach.TheVariants as R
-use Rattle.numeral.specs.contracts.unsigned.Immediate.{the_type as immediate_type}
-use Rattle.numeral.specs.contracts.signed.SignedImmediate.{the_type as signed_immediate_type}
 
 -- ---- a number of 16 bits
 module _ (s : Text) {x : Number} (e : x ≡ number_of (reading16 s)) where
@@ -66,13 +62,13 @@ module _ (s : Text) {x : Immediate} (e : x ≡ immediate_of (immediate reading16
       go (some (read w)) q = cc
       go (some (failed y)) q = cc
 
-  pub imm16_none : OneOf (1 ∷ 2 ∷ []) (tag_of immediate_type x) → imm16 s ≡ none
+  pub imm16_none : ((v : ℕ) → x ≡ I.Value v → ⊥) → imm16 s ≡ none
   unfolding imm16 bind value_of
-  imm16_none h = go (immediate reading16 s) (rw e at h)
+  imm16_none h = go (immediate reading16 s) (λ v p. h v (e ∙ p))
     where
-      go : (o : Option (Reading ℕ)) → OneOf (1 ∷ 2 ∷ []) (tag_of immediate_type (immediate_of o)) → bind o value_of ≡ none
+      go : (o : Option (Reading ℕ)) → ((v : ℕ) → immediate_of o ≡ I.Value v → ⊥) → bind o value_of ≡ none
       go none q = refl
-      go (some (read w)) q = absurd (miss (1 ∷ 2 ∷ []) 0 tt q)
+      go (some (read w)) q = absurd (q w refl)
       go (some (failed y)) q = refl
 
 module _ (s : Text) {x : SignedImmediate} (e : x ≡ signed_immediate_of (immediate reading8 s)) where
@@ -85,13 +81,13 @@ module _ (s : Text) {x : SignedImmediate} (e : x ≡ signed_immediate_of (immedi
       go (some (read y)) q = cc
       go (some (failed y)) q = cc
 
-  pub imm8_none : OneOf (1 ∷ 2 ∷ []) (tag_of signed_immediate_type x) → imm8 s ≡ none
+  pub imm8_none : ((z : ℤ) → x ≡ J.Value z → ⊥) → imm8 s ≡ none
   unfolding imm8 bind value_of
-  imm8_none h = go (immediate reading8 s) (rw e at h)
+  imm8_none h = go (immediate reading8 s) (λ z p. h z (e ∙ p))
     where
-      go : (o : Option (Reading ℤ)) → OneOf (1 ∷ 2 ∷ []) (tag_of signed_immediate_type (signed_immediate_of o)) → bind o value_of ≡ none
+      go : (o : Option (Reading ℤ)) → ((z : ℤ) → signed_immediate_of o ≡ J.Value z → ⊥) → bind o value_of ≡ none
       go none q = refl
-      go (some (read y)) q = absurd (miss (1 ∷ 2 ∷ []) 0 tt q)
+      go (some (read y)) q = absurd (q y refl)
       go (some (failed y)) q = refl
 
 -- ---- a displacement

@@ -8,14 +8,14 @@ use crate::Failure;
 use crate::unsigned::{Number, prefix_length, read_digits, read_number};
 
 // A signed number, which its reader's bound bounds, or what failed.
-#[derive(Drop)]
+#[derive(Clone, Copy)]
 pub enum Signed {
     Value(i32),
     Failed(Failure),
 }
 
 // The same for an operand; without `#` it is no immediate, and nothing failed.
-#[derive(Drop)]
+#[derive(Clone, Copy)]
 pub enum SignedImmediate {
     Value(i32),
     Failed(Failure),
@@ -23,7 +23,7 @@ pub enum SignedImmediate {
 }
 
 // The displacement of a label, where a branch reaches it.
-#[derive(Drop)]
+#[derive(Clone, Copy)]
 pub enum Reach {
     Value(i32),
     Outside,

@@ -8,14 +8,14 @@ use crate::Failure;
 use crate::digit::digit_value;
 
 // A number, which its reader's bound bounds, or what failed.
-#[derive(Drop)]
+#[derive(Clone, Copy)]
 pub enum Number {
     Value(u32),
     Failed(Failure),
 }
 
 // The same for an operand; without `#` it is no immediate, and nothing failed.
-#[derive(Drop)]
+#[derive(Clone, Copy)]
 pub enum Immediate {
     Value(u32),
     Failed(Failure),

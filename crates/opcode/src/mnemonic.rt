@@ -5,7 +5,7 @@ ghost use Rattle.rules.specs.Encode.{branches, mnemonics, operation_in};
 ghost use Rattle.opcode.specs.Operation.{operation_of, those, of_length, other_three};
 
 // What a mnemonic names; a branch has its condition.
-#[derive(Drop)]
+#[derive(Clone, Copy)]
 pub enum Operation {
     Moveq,
     Move,

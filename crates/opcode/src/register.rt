@@ -9,7 +9,7 @@ ghost use Rattle.opcode.specs.Register.{register_of};
 use numeral::digit::digit_value;
 
 // A register by its number, or something else.
-#[derive(Drop)]
+#[derive(Clone, Copy)]
 pub enum Register {
     At(u16),
     Other,

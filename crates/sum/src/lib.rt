@@ -1,3 +1,5 @@
+#![tactic(auto)]
+
 // Sums in square brackets (W-211): the readers of sums, products and atoms, which call each other, and what a text says as a number of DC.
 ghost use Rattle.std.specs.Prelude.{◌≡◌, ℕ, ◌≤◌, ◌+◌, ◌^◌, length, drop};
 ghost use Rattle.rules.specs.Number.{ranged, below};
@@ -14,7 +16,7 @@ use numeral::unsigned::Number;
 const MAX_NESTING: usize = 16;
 
 // The worth of what was read: a value, or that a number or a step in it is out of range.
-#[derive(Drop)]
+#[derive(Clone, Copy)]
 pub enum Worth {
     Value(u32),
     Outside,
@@ -22,7 +24,7 @@ pub enum Worth {
 
 // What was read from a place on: its worth and where it ends, or that it is malformed. What is out of range is read on, since a bad
 // digit behind it comes first.
-#[derive(Drop)]
+#[derive(Clone, Copy)]
 pub enum Front {
     Malformed,
     Read(Worth, usize),

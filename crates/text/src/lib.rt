@@ -1,3 +1,5 @@
+#![tactic(auto)]
+
 // Bytes of text by paper 01: blanks and trimming, comparing, finding a byte, blank-separated pieces.
 
 ghost use Rattle.std.specs.Prelude.{◌≡◌, ◌+◌, ◌≤◌, length, drop};
@@ -152,7 +154,7 @@ pub fn contains_upper(t: &[u8], p: &[u8]) -> bool
 // ---- The first place of a byte.
 
 // Where a byte was found.
-#[derive(Drop)]
+#[derive(Clone, Copy)]
 pub enum Found {
     At(usize),
     Nothing,
@@ -183,7 +185,7 @@ pub fn find_byte(t: &[u8], b: u8) -> Found
 // ---- Blank-separated pieces, one after the other.
 
 // A part of a text, from `start` to before `end`.
-#[derive(Drop)]
+#[derive(Clone, Copy)]
 pub struct Span {
     pub start: usize,
     pub end: usize,
