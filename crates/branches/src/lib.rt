@@ -1,3 +1,5 @@
+#![tactic(auto)]
+
 // Our own branch names, paper 02's W-210: a lent table is checked whole, and a mnemonic is looked up in its bytes, of which nothing is copied.
 ghost use Rattle.std.specs.Prelude.{◌≡◌, ◌&&◌, ◌≤◌, leb, length};
 ghost use Rattle.rules.specs.Text.{uppers, same};

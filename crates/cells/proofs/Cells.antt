@@ -1,31 +1,24 @@
 -- Cells written and read again: a line comes back as it was, and the other lines stay. Assumes nothing.
 use mathlib.Core.Path.{◌≡◌, refl, ◌∙◌}
-use mathlib.Core.List.{List, [], ◌∷◌}
+use mathlib.Core.List.{List}
 use Prim.Native.Nat.{ℕ, suc, ◌+◌, ◌*◌, ◌/◌, ◌%◌, ◌≤◌, ◌<◌}
 use native.Mathlib.Omega.{arith}
-use types.Run.{OneOf, miss}
-use denote.Enum.Declared.{tag_of}
 use lib.ListN.{length, set, drop, get_or, length-set}
 use lib.Seq.{get_or-set_same, get_or-set_other, drop-set-lt}
 use Rattle.rules.specs.Limits.{max_source}
 use Rattle.text.specs.declared.Span.{Span}
 use Rattle.line.specs.declared.Task.{Task}
 use Rattle.line.specs.declared.Task.TheVariants.{Skipped, End, Org, NoOrg, LabelOnly, Instruction, Value, Space}
-use Rattle.line.specs.contracts.Task.{the_type}
 use Rattle.cells.specs.Cells.{task_after, kind_of, head_cell, tail_cell, task_in, kept_by, kept_at, with_line, InCells, PlaceFits, SizeIs, Fits}
 use Rattle.cells.specs.declared.Kept.{Kept}
 
 -- ---- for the functions
 
--- the tags of all tasks but ORG
-abbrev not_org : List ℕ
-not_org = 0 ∷ 1 ∷ 3 ∷ 4 ∷ 5 ∷ 6 ∷ 7 ∷ []
-
--- such a line goes on by its size
-pub goes_on : (base a : ℕ) (t : Task) (n : ℕ) → OneOf not_org (tag_of the_type t) → a + n ≡ task_after base a t n
+-- a line that is no ORG goes on by its size
+pub goes_on : (base a : ℕ) (t : Task) (n : ℕ) → ((v : ℕ) → t ≡ Org v → ⊥) → a + n ≡ task_after base a t n
 goes_on base a Skipped n h = refl
 goes_on base a End n h = refl
-goes_on base a (Org v) n h = absurd (miss not_org 2 tt h)
+goes_on base a (Org v) n h = absurd (h v refl)
 goes_on base a NoOrg n h = refl
 goes_on base a LabelOnly n h = refl
 goes_on base a (Instruction s) n h = refl

@@ -1,5 +1,5 @@
 -- What lines ask, by the lines before them; one line more kept; and one line after another. Assumes nothing.
-use mathlib.Core.Path.{◌≡◌, refl, ap, ◌∙◌}
+use mathlib.Core.Path.{◌≡◌, refl, ◌∙◌}
 use mathlib.Core.Bool.{Bool, true, false}
 use mathlib.Core.List.{List, [], ◌∷◌, ◌++◌}
 use Prim.Native.Nat.{ℕ, zero, suc, ◌≤◌, ◌<◌}
@@ -74,6 +74,7 @@ module _ (source : Text) (base : ℕ) (cells : List ℕ) where
 
   pub put_at_lem : (n k : ℕ) (d : Put) → k < n → get_or (puts_of source base cells n) k d ≡ put_at source base cells k
   unfolding puts_of
+  put_at_lem zero k d h = elim h [ ]
   put_at_lem (suc n) k d h = go (ltb k n) refl (put_at_lem n k d)
     where
       go : (y : Bool) → ltb k n ≡ y → (k < n → get_or (puts_of source base cells n) k d ≡ put_at source base cells k) → get_or (puts_of source base cells n ++ (put_at source base cells n ∷ [])) k d ≡ put_at source base cells k

@@ -1,3 +1,5 @@
+#![tactic(auto)]
+
 // The lines kept between the passes: two cells a line. The first has the line's size and the kind of its task; the second a
 // number, or where the instruction's text stands. An instruction itself is not kept: its text is read again.
 ghost use Rattle.std.specs.Prelude.{◌≡◌};
@@ -7,7 +9,7 @@ use line::Task;
 use text::Span;
 
 // A line as it is kept: its task, and by how much it advances the address.
-#[derive(Drop)]
+#[derive(Clone, Copy)]
 pub struct Kept {
     pub task: Task,
     pub size: u32,

@@ -1,10 +1,10 @@
 -- Laws of parts of a list, and of texts put over its places. Assumes nothing.
 use mathlib.Core.Path.{◌≡◌, refl, sym, ap, ◌∙◌}
-use mathlib.Core.List.{[], ◌∷◌, ◌++◌, append_assoc, append-nil}
-use Prim.Native.Nat.{ℕ, zero, suc, ◌+◌, ◌-◌, ◌≤◌, ◌<◌}
+use mathlib.Core.List.{[], ◌∷◌, ◌++◌}
+use Prim.Native.Nat.{ℕ, zero, suc, ◌+◌, ◌-◌, ◌≤◌}
 use native.Mathlib.Omega.{arith}
-use lib.ListN.{length, take, drop, set, length-append, length-drop, take-append-drop}
-use lib.Seq.{take-nil, take-take, drop-drop, take_at, drop_at, length-take-le, set_split, append_snoc, slice}
+use lib.ListN.{length, take, drop, length-append}
+use lib.Seq.{take-nil, take-take, take_at, drop_at, slice}
 use Rattle.rules.specs.Text.{Text}
 use Rattle.rules.specs.Assemble.{over}
 use Rattle.text.specs.Spans.{part, over_from}

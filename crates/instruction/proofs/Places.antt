@@ -93,13 +93,13 @@ summary_of (more x nowhere) = record { count = refl; first = λ h. x; second = �
 summary_of (more x (more {s = u} {p = q} y l)) =
     record { count = omega (arith, standing_length l); first = λ h. x; second = λ h. y; last = λ h. standing_last u q y l }
 
-pub operands_of : (t : Text) (o : Operands) → o ≡ operands_at t → OperandsOf t o (operands_in t)
+pub operands_of_lem : (t : Text) (o : Operands) → o ≡ operands_at t → OperandsOf t o (operands_in t)
 unfolding operands_at operands_in cut_at
-operands_of t o e = rw e (summary_of (standing (laid t 0 t refl)))
+operands_of_lem t o e = rw e (summary_of (standing (laid t 0 t refl)))
 
 pub operands_within : (t : Text) (o : Operands) → o ≡ operands_at t → 2 ≤ o.count → PlacesIn t o
 operands_within t o e h =
-    let x : OperandsOf t o (operands_in t) = operands_of t o e in
+    let x : OperandsOf t o (operands_in t) = operands_of_lem t o e in
     record {
       first = ((x.first (omega arith)).some, (x.first (omega arith)).within);
       second = ((x.second (omega arith)).some, (x.second (omega arith)).within);

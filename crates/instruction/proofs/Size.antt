@@ -5,8 +5,6 @@ use mathlib.Core.Option.{Option, none, some}
 use mathlib.Core.List.{List, [], ◌∷◌}
 use Prim.Native.Nat.{ℕ, ◌-◌, ◌≤◌, ◌<◌}
 use native.Mathlib.Omega.{arith}
-use types.Run.{OneOf, miss}
-use denote.Enum.Declared.{tag_of}
 use borrow.Author.Tests.{ne_eqb, not-true}
 use lib.Dec.{eqb}
 use lib.ListN.{length, take, get_or, drop}
@@ -25,9 +23,8 @@ use Rattle.instruction.specs.declared.Suffix.TheVariants.{None, Empty, Long, Wor
 use Rattle.instruction.specs.declared.SizeRule.{SizeRule}
 use Rattle.instruction.specs.declared.SizeRule.TheVariants.{Fixed, Immediate, Move}
 use Rattle.instruction.specs.declared.Head.{Head}
-use Rattle.instruction.specs.contracts.Suffix.{the_type}
 use Rattle.instruction.proofs.FirstPiece.{piece_filled, first_here, first_later, head_of_lem}
-use Rattle.instruction.proofs.Places.{operands_of}
+use Rattle.instruction.proofs.Places.{operands_of_lem}
 use Rattle.instruction.proofs.Initials.{size_standing}
 
 -- ---- paper 01's test, mnemonic by mnemonic
@@ -123,17 +120,13 @@ module _ (t : Text) (h : length t ≡ 0 → ⊥) where
 
 -- ---- the returns of `sized`
 
--- the tags of all suffixes but Long
-abbrev not_long : List ℕ
-not_long = 0 ∷ 1 ∷ 3 ∷ 4 ∷ []
-
-not_long_lem : (x : Suffix) → OneOf not_long (tag_of the_type x) → says_long x ≡ false
+not_long : (x : Suffix) → (x ≡ Long → ⊥) → says_long x ≡ false
 unfolding says_long
-not_long_lem None h = refl
-not_long_lem Empty h = refl
-not_long_lem Long h = absurd (miss not_long 2 tt h)
-not_long_lem Word h = refl
-not_long_lem Other h = refl
+not_long None h = refl
+not_long Empty h = refl
+not_long Long h = absurd (h refl)
+not_long Word h = refl
+not_long Other h = refl
 
 module _ (m : Text) (x : Suffix) where
   pub sized_muls : same m (bytes "MULS") ≡ true → Immediate ≡ sized_by m x
@@ -141,9 +134,9 @@ module _ (m : Text) (x : Suffix) where
   sized_muls a = rw a
 
   module _ (a : same m (bytes "MULS") ≡ false) where
-    pub sized_short : OneOf not_long (tag_of the_type x) → Fixed ≡ sized_by m x
+    pub sized_short : (x ≡ Long → ⊥) → Fixed ≡ sized_by m x
     unfolding sized_by
-    sized_short b = rw (a, not_long_lem x b)
+    sized_short b = rw (a, not_long x b)
 
     module _ (b : x ≡ Long) where
       pub sized_cmp : same m (bytes "CMP") ≡ true → Immediate ≡ sized_by m x
@@ -183,7 +176,7 @@ module _ (k : SizeRule) (s t : Text) where
 module _ (k : SizeRule) (t : Text) (o : Operands) (e : o ≡ operands_at t) where
   pub size_few : o.count < 2 → 2 ≡ size_by k (operands_in t)
   unfolding size_by
-  size_few h = go (operands_in t) (operands_of t o e).count
+  size_few h = go (operands_in t) (operands_of_lem t o e).count
     where
       go : (ps : List Text) → o.count ≡ length ps → 2 ≡ size_by k ps
       go [] n = refl
@@ -193,7 +186,7 @@ module _ (k : SizeRule) (t : Text) (o : Operands) (e : o ≡ operands_at t) wher
   module _ (h : 2 ≤ o.count) where
     size_many : cond (is_long_by k (span_text t o.first) (span_text t o.last)) 4 2 ≡ size_by k (operands_in t)
     unfolding size_by first_text other_texts last_text
-    size_many = go (operands_in t) (operands_of t o e).count ((operands_of t o e).first (omega arith)).text ((operands_of t o e).last (omega arith)).text
+    size_many = go (operands_in t) (operands_of_lem t o e).count ((operands_of_lem t o e).first (omega arith)).text ((operands_of_lem t o e).last (omega arith)).text
       where
         go : (ps : List Text) → o.count ≡ length ps → span_text t o.first ≡ first_text ps → span_text t o.last ≡ last_text (first_text ps) (other_texts ps)
             → cond (is_long_by k (span_text t o.first) (span_text t o.last)) 4 2 ≡ size_by k ps

@@ -1,5 +1,5 @@
 -- Pieces joined by one space, as they are written one after the other. Assumes nothing.
-use Rattle.std.specs.Prelude.{ℕ, zero, suc, ◌+◌, [], ◌∷◌, ◌++◌}
+use Rattle.std.specs.Prelude.{ℕ, zero, suc, [], ◌∷◌, ◌++◌}
 use Rattle.rules.specs.Text.{Text}
 
 -- the space after n bytes: none where nothing is written yet

@@ -1,3 +1,5 @@
+#![tactic(auto)]
+
 // What an instruction's text says: its mnemonic and suffix, its operands, its size.
 // The operands are those of the joined tail: the text itself where it stands joined already, else a normalised copy.
 // The size is the same without: it goes by the first bytes of operands.
@@ -19,7 +21,7 @@ use text::Span;
 // ---- The first piece: mnemonic and suffix.
 
 // What stands after the mnemonic's dot, up to the next dot.
-#[derive(Drop)]
+#[derive(Clone, Copy)]
 pub enum Suffix {
     // There is no dot.
     None,
@@ -33,7 +35,7 @@ pub enum Suffix {
 }
 
 // The mnemonic's place, and where the tail starts; the suffix stands between them.
-#[derive(Drop)]
+#[derive(Clone, Copy)]
 pub struct Head {
     pub start: usize,
     pub end: usize,
@@ -233,7 +235,7 @@ pub fn is_joined(t: &[u8], at: usize) -> bool
 // ---- The operands of a joined tail.
 
 // How many, and where the first, the second and the last stand.
-#[derive(Drop)]
+#[derive(Clone, Copy)]
 pub struct Operands {
     pub count: usize,
     pub first: Span,
@@ -343,7 +345,7 @@ fn is_plain(t: &[u8]) -> bool
 }
 
 // Which operands decide the size.
-#[derive(Drop)]
+#[derive(Clone, Copy)]
 enum SizeRule {
     // 2 whatever the operands.
     Fixed,

@@ -130,14 +130,14 @@ module _ {source : Text} {a e k n : ℕ} (x : Labelled source a e k n) where
 
 module _ {source : Text} {a e : ℕ} {s : Split} (g : SplitLabelGives source a e s) where
   pub says_label : s.start ≡ s.end → Says source (label_line a (part source a e)) (record { names = s.names; task = LabelOnly })
-  says_label c = says_same (g.done c) (record { says = refl; names_in = more_names g.names-in; task_in = Prim.tt })
+  says_label c = says_same (g.done c) (record { says = refl; names_in = more_names g.names_in; task_in = Prim.tt })
 
   pub says_labelled : {l : Line} → (s.start ≡ s.end → ⊥) → Says source (rest_line (names_at source s.names) s.start (part source s.start s.end)) l → Says source (label_line a (part source a e)) l
-  says_labelled c r = says_same (g.on (omega (arith, g.rest-in.placed))) r
+  says_labelled c r = says_same (g.on (omega (arith, g.rest_in.placed))) r
 
   -- DC. or DS. in the rest is in the text
   pub rest_told : {y : Bool} → (is_data (part source a e) ≡ true → y ≡ true) → is_data (part source s.start s.end) ≡ true → y ≡ true
-  rest_told q d = q (data_part source a e s.start s.end g.from-start g.to-end d)
+  rest_told q d = q (data_part source a e s.start s.end g.from_start g.to_end d)
 
 -- ---- steps 1 to 3
 module _ {source : Text} {at : ℕ} {o : Outline} (g : OutlineLineGives source at o) (h : at ≤ length source) where

@@ -1,3 +1,5 @@
+#![tactic(auto)]
+
 // What a line says: paper 01's six steps, answered by value: the labels that it records and its task, with places in the source.
 ghost use Rattle.std.specs.Prelude.{◌≡◌, true, ◌||◌, ◌≤◌, length, take, drop};
 ghost use Rattle.rules.specs.Text.{Text, uppers, leading, trim, pieces, uncut, first_cut, contains, nth};
@@ -14,7 +16,7 @@ use outline::Outline;
 use text::Span;
 
 // The labels of a line: as many of the two as the count says.
-#[derive(Drop)]
+#[derive(Clone, Copy)]
 pub struct Names {
     pub count: usize,
     pub first: Span,
@@ -22,7 +24,7 @@ pub struct Names {
 }
 
 // What a line asks of the passes.
-#[derive(Drop)]
+#[derive(Clone, Copy)]
 pub enum Task {
     // Nothing: it is empty or a comment.
     Skipped,
@@ -43,7 +45,7 @@ pub enum Task {
 }
 
 // A line: its labels and its task.
-#[derive(Drop)]
+#[derive(Clone, Copy)]
 pub struct Line {
     pub names: Names,
     pub task: Task,
@@ -201,7 +203,7 @@ fn data_task(t: &[u8], at: usize) -> Task
 }
 
 // Step 5 on a text: the length of the label in front, 0 without one, and where the directive starts.
-#[derive(Drop)]
+#[derive(Clone, Copy)]
 pub struct DataHead {
     pub label: usize,
     pub directive: usize,
@@ -283,7 +285,7 @@ fn rest_line(source: &[u8], names: Names, start: usize, end: usize, defines: boo
 }
 
 // The labels of step 4, and the rest of the line, from `start` to before `end`.
-#[derive(Drop)]
+#[derive(Clone, Copy)]
 struct Split {
     names: Names,
     start: usize,

@@ -1,3 +1,5 @@
+#![tactic(auto)]
+
 // One look at each byte of a line, before its steps are tried: where its text starts, its first colon, whether DC. or DS.
 // is in it, and where it ends. All are places in the source.
 ghost use Rattle.std.specs.Prelude.{◌≡◌, ◌||◌, ◌+◌, ◌≤◌, length};
@@ -85,7 +87,7 @@ fn next_colon(none: usize, colon: usize, i: usize) -> usize
 }
 
 // What one look at a line finds.
-#[derive(Drop)]
+#[derive(Clone, Copy)]
 pub struct Outline {
     // Where its text starts, after the blanks that lead.
     pub start: usize,

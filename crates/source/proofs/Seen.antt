@@ -1,5 +1,5 @@
 -- The highest byte: what the loop over the bytes keeps, and that no byte is over it. Assumes nothing.
-use mathlib.Core.Path.{◌≡◌, refl, sym, ◌∙◌}
+use mathlib.Core.Path.{◌≡◌, refl, sym, ap, ◌∙◌}
 use mathlib.Core.Bool.{Bool, true, false}
 use mathlib.Core.Option.{none}
 use mathlib.Core.List.{[], ◌∷◌}
@@ -12,6 +12,8 @@ use lib.ListN.{length, drop, get_or, drop_of_length-le}
 use lib.Seq.{drop-cons}
 use Rattle.rules.specs.Text.{Text}
 use Rattle.rules.specs.Assemble.{first_high}
+use Rattle.text.specs.Find.{found_of}
+use Rattle.text.specs.declared.Found.TheVariants.{Nothing}
 use Rattle.source.specs.High.{higher, highest_from}
 
 -- ---- the higher of two
@@ -62,7 +64,7 @@ unfolding highest_from
 over m [] = omega arith
 over m (b ∷ s) = let h = over_both m b in let k = over (higher m b) s in omega arith
 
-pub none_high : (m i : ℕ) (s : Text) → highest_from m s < 128 → first_high i s ≡ none
+none_high : (m i : ℕ) (s : Text) → highest_from m s < 128 → first_high i s ≡ none
 unfolding highest_from first_high
 none_high m i [] h = refl
 none_high m i (b ∷ s) h =
@@ -70,3 +72,6 @@ none_high m i (b ∷ s) h =
     let l = over_both m b in
     let e : ltb 127 b ≡ false = le-ltb 127 b (omega arith) in
     rw (e, first_high) (none_high (higher m b) (suc i) s h)
+
+pub nothing_high : (s : Text) → highest_from 0 s < 128 → Nothing ≡ found_of (first_high 0 s)
+nothing_high s h = ap found_of (sym (none_high 0 0 s h))

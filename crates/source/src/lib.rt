@@ -1,3 +1,5 @@
+#![tactic(auto)]
+
 // Refusals 1 to 3: what a source is checked for before any of its lines is read.
 ghost use Rattle.std.specs.Prelude.{◌≡◌, ◌≤◌, length};
 ghost use Rattle.rules.specs.Text.{cut_at};
@@ -41,6 +43,7 @@ fn find_high(s: &[u8]) -> text::Found
 }
 
 // The same, sought only where there is one: the highest byte is found many bytes at a time.
+#[tactic(auto, using(crate::proofs::Seen::nothing_high))]
 fn first_high(s: &[u8]) -> text::Found
     ensures { result ≡ found_of (first_high 0 s.now) }
 {
