@@ -22,7 +22,6 @@ use Rattle.promises.proofs.Longest.{at_most_a_line}
 use Rattle.answer.specs.Answer.{answer_of}
 use Rattle.answer.specs.declared.Answer.{Answer}
 use Rattle.answer.specs.declared.Answer.TheVariants.{Accepted, Refused}
-use Rattle.source.specs.Clear.{Clear}
 use Rattle.source.proofs.Callers.{checks_clear, cleared, stopped}
 use Rattle.branches.specs.Branch.{names_in}
 use Rattle.branches.proofs.Callers.{under_refused, under_accepted}
@@ -33,7 +32,7 @@ use Rattle.first.specs.declared.Entered.TheVariants.{Done}
 use Rattle.first.specs.declared.Entered.TheVariants.{Refused as Refuses}
 use Rattle.first.proofs.Callers.{first_enters, enter_refused, enter_base, enter_holds}
 use Rattle.emit.specs.Codes.{FindFaultNeeds}
-use Rattle.assemble.specs.Assembled.{Outcome, Starting, StartGives, ManualPassesNeeds, SecondPassNeeds, list_of, Assembled, AssembledUnder, AssembledManual}
+use Rattle.assemble.specs.Assembled.{Outcome, Starting, StartGives, SecondPassNeeds, list_of, Assembled, AssembledUnder, AssembledManual}
 use Rattle.assemble.proofs.Lists.{refusal}
 
 -- the list of a pass that the arrays hold

@@ -1,3 +1,5 @@
+#![tactic(auto)]
+
 // The assembler: refusals 1 to 7, and the list of a source at a base in three lent slices; the same under a branch table (W-210),
 // with refusals 16 and 17; and the manual's call of W-207, with 14 and 15. `lent` and `names`, last in each pass so that 01's call
 // keeps its registers, are the names in use, as in `branches`; where no table is lent, the source stands for it and is not read as one.
@@ -12,10 +14,10 @@ ghost use Rattle.assemble.specs.Assembled.{SecondPassNeeds, PassesInNeeds, list_
 use answer::Answer;
 use first::{Entered, Pass};
 
-mod manual; // manual.rt: both passes of the manual's call
+mod manual_call; // manual_call.rt: both passes of the manual's call
 
 // Whether the slices have room for the list: if not, how many places it has.
-#[derive(Drop)]
+#[derive(Clone, Copy)]
 enum Fit {
     Fits,
     Short(usize),
@@ -237,5 +239,5 @@ pub fn assemble_manual(
     let Answer::Accepted(lines) = started else {
         return started;
     };
-    manual::passes(source, base, lines, addresses, words, marks)
+    manual_call::passes(source, base, lines, addresses, words, marks)
 }

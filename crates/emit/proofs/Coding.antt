@@ -1,7 +1,7 @@
 -- The codes of the manual's call: kept in two cells and read again, and what a line's task comes to. Assumes nothing.
 use mathlib.Core.Path.{◌≡◌, refl, sym, ap, ◌∙◌}
 use mathlib.Core.Bool.{Bool, true}
-use mathlib.Core.List.{List, [], ◌∷◌}
+use mathlib.Core.List.{List}
 use Prim.Native.Nat.{ℕ, ◌+◌, ◌*◌, ◌/◌, ◌%◌, ◌^◌, ◌<◌}
 use native.Mathlib.Omega.{arith}
 use lib.ListN.{length}
@@ -27,7 +27,6 @@ use Rattle.emit.specs.declared.Turn.{Turn}
 use Rattle.emit.specs.declared.codes.Coded.{Coded}
 use Rattle.emit.specs.declared.codes.Coded.TheVariants.{Faulty, Cells}
 use Rattle.emit.proofs.LineCode.{NoInstruction}
-use types.Run.{miss}
 
 -- ---- a code comes back as it was
 module _ (w k : ℕ) (h : k < 8) where
@@ -79,7 +78,7 @@ module _ (t : Table) (source : Text) (a : ℕ) where
   no_code (Org v) h = (refl, refl, refl)
   no_code NoOrg h = (refl, refl, refl)
   no_code LabelOnly h = (refl, refl, refl)
-  no_code (Instruction s) h = absurd (miss (0 ∷ 1 ∷ 2 ∷ 3 ∷ 4 ∷ 6 ∷ 7 ∷ []) 5 tt h)
+  no_code (Instruction s) h = absurd (h s refl)
   no_code (Value n v) h = (refl, refl, refl)
   no_code (Space n) h = (refl, refl, refl)
 

@@ -5,20 +5,14 @@ use mathlib.Core.List.{List, [], flat_map}
 use Prim.Native.Nat.{ℕ, suc, ◌+◌, ◌-◌, ◌*◌, ◌^◌, ◌≤◌, ◌<◌}
 use native.Mathlib.Numerals.{add-one}
 use native.Mathlib.Omega.{arith}
-use lib.ListN.{length, get_or, length-take, length-drop}
+use lib.ListN.{length, length-take, length-drop}
 use Rattle.rules.specs.Text.{Text}
-use Rattle.rules.specs.Label.{Table}
 use Rattle.rules.specs.Encode.{Mnemonic}
-use Rattle.rules.specs.Assemble.{Place, Slices, slices, holding, address_after, data_places, code_places_by, second_pass_by}
-use Rattle.label.specs.Table.{table_of}
-use Rattle.line.specs.Line.{task_at}
-use Rattle.line.specs.declared.Task.{Task}
-use Rattle.line.specs.declared.Task.TheVariants.{Skipped, End, Org, NoOrg, LabelOnly, Instruction, Value, Space}
-use Rattle.cells.specs.Cells.{data_words, task_after, after_by, kept_at}
+use Rattle.rules.specs.Assemble.{Place, Slices, slices, holding, data_places, code_places_by, second_pass_by}
+use Rattle.cells.specs.Cells.{data_words, after_by, kept_at}
 use Rattle.cells.specs.Puts.{address_at, put_at, puts_of}
 use Rattle.cells.specs.declared.Kept.{Kept}
-use Rattle.cells.proofs.Puts.{puts_length}
-use Rattle.cells.proofs.Tasks.{after_kept, data_places_lem}
+use Rattle.cells.proofs.Tasks.{data_places_lem}
 use Rattle.first.specs.Pass.{pass_in}
 use Rattle.first.specs.declared.Pass.{Pass}
 use Rattle.first.proofs.Callers.{bounded}

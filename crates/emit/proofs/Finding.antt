@@ -1,5 +1,5 @@
 -- What the look for faults keeps: no line before line k has one, their codes are kept, and their words are counted. Assumes nothing.
-use mathlib.Core.Path.{◌≡◌, refl, sym, ap, ◌∙◌}
+use mathlib.Core.Path.{◌≡◌, refl, ◌∙◌}
 use mathlib.Core.Bool.{Bool, true, false, false≢true}
 use mathlib.Core.Option.{none, some}
 use mathlib.Core.List.{List, [], ◌∷◌, flat_map}
@@ -26,7 +26,7 @@ use Rattle.first.specs.Progress.{Readable}
 use Rattle.first.specs.declared.Pass.{Pass}
 use Rattle.first.proofs.Callers.{bounded}
 use Rattle.emit.specs.Emit.{put_of}
-use Rattle.emit.specs.Codes.{code_in, code_at, CodeHeld, CodeLineGives, CodesHeld, FindFaultNeeds, FindFaultGives}
+use Rattle.emit.specs.Codes.{code_in, CodeHeld, CodeLineGives, FindFaultNeeds, FindFaultGives}
 use Rattle.emit.specs.declared.codes.Coded.{Coded}
 use Rattle.emit.specs.declared.codes.Coded.TheVariants.{Faulty, Cells}
 use Rattle.emit.proofs.Lines.{length_more}

@@ -1,13 +1,11 @@
 -- The words of a line by its task: a value's, an instruction's, or none. Assumes nothing.
 use mathlib.Core.Path.{◌≡◌, refl, sym}
 use mathlib.Core.Bool.{Bool, true, false}
-use mathlib.Core.List.{List, [], ◌∷◌}
+use mathlib.Core.List.{List, []}
 use Prim.Native.Nat.{ℕ, ◌+◌, ◌/◌, ◌%◌, ◌≤◌}
 use native.Mathlib.Omega.{arith}
 use native.Mathlib.Nat.{add-zero}
 use lib.ListN.{length, length-take, length-drop}
-use types.Run.{OneOf, miss}
-use denote.Enum.Declared.{tag_of}
 use Rattle.rules.specs.Limits.{max_source}
 use Rattle.rules.specs.Text.{Text}
 use Rattle.rules.specs.Line.{instruction_of}
@@ -19,7 +17,6 @@ use Rattle.text.specs.Spans.{span_text, SpanIn}
 use Rattle.line.specs.Line.{TaskIn}
 use Rattle.line.specs.declared.Task.{Task}
 use Rattle.line.specs.declared.Task.TheVariants.{Skipped, End, Org, NoOrg, LabelOnly, Instruction, Value, Space}
-use Rattle.line.specs.contracts.Task.{the_type}
 use Rattle.cells.specs.Cells.{data_words}
 use Rattle.encode.specs.Code.{code_of, places_of, code_length}
 use Rattle.encode.specs.Near.{Near}
@@ -32,7 +29,7 @@ use Rattle.emit.proofs.Slices.{put_none}
 
 -- ---- data words
 abbrev pub NoValue : Task → Type 0
-NoValue task = OneOf (0 ∷ 1 ∷ 2 ∷ 3 ∷ 4 ∷ 5 ∷ 7 ∷ []) (tag_of the_type task)
+NoValue task = (n v : ℕ) → task ≡ Value n v → ⊥
 
 module _ (source : Text) (a : ℕ) where
   pub no_value : (task : Task) → NoValue task → data_places (put_of source a task) ≡ []
@@ -43,7 +40,7 @@ module _ (source : Text) (a : ℕ) where
   no_value NoOrg h = refl
   no_value LabelOnly h = refl
   no_value (Instruction s) h = refl
-  no_value (Value n v) h = absurd (miss (0 ∷ 1 ∷ 2 ∷ 3 ∷ 4 ∷ 5 ∷ 7 ∷ []) 6 tt h)
+  no_value (Value n v) h = absurd (h n v refl)
   no_value (Space n) h = refl
 
   pub value_places : (task : Task) (n v x y : ℕ) → task ≡ Value n v → x ≡ v / 65536 → y ≡ v % 65536
@@ -53,7 +50,7 @@ module _ (source : Text) (a : ℕ) where
 
 -- ---- instruction words
 abbrev pub NoInstruction : Task → Type 0
-NoInstruction task = OneOf (0 ∷ 1 ∷ 2 ∷ 3 ∷ 4 ∷ 6 ∷ 7 ∷ []) (tag_of the_type task)
+NoInstruction task = (s : Span) → task ≡ Instruction s → ⊥
 
 module _ (t : Table) (source : Text) (a : ℕ) where
   pub no_instruction : (e : Encoder) (task : Task) → NoInstruction task → code_places_by e t (put_of source a task) ≡ []
@@ -63,7 +60,7 @@ module _ (t : Table) (source : Text) (a : ℕ) where
   no_instruction e (Org v) h = refl
   no_instruction e NoOrg h = refl
   no_instruction e LabelOnly h = refl
-  no_instruction e (Instruction s) h = absurd (miss (0 ∷ 1 ∷ 2 ∷ 3 ∷ 4 ∷ 6 ∷ 7 ∷ []) 5 tt h)
+  no_instruction e (Instruction s) h = absurd (h s refl)
   no_instruction e (Value n v) h = refl
   no_instruction e (Space n) h = refl
 

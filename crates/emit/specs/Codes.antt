@@ -5,7 +5,7 @@ use Rattle.std.proofs.Math.Option.{none, some}
 use Rattle.rules.specs.Text.{Text}
 use Rattle.rules.specs.Label.{Table}
 use Rattle.rules.specs.Answer.{Answer as Ruled, accepted, and_then}
-use Rattle.rules.specs.Assemble.{Put, Pass as Passed, Place, code_places_by}
+use Rattle.rules.specs.Assemble.{Put, Place, code_places_by}
 use Rattle.requests.specs.ManualCall.{manual_size, manual_encode}
 use Rattle.requests.specs.ManualAssemble.{task_fault, encoded_manual}
 use Rattle.answer.specs.Answer.{answer_of}

@@ -13,7 +13,7 @@ use first::Pass;
 use line::Task;
 
 // What a line comes to: its fault, 14 or 15, or the two cells of its code.
-#[derive(Drop)]
+#[derive(Clone, Copy)]
 pub enum Coded {
     Faulty(u8),
     Cells(u32, u32),

@@ -1,3 +1,5 @@
+#![tactic(auto)]
+
 // The second pass: the words of the data and of the instructions, counted or written into three lent slices.
 // It goes by the lines that the first pass kept; only an instruction's text is read again, in the manual's call by `codes`.
 // `lent` and `names` are the names in use, as in `branches`; the manual's call does not read them.
@@ -174,7 +176,7 @@ fn code_words(code: Code) -> usize
 
 // Where the second pass stands: whether it writes or only counts, the address of the line, how many data words and how many
 // instruction words there are so far.
-#[derive(Drop)]
+#[derive(Clone, Copy)]
 struct Turn {
     write: bool,
     address: u32,

@@ -1,7 +1,7 @@
 -- For callers: the code of an instruction has all its places, and how many words it has. Assumes nothing.
 use Prim.Native.Nat.{ℕ}
 use mathlib.Core.Path.{◌≡◌, refl}
-use mathlib.Core.Option.{Option, none, some, get_or}
+use mathlib.Core.Option.{Option, get_or}
 use mathlib.Core.List.{List, []}
 use lib.ListN.{length}
 use Rattle.rules.specs.Line.{Instruction}

@@ -3,10 +3,7 @@ use Prim.Native.Nat.{ℕ}
 use mathlib.Core.Path.{◌≡◌, refl, sym, ap, ◌∙◌}
 use mathlib.Core.Bool.{Bool, true, false, not, ◌||◌}
 use mathlib.Core.Option.{Option, none, some, bind, or_else}
-use mathlib.Core.List.{[], ◌∷◌}
 use lib.IntN.{ℤ}
-use types.Run.{OneOf, miss}
-use denote.Enum.Declared.{tag_of}
 use borrow.Author.Tests.{not-true, not-false}
 use Rattle.rules.specs.Text.{Text, bytes, starts}
 use Rattle.rules.specs.Number.{Reading, read, failed, signed_reading, value_of}
@@ -20,7 +17,6 @@ use Rattle.numeral.proofs.Answers.{reach_some, reach_none}
 use Rattle.encode.specs.Displacement.{as_displacement, displacement_of, reached, displacement_reading}
 use Rattle.encode.specs.declared.branch.Displacement.{Displacement}
 use Rattle.encode.specs.declared.branch.Displacement.TheVariants.{Value, Nothing}
-use Rattle.encode.specs.contracts.branch.Displacement.{the_type}
 
 -- ---- the operand as it reads, by whether it starts with a sign
 module _ (t : Text) {b : Bool} (e : b ≡ (starts (bytes "+") t || starts (bytes "-") t)) where
@@ -62,11 +58,11 @@ module _ (ls : Table) (a : ℕ) (s : Text) where
         go (some (read y)) q = cc
         go (some (failed y)) q = cc
 
-    pub not_displaced : OneOf (1 ∷ 2 ∷ []) (tag_of the_type x) → displacement ls a s ≡ none
+    pub not_displaced : ((z : ℤ) → x ≡ Value z → ⊥) → displacement ls a s ≡ none
     unfolding bind value_of
-    not_displaced h = sym value_is ∙ go (displacement_reading ls a s) (rw e at h)
+    not_displaced h = sym value_is ∙ go (displacement_reading ls a s) (λ z p. h z (e ∙ p))
       where
-        go : (o : Option (Reading ℤ)) → OneOf (1 ∷ 2 ∷ []) (tag_of the_type (displacement_of o)) → bind o value_of ≡ none
+        go : (o : Option (Reading ℤ)) → ((z : ℤ) → displacement_of o ≡ Value z → ⊥) → bind o value_of ≡ none
         go none q = refl
-        go (some (read y)) q = absurd (miss (1 ∷ 2 ∷ []) 0 tt q)
+        go (some (read y)) q = absurd (q y refl)
         go (some (failed y)) q = refl

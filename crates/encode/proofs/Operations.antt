@@ -1,26 +1,21 @@
 -- An operation's words by its operands: how each way out of `encode_operation` answers. Assumes nothing.
 use Prim.Native.Nat.{ℕ, ◌≤◌}
 use mathlib.Core.Path.{◌≡◌, refl, sym, ap, ◌∙◌}
-use mathlib.Core.Bool.{cond}
 use mathlib.Core.Option.{Option, none, bind}
 use mathlib.Core.List.{List, [], ◌∷◌}
 use native.Mathlib.Omega.{arith}
-use lib.Dec.{eqb}
 use lib.ListN.{length}
-use types.Run.{OneOf, miss}
-use denote.Enum.Declared.{tag_of}
 use Rattle.rules.specs.Text.{Text, cut_at}
 use Rattle.rules.specs.Label.{Table}
 use Rattle.rules.specs.Encode.{Content, two, tst_row, jump_row, branch_row, encode_operation}
 use Rattle.opcode.specs.declared.mnemonic.Operation.{Operation}
 use Rattle.opcode.specs.declared.mnemonic.Operation.TheVariants.{Moveq, Move, Movea, Muls, Tst, Subq, Asl, Dbra, Nop, Simhalt, Add, Sub, Cmp, Jmp, Branch, Unknown}
 use Rattle.opcode.proofs.Callers.{ruled, named}
-use Rattle.opcode.specs.contracts.mnemonic.Operation.{the_type}
 use Rattle.text.specs.declared.Span.{Span}
 use Rattle.text.specs.Spans.{span_text}
 use Rattle.instruction.specs.Split.{spans, summary, operands_in, operands_at}
 use Rattle.instruction.specs.declared.Operands.{Operands}
-use Rattle.instruction.proofs.Places.{operands_of, two_operands, not_two, one_operand, not_one, some_operand, no_operand_lem}
+use Rattle.instruction.proofs.Places.{operands_of_lem, two_operands, not_two, one_operand, not_one, some_operand, no_operand_lem}
 use Rattle.encode.specs.Code.{code_of}
 use Rattle.encode.specs.Operations.{Encodes, two_rows}
 use Rattle.encode.specs.declared.Code.{Code}
@@ -33,28 +28,16 @@ first_lies t o e = go (spans 0 (cut_at 44 t)) e
   where
     go : (ss : List Span) → o ≡ summary ss → (o.first.start ≤ o.first.end) × (o.first.end ≤ length t)
     go [] p = rw p (omega arith, omega arith)
-    go (s ∷ []) p = let x = (operands_of t o e).first (rw p (omega arith)) in (omega arith, omega arith)
-    go (s ∷ u ∷ ss) p = let x = (operands_of t o e).first (rw p (omega arith)) in (omega arith, omega arith)
+    go (s ∷ []) p = let x = (operands_of_lem t o e).first (rw p (omega arith)) in (omega arith, omega arith)
+    go (s ∷ u ∷ ss) p = let x = (operands_of_lem t o e).first (rw p (omega arith)) in (omega arith, omega arith)
 
 -- ---- the operations that are not asked for by name: those of two operands
-abbrev without : ℕ → List ℕ → List ℕ
-without k [] = []
-without k (x ∷ xs) = cond (eqb k x) xs (x ∷ without k xs)
-
--- the numbers of the 16 variants but the k-th
-abbrev pub all_but : ℕ → List ℕ
-all_but k = without k (0 ∷ 1 ∷ 2 ∷ 3 ∷ 4 ∷ 5 ∷ 6 ∷ 7 ∷ 8 ∷ 9 ∷ 10 ∷ 11 ∷ 12 ∷ 13 ∷ 14 ∷ 15 ∷ [])
-
--- o is not the k-th variant
-abbrev pub IsNot : ℕ → Operation → Type 0
-IsNot k o = OneOf (all_but k) (tag_of the_type o)
-
 pub record Paired (o : Operation) : Type 0 where
-  pub not_nop : IsNot 8 o
-  pub not_simhalt : IsNot 9 o
-  pub not_branch : IsNot 14 o
-  pub not_tst : IsNot 4 o
-  pub not_jmp : IsNot 13 o
+  pub not_nop : o ≡ Nop → ⊥
+  pub not_simhalt : o ≡ Simhalt → ⊥
+  pub not_branch : (c : ℕ) → o ≡ Branch c → ⊥
+  pub not_tst : o ≡ Tst → ⊥
+  pub not_jmp : o ≡ Jmp → ⊥
 
 two_none : {A : Type 0} (ps : List Text) → none ≡ two {A = A} (λ s t. none) ps
 unfolding two
@@ -81,11 +64,11 @@ module _ (ls : Table) (a : ℕ) (ps : List Text) where
   pairs Sub h = refl
   pairs Cmp h = refl
   pairs Unknown h = two_none ps
-  pairs Nop h = absurd (miss (all_but 8) 8 tt h.not_nop)
-  pairs Simhalt h = absurd (miss (all_but 9) 9 tt h.not_simhalt)
-  pairs (Branch c) h = absurd (miss (all_but 14) 14 tt h.not_branch)
-  pairs Tst h = absurd (miss (all_but 4) 4 tt h.not_tst)
-  pairs Jmp h = absurd (miss (all_but 13) 13 tt h.not_jmp)
+  pairs Nop h = absurd (h.not_nop refl)
+  pairs Simhalt h = absurd (h.not_simhalt refl)
+  pairs (Branch c) h = absurd (h.not_branch c refl)
+  pairs Tst h = absurd (h.not_tst refl)
+  pairs Jmp h = absurd (h.not_jmp refl)
 
   -- an operation known by its words
   encodes : {o : Operation} {r : Code} → r ≡ code_of (words_of o) → Encodes r ls a o ps
@@ -107,33 +90,33 @@ module _ (ls : Table) (a : ℕ) (t : Text) (ops : Operands) (x : ops ≡ operand
   module _ {c : ℕ} (e : o ≡ Branch c) where
     pub branch_none : ops.count ≡ 0 → Encodes Nothing ls a o (operands_in t)
     unfolding bind encode_operation
-    branch_none n = known ls a (operands_in t) e (ap code_of (sym (no_operand_lem _ (operands_of t ops x) (branch_row ls a c) n)))
+    branch_none n = known ls a (operands_in t) e (ap code_of (sym (no_operand_lem _ (operands_of_lem t ops x) (branch_row ls a c) n)))
 
     pub branch_some : {r : Code} → (ops.count ≡ 0 → ⊥) → r ≡ code_of (branch_row ls a c (span_text t ops.first)) → Encodes r ls a o (operands_in t)
     unfolding bind encode_operation
-    branch_some n h = known ls a (operands_in t) e (h ∙ ap code_of (sym (some_operand _ (operands_of t ops x) (branch_row ls a c) (omega arith))))
+    branch_some n h = known ls a (operands_in t) e (h ∙ ap code_of (sym (some_operand _ (operands_of_lem t ops x) (branch_row ls a c) (omega arith))))
 
   module _ (e : o ≡ Tst) where
     pub tst_none : (ops.count ≡ 1 → ⊥) → Encodes Nothing ls a o (operands_in t)
     unfolding bind encode_operation
-    tst_none n = known ls a (operands_in t) e (ap code_of (sym (not_one _ (operands_of t ops x) tst_row n)))
+    tst_none n = known ls a (operands_in t) e (ap code_of (sym (not_one _ (operands_of_lem t ops x) tst_row n)))
 
     pub tst_one : {r : Code} → ops.count ≡ 1 → r ≡ code_of (tst_row (span_text t ops.first)) → Encodes r ls a o (operands_in t)
     unfolding bind encode_operation
-    tst_one n h = known ls a (operands_in t) e (h ∙ ap code_of (sym (one_operand _ (operands_of t ops x) tst_row n)))
+    tst_one n h = known ls a (operands_in t) e (h ∙ ap code_of (sym (one_operand _ (operands_of_lem t ops x) tst_row n)))
 
   module _ (e : o ≡ Jmp) where
     pub jmp_none : (ops.count ≡ 1 → ⊥) → Encodes Nothing ls a o (operands_in t)
     unfolding bind encode_operation
-    jmp_none n = known ls a (operands_in t) e (ap code_of (sym (not_one _ (operands_of t ops x) (jump_row ls) n)))
+    jmp_none n = known ls a (operands_in t) e (ap code_of (sym (not_one _ (operands_of_lem t ops x) (jump_row ls) n)))
 
     pub jmp_one : {r : Code} → ops.count ≡ 1 → r ≡ code_of (jump_row ls (span_text t ops.first)) → Encodes r ls a o (operands_in t)
     unfolding bind encode_operation
-    jmp_one n h = known ls a (operands_in t) e (h ∙ ap code_of (sym (one_operand _ (operands_of t ops x) (jump_row ls) n)))
+    jmp_one n h = known ls a (operands_in t) e (h ∙ ap code_of (sym (one_operand _ (operands_of_lem t ops x) (jump_row ls) n)))
 
   module _ (p : Paired o) where
     pub no_pair : (ops.count ≡ 2 → ⊥) → Encodes Nothing ls a o (operands_in t)
-    no_pair n = encodes ls a (operands_in t) (ap code_of (sym (pairs ls a (operands_in t) o p ∙ not_two _ (operands_of t ops x) (two_rows ls a o) n)))
+    no_pair n = encodes ls a (operands_in t) (ap code_of (sym (pairs ls a (operands_in t) o p ∙ not_two _ (operands_of_lem t ops x) (two_rows ls a o) n)))
 
     pub pair : {r : Code} → ops.count ≡ 2 → r ≡ code_of (two_rows ls a o (span_text t ops.first) (span_text t ops.second)) → Encodes r ls a o (operands_in t)
-    pair n h = encodes ls a (operands_in t) (h ∙ ap code_of (sym (pairs ls a (operands_in t) o p ∙ two_operands _ (operands_of t ops x) (two_rows ls a o) n)))
+    pair n h = encodes ls a (operands_in t) (h ∙ ap code_of (sym (pairs ls a (operands_in t) o p ∙ two_operands _ (operands_of_lem t ops x) (two_rows ls a o) n)))

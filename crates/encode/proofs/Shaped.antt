@@ -1,11 +1,9 @@
 -- The cells that an encoder gives: none, a word, a word and a value, or a word and a label's address. Assumes nothing.
-use mathlib.Core.Path.{◌≡◌, refl, subst}
+use mathlib.Core.Path.{◌≡◌, refl}
 use mathlib.Core.Bool.{Bool, true, false, cond}
 use mathlib.Core.Option.{Option, none, some, bind, or_else}
 use mathlib.Core.List.{List, [], ◌∷◌}
 use Prim.Native.Nat.{ℕ}
-use types.Run.{OneOf, miss}
-use denote.Enum.Declared.{tag_of}
 use Rattle.rules.specs.Text.{Text}
 use Rattle.rules.specs.Line.{Instruction}
 use Rattle.rules.specs.Label.{Table}
@@ -14,7 +12,6 @@ use Rattle.rules.specs.Encode.{two, one, one_or_more, jumps, word, with_label, r
 use Rattle.encode.specs.Code.{code_of}
 use Rattle.encode.specs.declared.Code.{Code}
 use Rattle.encode.specs.declared.Code.TheVariants.{Nothing}
-use Rattle.encode.specs.contracts.Code.{the_type}
 
 pub data Shaped : Option (List Content) → Type 0 where
   no_word : Shaped none
@@ -42,10 +39,7 @@ shaped_else (some x) p h k = h
 -- ---- rows tried in order: o, then p
 -- a code that is not Nothing
 abbrev pub HasWords : Code → Type 0
-HasWords c = OneOf (1 ∷ 2 ∷ 3 ∷ []) (tag_of the_type c)
-
-no_words : HasWords Nothing → ⊥
-no_words h = miss (1 ∷ 2 ∷ 3 ∷ []) 0 tt h
+HasWords c = c ≡ Nothing → ⊥
 
 module _ (o p : Option (List Content)) where
   -- o gives words
@@ -54,7 +48,7 @@ module _ (o p : Option (List Content)) where
   first_row {c} e h = go o e
     where
       go : (q : Option (List Content)) → c ≡ code_of q → c ≡ code_of (or_else q p)
-      go none e = absurd (no_words (subst (λ (d : Code). HasWords d) e h))
+      go none e = absurd (h e)
       go (some x) e = e
 
 -- ---- the rows

@@ -17,7 +17,7 @@ use numeral::signed::{Reach, Signed};
 use opcode::register::Register;
 
 // A branch's displacement.
-#[derive(Drop)]
+#[derive(Clone, Copy)]
 pub enum Displacement {
     Value(i32),
     // The operand starts with a sign, and this failed in its number.

@@ -1,3 +1,5 @@
+#![tactic(auto)]
+
 // One instruction to its words, by value. The functions keep the names of the Rust original.
 ghost use Rattle.std.specs.Prelude.{◌≡◌, ◌≤◌, length};
 ghost use Rattle.rules.specs.Limits.{max_source};
@@ -23,7 +25,7 @@ mod branch; // branch.rt: branches and DBRA
 mod copied; // copied.rt: an instruction by a copy of its tail
 
 // The words of an instruction: the second an extension word, a value or a label's address.
-#[derive(Drop)]
+#[derive(Clone, Copy)]
 pub enum Code {
     Nothing,
     Word(u16),

@@ -4,8 +4,6 @@ use mathlib.Core.Path.{◌≡◌, refl, sym}
 use mathlib.Core.Option.{Option, none, some, bind, or_else}
 use mathlib.Core.List.{[], ◌∷◌}
 use native.Mathlib.Omega.{arith}
-use types.Run.{OneOf, miss}
-use denote.Enum.Declared.{tag_of}
 use Rattle.rules.specs.Text.{Text}
 use Rattle.rules.specs.Label.{Table, find}
 use Rattle.rules.specs.Encode.{is_some}
@@ -15,7 +13,6 @@ use Rattle.encode_manual.specs.Code.{size_in, second_words, third_words}
 use Rattle.encode_manual.specs.Form.{Codes}
 use Rattle.encode_manual.specs.declared.ManualCode.{ManualCode}
 use Rattle.encode_manual.specs.declared.ManualCode.TheVariants.{Fault, Word, Value, Long, Address}
-use Rattle.encode_manual.specs.contracts.ManualCode.{the_type}
 
 module _ (ls : Table) (a : ℕ) where
   pub no_form : Codes ls a none (Fault 14 0)
@@ -107,8 +104,8 @@ third_small (Value w v) e = omega arith
 third_small (Long w v) e = omega arith
 third_small (Address w x) e = omega arith
 
-pub size_is : (r : ManualCode) → OneOf (1 ∷ 2 ∷ 3 ∷ 4 ∷ []) (tag_of the_type r) → {m n : ℕ} → m ≡ second_words r → n ≡ third_words r → 2 * (1 + m + n) ≡ size_in r
-size_is (Fault k z) h d e = absurd (miss (1 ∷ 2 ∷ 3 ∷ 4 ∷ []) 0 tt h)
+pub size_is : (r : ManualCode) → ((k z : ℕ) → r ≡ Fault k z → ⊥) → {m n : ℕ} → m ≡ second_words r → n ≡ third_words r → 2 * (1 + m + n) ≡ size_in r
+size_is (Fault k z) h d e = absurd (h k z refl)
 size_is (Word w) h d e = omega arith
 size_is (Value w v) h d e = omega arith
 size_is (Long w v) h d e = omega arith

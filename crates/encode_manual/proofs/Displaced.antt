@@ -1,13 +1,11 @@
 -- Displacements: the first that fits, what an instruction comes to by it, and those that an operand gives. Assumes nothing.
-use Prim.Native.Nat.{ℕ, zero, suc, ◌+◌, ◌*◌, ◌-◌, ◌%◌}
+use Prim.Native.Nat.{ℕ, zero, suc, ◌+◌, ◌*◌, ◌%◌}
 use mathlib.Core.Path.{◌≡◌, refl, sym, ap, ◌∙◌}
 use mathlib.Core.Bool.{Bool, true, false, false≢true}
 use mathlib.Core.Option.{Option, none, some, bind}
 use mathlib.Core.List.{List, [], ◌∷◌}
 use native.Mathlib.Omega.{arith}
 use lib.IntN.{ℤ, pos, negsuc, sub_ℕ}
-use types.Run.{OneOf, miss}
-use denote.Enum.Declared.{tag_of}
 use borrow.Author.Tests.{lt-ltb, ltb-true}
 use Rattle.rules.specs.Text.{Text}
 use Rattle.rules.specs.Label.{Table, find}
@@ -15,13 +13,11 @@ use Rattle.rules.specs.Encode.{literal, is_some}
 use Rattle.manual.specs.Manual.{Condition, T, condition, byte, sixteen_bits, displacement_word, extensions, Bcc, DBRA, operation_word, manual_words}
 use Rattle.manual.proofs.OperationWords.{operation_words}
 use Rattle.requests.specs.ManualCall.{branch, loop, branched, displaced, fits, first_that, listed, signed_digits, displacements, range_fault, form_contents, form_fault}
-use Rattle.numeral.specs.declared.signed.Signed.TheVariants as S
 use Rattle.encode_manual.specs.Form.{Codes}
 use Rattle.encode_manual.specs.Displacement.{reached, displacement_in, or_outside}
 use Rattle.encode_manual.specs.declared.branch.Displacement.{Displacement}
 use Rattle.encode_manual.specs.declared.branch.Displacement.TheVariants as D
 use Rattle.encode_manual.specs.declared.ManualCode.TheVariants.{Fault, Word, Value}
-use Rattle.encode_manual.specs.contracts.branch.Displacement.{the_type}
 use Rattle.encode_manual.proofs.Coded.{none_fits, two, four}
 
 -- ---- the first that fits
@@ -52,12 +48,12 @@ module _ (f : ℤ → Bool) where
         go true q p = rw (first_here d ds q) (rw (first_here d [] q) at p)
         go false q p = let c = rw (first_later d [] q) at p in cc
 
-    pub not_near : OneOf (1 ∷ 2 ∷ []) (tag_of the_type x) → x ≡ D.Outside
+    pub not_near : ((w : ℕ) → x ≡ D.Value w → ⊥) → x ≡ D.Outside
     unfolding first_that
     not_near h = go (f d) refl
       where
         go : (y : Bool) → f d ≡ y → x ≡ D.Outside
-        go true q = let k : x ≡ D.Value (sixteen_bits d) = e ∙ rw (first_here d [] q) in absurd (miss (1 ∷ 2 ∷ []) 0 tt (rw k at h))
+        go true q = let k : x ≡ D.Value (sixteen_bits d) = e ∙ rw (first_here d [] q) in absurd (h _ k)
         go false q = e ∙ rw (first_later d [] q)
 
     pub past_label : {y : Displacement} → x ≡ D.Outside → y ≡ or_outside (displacement_in f ds) → y ≡ displacement_in f (d ∷ ds)

@@ -100,7 +100,7 @@ abbrev all_among : List HeadRow → List Mnemonic → Bool
 all_among [] ns = true
 all_among (r ∷ rs) ns = among r.name ns && all_among rs ns
 
-other_name : {ns : List Mnemonic} (m t : Text) → All (λ n. same m n.name ≡ false) ns → among t ns ≡ true → same m t ≡ false
+other_name : (m : Text) {ns : List Mnemonic} (t : Text) → All (λ n. same m n.name ≡ false) ns → among t ns ≡ true → same m t ≡ false
 other_name m t done e = absurd (false≢true e)
 other_name m t (◌and◌ {n = n} {ns = ns} h hs) e = go (same t n.name) refl e (λ q. other_name m t hs q)
   where

@@ -22,7 +22,7 @@ use Rattle.instruction.specs.declared.Operands.{Operands}
 use Rattle.instruction.specs.declared.Suffix.{Suffix}
 use Rattle.instruction.proofs.FirstPiece.{instruction_read}
 use Rattle.instruction.proofs.Joined.{joined_there}
-use Rattle.instruction.proofs.Places.{operands_of}
+use Rattle.instruction.proofs.Places.{operands_of_lem}
 use Rattle.encode_manual.specs.Code.{EncodeManualGives}
 use Rattle.encode_manual.specs.Form.{Codes}
 use Rattle.encode_manual.specs.Heads.{head_by, form_by}
@@ -82,17 +82,17 @@ three (some asl_l) s t u ps = refl
 
 module _ (ls : Table) (a : ℕ) (h : Option Head) (t : Text) (o : Operands) (x : o ≡ operands_at t) {r : ManualCode} where
   pub no_operand_lem : o.count ≡ 0 → Codes ls a (form_by h []) r → Codes ls a (form_by h (operands_in t)) r
-  no_operand_lem n g = rw (none_there (operands_in t) (operands_of t o x) n) g
+  no_operand_lem n g = rw (none_there (operands_in t) (operands_of_lem t o x) n) g
 
   pub one_operand : o.count ≡ 1 → Codes ls a (form_by h (span_text t o.first ∷ [])) r → Codes ls a (form_by h (operands_in t)) r
-  one_operand n g = rw (one_there (operands_in t) (operands_of t o x) n) g
+  one_operand n g = rw (one_there (operands_in t) (operands_of_lem t o x) n) g
 
   pub two_operands : o.count ≡ 2 → Codes ls a (form_by h (span_text t o.first ∷ span_text t o.second ∷ [])) r → Codes ls a (form_by h (operands_in t)) r
-  two_operands n g = rw (two_there (operands_in t) (operands_of t o x) n) g
+  two_operands n g = rw (two_there (operands_in t) (operands_of_lem t o x) n) g
 
 pub more_operands : (ls : Table) (a : ℕ) (h : Option Head) (t : Text) (o : Operands) → o ≡ operands_at t → (o.count ≡ 0 → ⊥) → (o.count ≡ 1 → ⊥) → (o.count ≡ 2 → ⊥)
     → Codes ls a (form_by h (operands_in t)) (Fault 14 0)
-more_operands ls a h t o x d e f = go (operands_in t) (operands_of t o x).count
+more_operands ls a h t o x d e f = go (operands_in t) (operands_of_lem t o x).count
   where
     go : (ps : List Text) → o.count ≡ length ps → Codes ls a (form_by h ps) (Fault 14 0)
     go [] n = absurd (d n)

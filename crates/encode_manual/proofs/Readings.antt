@@ -8,8 +8,6 @@ use native.Mathlib.Omega.{arith}
 use lib.Dec.{eqb}
 use lib.IntN.{ℤ, pos, negsuc}
 use lib.Signed.{mag, lt_z}
-use types.Run.{OneOf, miss}
-use denote.Enum.Declared.{tag_of}
 use borrow.Author.Tests.{ne_eqb, eqb-true, eqb-false, ltb-true, ltb-false, le-leb, lt-leb}
 use Rattle.rules.specs.Text.{Text, bytes, starts, after}
 use Rattle.rules.specs.Number.{Reading, read, failed, value_of, reading32, hex_tail, immediate as immediate_reading, imm8, imm16, modulo}
@@ -24,7 +22,6 @@ use Rattle.numeral.specs.declared.unsigned.Number.{Number}
 use Rattle.numeral.specs.declared.unsigned.Number.TheVariants as N
 use Rattle.numeral.specs.declared.unsigned.Immediate.{Immediate}
 use Rattle.numeral.specs.declared.unsigned.Immediate.TheVariants as I
-use Rattle.numeral.specs.contracts.unsigned.Immediate.{the_type}
 
 -- ---- 32 bits
 module _ (s : Text) {x : Immediate} (e : x ≡ immediate_of (immediate_reading reading32 s)) where
@@ -37,13 +34,13 @@ module _ (s : Text) {x : Immediate} (e : x ≡ immediate_of (immediate_reading r
       go (some (read w)) q = cc
       go (some (failed y)) q = cc
 
-  pub imm32_none : OneOf (1 ∷ 2 ∷ []) (tag_of the_type x) → imm32 s ≡ none
+  pub imm32_none : ((v : ℕ) → x ≡ I.Value v → ⊥) → imm32 s ≡ none
   unfolding imm32 bind value_of
-  imm32_none h = go (immediate_reading reading32 s) (rw e at h)
+  imm32_none h = go (immediate_reading reading32 s) (λ v p. h v (e ∙ p))
     where
-      go : (o : Option (Reading ℕ)) → OneOf (1 ∷ 2 ∷ []) (tag_of the_type (immediate_of o)) → bind o value_of ≡ none
+      go : (o : Option (Reading ℕ)) → ((v : ℕ) → immediate_of o ≡ I.Value v → ⊥) → bind o value_of ≡ none
       go none q = refl
-      go (some (read w)) q = absurd (miss (1 ∷ 2 ∷ []) 0 tt q)
+      go (some (read w)) q = absurd (q w refl)
       go (some (failed y)) q = refl
 
 module _ (s : Text) {x : Number} (e : x ≡ number_of (reading32 s)) where

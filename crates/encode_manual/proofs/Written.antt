@@ -1,5 +1,5 @@
 -- Whether a displacement fits, as the code tests it, and a displacement as written: a sign and digits of any length. Assumes nothing.
-use Prim.Native.Nat.{ℕ, zero, suc, ◌+◌, ◌*◌, ◌-◌, ◌<◌, ◌≤◌}
+use Prim.Native.Nat.{ℕ, zero, suc, ◌+◌, ◌*◌, ◌<◌, ◌≤◌}
 use mathlib.Core.Path.{◌≡◌, refl, sym, ap, ◌∙◌}
 use mathlib.Core.Logic.{◌≢◌}
 use mathlib.Core.Bool.{Bool, true, false, false≢true, not, ◌||◌, cond}
@@ -23,7 +23,6 @@ use Rattle.numeral.specs.declared.signed.Signed.TheVariants as S
 use Rattle.encode_manual.specs.Displacement.{branching_by, displacement_in, displacement_unread}
 use Rattle.encode_manual.specs.declared.branch.Displacement.{Displacement}
 use Rattle.encode_manual.specs.declared.branch.Displacement.TheVariants as D
-use Rattle.encode_manual.specs.declared.ManualCode.TheVariants.{Value}
 use Rattle.encode_manual.proofs.Displaced.{far}
 
 -- ---- the code's tests

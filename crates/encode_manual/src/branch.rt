@@ -16,7 +16,7 @@ use numeral::signed::Signed;
 use opcode::register::Register;
 
 // A displacement that fits, in sixteen bits; that there is one, but none fits; that there is none.
-#[derive(Drop)]
+#[derive(Clone, Copy)]
 pub enum Displacement {
     Value(u16),
     Outside,

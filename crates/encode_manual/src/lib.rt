@@ -1,3 +1,5 @@
+#![tactic(auto)]
+
 // One instruction of the manual's call to its words, by value; or its fault, with the size that it takes all the same.
 ghost use Rattle.std.specs.Prelude.{◌≡◌, [], ◌∷◌, ◌≤◌, length};
 ghost use Rattle.rules.specs.Limits.{max_source};
@@ -22,7 +24,7 @@ mod named; // named.rt: by the operation
 mod copied; // copied.rt: an instruction by a copy of its tail
 
 // What an instruction comes to in the manual's call: its words, or its fault, 14 or 15, with the size that it takes all the same.
-#[derive(Drop)]
+#[derive(Clone, Copy)]
 pub enum ManualCode {
     Fault(u8, u32),
     Word(u16),

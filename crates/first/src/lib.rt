@@ -1,3 +1,5 @@
+#![tactic(auto)]
+
 // The first pass: labels recorded, data words counted, lines kept, refusals 4, 6 and 5; and `enter`, which other calls go in by.
 // `manual` says whose sizes it goes by: the manual's of W-207, or else paper 01's.
 ghost use Rattle.std.specs.Prelude.{◌≡◌, ◌≤◌, length};
@@ -17,7 +19,7 @@ use line::{Line, Names, Task};
 
 // What the pass leaves, with the labels in the table and the lines in the cells: the base, how many labels are recorded, how
 // many data words there are, and how many lines are read.
-#[derive(Drop)]
+#[derive(Clone, Copy)]
 pub struct Pass {
     pub base: u32,
     pub labels: usize,
@@ -26,7 +28,7 @@ pub struct Pass {
 }
 
 // What the pass comes to: it is done, or a refusal's number and place.
-#[derive(Drop)]
+#[derive(Clone, Copy)]
 pub enum Entered {
     Done(Pass),
     Refused(u8, usize),
@@ -96,7 +98,7 @@ fn record_names(
 }
 
 // Where the pass stands: before the line that starts at `at`, after `lines` lines.
-#[derive(Drop)]
+#[derive(Clone, Copy)]
 struct Progress {
     at: usize,
     address: u32,
@@ -106,7 +108,7 @@ struct Progress {
 }
 
 // On to the next line; the pass ends before this one; or a refusal.
-#[derive(Drop)]
+#[derive(Clone, Copy)]
 enum Pace {
     On(Progress),
     End,

@@ -1,0 +1,21 @@
+-- `encode_two` meets its contract, suffix by suffix. Assumes nothing.
+use mathlib.Core.Option.{bind}
+use Rattle.encode_manual.proofs.Coded.{no_form}
+use Rattle.encode_manual.proofs.encode_two.Goals as goal
+
+pub returns-in-None : goal.returns-in-None
+returns-in-None c = rw c.in-None.is c.encode_plain_two.ensures
+
+pub returns-in-Empty : goal.returns-in-Empty
+unfolding bind
+returns-in-Empty c = rw c.in-Empty.is (no_form _ _)
+
+pub returns-in-Long : goal.returns-in-Long
+returns-in-Long c = rw c.in-Long.is (c.encode_long_two.ensures _)
+
+pub returns-in-Word : goal.returns-in-Word
+returns-in-Word c = rw c.in-Word.is (c.encode_word_two.ensures _ _)
+
+pub returns-in-Other : goal.returns-in-Other
+unfolding bind
+returns-in-Other c = rw c.in-Other.is (no_form _ _)
