@@ -1,3 +1,5 @@
+#![tactic(auto)]
+
 // What the number of a line said (W-204): of ORG, and of data with `DC.`; by the readers of the first pass.
 ghost use Rattle.std.specs.Prelude.{◌≡◌};
 ghost use Rattle.rules.specs.Text.{leading};
@@ -8,7 +10,7 @@ use numeral::Failure;
 use numeral::unsigned::Number;
 
 // A line's number.
-#[derive(Drop)]
+#[derive(Clone, Copy)]
 pub enum LineNumber {
     Value(u32),
     Failed(Failure),

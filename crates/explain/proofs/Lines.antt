@@ -12,7 +12,6 @@ use lib.ListN.{length, get_or, get_elem?, length-append, length-map, length-take
 use Rattle.rules.specs.Limits.{max_source}
 use Rattle.rules.specs.Text.{Text, cut_at}
 use Rattle.rules.specs.Line.{size}
-use Rattle.rules.specs.Encode.{mnemonics}
 use Rattle.rules.specs.Encode.{Mnemonic}
 use Rattle.rules.specs.Answer.{and_then}
 use Rattle.rules.specs.Assemble.{Put}

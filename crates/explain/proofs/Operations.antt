@@ -27,7 +27,7 @@ use Rattle.instruction.specs.declared.Head.{Head}
 use Rattle.instruction.specs.declared.Operands.{Operands}
 use Rattle.instruction.proofs.FirstPiece.{instruction_read}
 use Rattle.instruction.proofs.Joined.{joined_there}
-use Rattle.instruction.proofs.Places.{operands_of}
+use Rattle.instruction.proofs.Places.{operands_of_lem}
 use Rattle.explain.specs.Verdict.{verdict_of}
 use Rattle.explain.specs.Form.{shape_of, forms_for, why_by}
 use Rattle.explain.specs.declared.Verdict.{Verdict}
@@ -100,7 +100,7 @@ unfolding operands_at summary
 lying t o e = go (spans 0 (cut_at 44 t)) e
   where
     x : OperandsOf t o (operands_in t)
-    x = operands_of t o e
+    x = operands_of_lem t o e
 
     go : (ss : List Span) → o ≡ summary ss → Lying t o
     go [] p = rw p (record { first = record { ordered = omega arith; inside = omega arith }; second = record { ordered = omega arith; inside = omega arith } })

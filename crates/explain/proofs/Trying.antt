@@ -4,8 +4,6 @@ use mathlib.Core.Path.{◌≡◌, refl, sym, ap, ◌∙◌}
 use mathlib.Core.Bool.{Bool, true, false, false≢true, ◌&&◌, ◌||◌, cond}
 use mathlib.Core.Option.{Option, none, some, or_else}
 use mathlib.Core.List.{List, [], ◌∷◌}
-use types.Run.{OneOf, miss}
-use denote.Enum.Declared.{tag_of}
 use Rattle.rules.specs.Text.{Text}
 use Rattle.rules.specs.Number.{no_digits, bad_digit, out_of_range}
 use Rattle.rules.specs.Label.{Table}
@@ -18,12 +16,8 @@ use Rattle.explain.specs.declared.Verdict.{Verdict}
 use Rattle.explain.specs.declared.Verdict.TheVariants.{Emitted, WrongKinds}
 use Rattle.explain.specs.declared.operand.Place.{Place}
 use Rattle.explain.specs.declared.form.Tried.{Tried}
-use Rattle.explain.specs.contracts.Verdict.{the_type}
 
 -- ---- the first of two faults
-abbrev faults : List ℕ
-faults = 1 ∷ 2 ∷ 3 ∷ 4 ∷ 5 ∷ 6 ∷ 7 ∷ 8 ∷ 9 ∷ []
-
 no_reason : (r : Reason) → verdict_of (because r) ≡ Emitted → ⊥
 no_reason not_instruction e = false≢true cc
 no_reason unknown_mnemonic e = false≢true cc
@@ -36,12 +30,12 @@ no_reason not_recorded e = false≢true cc
 no_reason out_of_reach e = false≢true cc
 
 module _ {x y : Verdict} where
-  pub fault_first : OneOf faults (tag_of the_type x) → FirstFaultGives x y x
+  pub fault_first : (x ≡ Emitted → ⊥) → FirstFaultGives x y x
   unfolding or_else unless
   fault_first h = λ o p e f. go o p e
     where
       go : (o p : Option Reason) → x ≡ fault_of o → x ≡ fault_of (or_else o p)
-      go none p e = absurd (miss faults 0 tt (rw e at h))
+      go none p e = absurd (h e)
       go (some r) p e = e
 
   pub fault_second : x ≡ Emitted → FirstFaultGives x y y

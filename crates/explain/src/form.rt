@@ -17,7 +17,7 @@ use instruction::Operands;
 use opcode::mnemonic::Operation;
 
 // The forms of two operands.
-#[derive(Drop)]
+#[derive(Clone, Copy)]
 pub enum Pairs {
     Just(Operand, Operand),
     // #u16,Dn and Dn,Dn
@@ -26,7 +26,7 @@ pub enum Pairs {
 }
 
 // What an operation takes: how many operands, and its forms.
-#[derive(Drop)]
+#[derive(Clone, Copy)]
 pub enum Shape {
     Unknown,
     Any,
@@ -36,7 +36,7 @@ pub enum Shape {
 }
 
 // Forms that were tried: whether one is met, and else the verdict by the operands' kinds.
-#[derive(Drop)]
+#[derive(Clone, Copy)]
 pub struct Tried {
     pub met: bool,
     pub otherwise: Verdict,

@@ -1,3 +1,5 @@
+#![tactic(auto)]
+
 // Why a line has no word (W-205): the first pass, then the verdict on a line, or on each line that is read.
 ghost use Rattle.std.specs.Prelude.{◌≡◌, ◌<◌};
 ghost use Rattle.rules.specs.Assemble.{over};
@@ -20,7 +22,7 @@ mod operand; // operand.rt: an operand in a place of a form
 mod form; // form.rt: the forms of an operation, in order
 
 // The verdict on a line: a word is emitted, or the first of 02's reasons that holds.
-#[derive(Drop)]
+#[derive(Clone, Copy)]
 pub enum Verdict {
     Emitted,
     NotInstruction,
@@ -38,7 +40,7 @@ pub enum Verdict {
 }
 
 // What the call answers.
-#[derive(Drop)]
+#[derive(Clone, Copy)]
 pub enum Explained {
     Line(Verdict),
     // Refused: the refusal's number, and its place as 01 and 02 say it at that number.

@@ -15,7 +15,7 @@ use numeral::unsigned::{Immediate, Number};
 use opcode::register::Register;
 
 // What a form has in a place.
-#[derive(Drop)]
+#[derive(Clone, Copy)]
 pub enum Operand {
     I8,
     U16,
@@ -29,14 +29,14 @@ pub enum Operand {
 }
 
 // Whether an operand makes the word in its place, and what is wrong with it there, `Emitted` for nothing.
-#[derive(Drop)]
+#[derive(Clone, Copy)]
 pub struct Fit {
     pub met: bool,
     pub fault: Verdict,
 }
 
 // The same, and whether its kind is that of the place; so of all operands of a form.
-#[derive(Drop)]
+#[derive(Clone, Copy)]
 pub struct Place {
     pub met: bool,
     pub stands: bool,
@@ -243,20 +243,20 @@ fn fit_in(source: &[u8], table: &[u32], labels: usize, address: u32, x: Operand,
 
 // ---- Kinds.
 
-// The kind that stands in a place.
+// The kind that stands in a place. Of one `match` with 0 to 4 the compiler makes a table of them.
 fn kind_for(x: Operand) -> u8
     ensures { result ≡ kind_number (kind_for (operand_of x)) }
 {
     match x {
-        Operand::I8 => 0,
-        Operand::U16 => 0,
-        Operand::HashLabel => 0,
-        Operand::Dn => 1,
-        Operand::An => 2,
-        Operand::AtAn => 3,
         Operand::Label => 4,
         Operand::JumpTarget => 4,
         Operand::BranchTarget => 4,
+        _ => match x {
+            Operand::Dn => 1,
+            Operand::An => 2,
+            Operand::AtAn => 3,
+            _ => 0,
+        },
     }
 }
 

@@ -1,3 +1,5 @@
+#![tactic(auto)]
+
 // Which label an address is near (W-201): the first pass, then one walk over the labels recorded.
 ghost use Rattle.std.specs.Prelude.{◌≡◌, ◌≤◌, length};
 ghost use Rattle.label.specs.Table.{cell_of};
@@ -8,7 +10,7 @@ use first::Entered;
 use label::Row;
 
 // What the call answers.
-#[derive(Drop)]
+#[derive(Clone, Copy)]
 pub enum Nearest {
     // The label's start and length in the source, where it was recorded last, and how far past it the address is.
     Label(usize, usize, u32),
@@ -17,7 +19,7 @@ pub enum Nearest {
 }
 
 // The nearest of the labels looked at, if there is one at or below the address.
-#[derive(Drop)]
+#[derive(Clone, Copy)]
 enum Best {
     At(Row),
     Nothing,

@@ -6,11 +6,10 @@ use Prim.Native.Nat.{ℕ, suc, ◌+◌, ◌^◌, ◌≤◌, ◌<◌, min, max}
 use native.Mathlib.Omega.{arith}
 use native.Mathlib.Nat.{max-zero}
 use borrow.Author.Tests.{ltb-true, ltb-false, lt-ltb, le-ltb, le-leb, lt-leb}
-use lib.Dec.{leb, ltb}
+use lib.Dec.{ltb}
 use Rattle.rules.specs.Text.{Text}
 use Rattle.rules.specs.Answer.{accepted, refused, refuse_if}
 use Rattle.requests.specs.Sheet.{max_sources, max_total, Totals as Said, totals, numbers_in, source_sheet, plus, sources, any_over, add_source, add_sheet}
-use Rattle.promises.proofs.SheetSums.{Within}
 use Rattle.promises.proofs.Sheet.{own_within}
 use Rattle.sheet.specs.Totals.{said, SumFits, UpTo, highest_of}
 use Rattle.sheet.specs.declared.Totals.{Totals}

@@ -1,12 +1,11 @@
 -- A source's own totals, from what the first pass left to the source's sheet. Assumes nothing.
-use mathlib.Core.Path.{◌≡◌, refl, sym, ap, ◌∙◌}
-use mathlib.Core.List.{List, []}
-use Prim.Native.Nat.{ℕ, ◌+◌, ◌-◌, ◌*◌, ◌≤◌, ◌<◌}
+use mathlib.Core.Path.{◌≡◌, sym, ap, ◌∙◌}
+use mathlib.Core.List.{List}
+use Prim.Native.Nat.{ℕ, ◌-◌, ◌*◌}
 use native.Mathlib.Omega.{arith}
 use lib.ListN.{length}
-use Rattle.rules.specs.Limits.{max_lines}
 use Rattle.rules.specs.Text.{Text, cut_at}
-use Rattle.rules.specs.Line.{lines_of, size}
+use Rattle.rules.specs.Line.{size}
 use Rattle.rules.specs.Answer.{accepted, refused}
 use Rattle.rules.specs.Assemble.{checks, pass_at_by, pass_at}
 use Rattle.requests.specs.Sheet.{Totals as Said, one_refused, accepted_sheet, answer_sheet, source_sheet, plus}
@@ -14,13 +13,12 @@ use Rattle.promises.proofs.SheetClasses.{read_few}
 use Rattle.answer.specs.Answer.{answer_of}
 use Rattle.answer.specs.declared.Answer.{Answer}
 use Rattle.answer.specs.declared.Answer.TheVariants.{Accepted, Refused}
-use Rattle.source.specs.Clear.{Clear}
 use Rattle.source.proofs.Callers.{checks_clear, cleared, stopped}
 use Rattle.label.specs.Table.{table_of}
 use Rattle.label.proofs.Table.{table_length}
 use Rattle.cells.specs.Puts.{puts_of}
 use Rattle.cells.proofs.Puts.{puts_length}
-use Rattle.first.specs.Pass.{pass_in, Lent, FirstPassNeeds, FirstPassGives, EnterGives, Holds}
+use Rattle.first.specs.Pass.{pass_in, FirstPassNeeds, FirstPassGives, EnterGives}
 use Rattle.first.specs.declared.Pass.{Pass}
 use Rattle.first.specs.declared.Entered.{Entered}
 use Rattle.first.specs.declared.Entered.TheVariants.{Done, Refused as Stopped}

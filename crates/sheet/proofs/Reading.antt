@@ -1,6 +1,6 @@
 -- The walk over the kept lines: what it owes to each call, and the totals of the lines before. Assumes nothing.
 use mathlib.Core.Path.{◌≡◌, refl, sym, ap, ap₂, ◌∙◌}
-use mathlib.Core.List.{List, [], ◌∷◌, ◌++◌, flat_map}
+use mathlib.Core.List.{List, [], ◌∷◌, flat_map}
 use Prim.Native.Nat.{ℕ, suc, ◌+◌, ◌*◌, ◌^◌, ◌≤◌, ◌<◌}
 use native.Mathlib.Numerals.{add-one}
 use native.Mathlib.Omega.{arith}
@@ -21,7 +21,6 @@ use Rattle.cells.specs.Cells.{after_by, kept_at}
 use Rattle.cells.specs.Puts.{address_at, put_at, puts_of}
 use Rattle.cells.specs.declared.Kept.{Kept}
 use Rattle.cells.proofs.Tasks.{after_kept}
-use Rattle.first.specs.Pass.{Holds}
 use Rattle.first.specs.declared.Pass.{Pass}
 use Rattle.first.proofs.Callers.{bounded}
 use Rattle.encode.specs.Code.{code_of}

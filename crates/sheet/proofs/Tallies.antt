@@ -1,18 +1,16 @@
 -- Totals by their lines: one line more, all lines of an accepted source, and how low they are. Assumes nothing.
 use mathlib.Core.Path.{◌≡◌, refl, sym, ap, ◌∙◌}
 use mathlib.Core.Bool.{Bool, true, false, cond}
-use mathlib.Core.List.{List, [], ◌∷◌, ◌++◌, map, flat_map, append-nil, append_assoc, map-append}
-use Prim.Native.Nat.{ℕ, zero, suc, ◌+◌, ◌-◌, ◌*◌, ◌≤◌, max}
+use mathlib.Core.List.{List, [], ◌∷◌, ◌++◌, flat_map, append_assoc, map-append}
+use Prim.Native.Nat.{ℕ, zero, suc, ◌+◌, ◌-◌}
 use native.Mathlib.Omega.{arith}
 use lib.Dec.{eqb}
 use lib.ListN.{length, replicate, length-append}
 use Rattle.rules.specs.Text.{Text, cut_at}
-use Rattle.rules.specs.Line.{instruction, instruction_of}
 use Rattle.rules.specs.Label.{Table}
-use Rattle.rules.specs.Assemble.{Put, Pass as Ruled, Place, place, places_at, data_contents, code_contents_by, data_places, code_places_by, code_places, second_pass_by}
+use Rattle.rules.specs.Assemble.{Put, Pass as Ruled, Place, places_at, data_contents, code_contents_by, data_places, code_places_by, code_places, second_pass_by}
 use Rattle.requests.specs.Sheet.{Class, skip, origin, bare_label, datum, emitting, wordless, ending, class_number, word_class, class_of, read_classes, classes, how_many, marked_in, Totals as Said, totals, plus, accepted_sheet}
 use Rattle.text.specs.declared.Span.{Span}
-use Rattle.line.specs.Line.{task_at}
 use Rattle.line.specs.declared.Task.{Task}
 use Rattle.line.specs.declared.Task.TheVariants.{Skipped, End, Org, NoOrg, LabelOnly, Instruction, Value, Space}
 use Rattle.encode.specs.Code.{places_of}

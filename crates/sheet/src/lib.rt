@@ -1,3 +1,5 @@
+#![tactic(auto)]
+
 // One sheet for a plant (W-214): totals over a series of sources, each at base 0. A source's totals are those of its lines, added up
 // from the lines that the first pass kept; no list is written. Refusals 20 and 21.
 ghost use Rattle.std.specs.Prelude.{◌≡◌, ◌≤◌};
@@ -22,7 +24,7 @@ pub const MAX_SOURCES: u64 = 1000000;
 pub const MAX_TOTAL: u64 = 8589934592;
 
 // The totals of a series of sources.
-#[derive(Drop)]
+#[derive(Clone, Copy)]
 pub struct Totals {
     // Lines, each in one class.
     pub skipped: u64,
@@ -47,7 +49,7 @@ pub struct Totals {
 }
 
 // What the calls answer.
-#[derive(Drop)]
+#[derive(Clone, Copy)]
 pub enum Added {
     Sum(Totals),
     // Refused: 20 or 21, and its place.

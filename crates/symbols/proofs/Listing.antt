@@ -70,6 +70,7 @@ told_by_start source cells (suc n) {x} i = go (in_append (table_of source cells 
   where
     last : In x (row source cells n ∷ []) → x.line ≡ line_number source x.start
     last (head e) = rw e
+    last (tail i) = elim i [ ]
 
     go : In x (table_of source cells n) ⊎ In x (row source cells n ∷ []) → (In x (table_of source cells n) → x.line ≡ line_number source x.start)
         → x.line ≡ line_number source x.start

@@ -1,3 +1,5 @@
+#![tactic(auto)]
+
 // The labels of a source with their lines (W-202): the first pass, then one walk over the labels in the order in which they start.
 ghost use Rattle.std.specs.Prelude.{◌≡◌, ◌≤◌, length};
 ghost use Rattle.requests.specs.Symbols.{rows, short_rows};

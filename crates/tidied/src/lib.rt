@@ -1,3 +1,5 @@
+#![tactic(auto)]
+
 // The tidy copy of a source (W-212): each line that is read, written one after another. A copy is never longer than its source, so the
 // writers ask for as much room as the text that they copy has.
 ghost use Rattle.std.specs.Prelude.{◌≡◌, ◌+◌, ◌<◌, ◌≤◌, length, take};
@@ -79,7 +81,7 @@ fn write_parts(s: &[u8], out: &mut [u8], n: usize) -> usize
 // ---- The lines.
 
 // How a line is copied: whether at all, and whether its colons are treated.
-#[derive(Drop)]
+#[derive(Clone, Copy)]
 struct Way {
     kept: bool,
     parted: bool,

@@ -212,9 +212,11 @@ Leads s t = (p : Text) → Sign p → leads p t ≡ leads p s
 
 pub holds_same : (s t : Text) → pieces t ≡ pieces s → Holds s t
 holds_same s t e (a ∷ p) (sign b c) = hits_same b t s e
+holds_same s t e [] i = elim i [ ]
 
 pub holds_beside : (l r l' r' : Text) → pieces l' ≡ pieces l → pieces r' ≡ pieces r → Holds (l ++ (58 ∷ r)) (l' ++ (58 ∷ r'))
 holds_beside l r l' r' e f (a ∷ p) (sign b c) = rw (hits_beside c l r, hits_beside c l' r', hits_same b l' l e, hits_same b r' r f)
+holds_beside l r l' r' e f [] i = elim i [ ]
 
 eqb_swap : (a b : ℕ) → eqb a b ≡ eqb b a
 eqb_swap a b = go (eqb a b) refl

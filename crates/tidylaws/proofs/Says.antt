@@ -1,22 +1,25 @@
 -- Each line's copy is what 02 says of it, and the copy has the copies of the lines that are kept. Assumes nothing.
 use mathlib.Core.Path.{◌≡◌, refl, sym, ap, ◌∙◌}
 use mathlib.Core.Logic.{◌≢◌}
-use mathlib.Core.List.{List, [], ◌∷◌, map}
-use Rattle.rules.specs.Text.{Text, trim, cut_at}
+use mathlib.Core.List.{List, [], ◌∷◌, ◌++◌, map}
+use Rattle.rules.specs.Text.{Text, trim, cut_at, around, first_cut}
 use Rattle.requests.specs.Tidy.{squeezed, tidy_rest, tidy_line, tidy_lines, parted, tidy}
 use Rattle.promises.specs.Tidy.{Kind, skip, fin, origin, step4, kind_of, up_to_end, without_skipped, lines_kept, CopyHasLines, CopyOf, end_line, org_line, no_colon, not_data, one_colon, two_colons, LinesAreCopied}
 use Rattle.promises.proofs.Compared.{clash}
-use Rattle.tidylaws.proofs.Shapes.{around_none, around_some, rest_data, rest_code, code, data_whole, data_parts, Open, open_whole, open_parts, open_of, copy_by, copy_by_lem, before_by, lines_more}
+use Rattle.tidylaws.proofs.Shapes.{around_none, around_some, rest_data, rest_code, Rest, code, data_whole, data_parts, Open, open_whole, open_parts, open_of, copy_by, copy_by_lem, before_by, lines_more}
 use Rattle.tidylaws.proofs.Spaced.{squeezes_trim, squeezes_is}
 use Rattle.tidylaws.proofs.Passes.{LinesOf, same_lines, one_line, lines_of_lem}
 
 -- ---- a line
 module _ (l : Text) where
+  says_rest : {n : Text} (r : Text) {t : Text} → kind_of (trim l) ≡ step4 → first_cut 58 (trim l) ≡ around n r → Rest (trim r) t → CopyOf l (trim n ++ (58 ∷ t))
+  says_rest r e f (code g) = not_data e f g (squeezes_trim r)
+  says_rest r e f (data_whole g h) = one_colon e f g h (squeezes_trim r)
+  says_rest r e f (data_parts {l = m} {r = d} g h) = two_colons e f g h (squeezes_trim d)
+
   says_open : {t : Text} → kind_of (trim l) ≡ step4 → Open (trim l) t → CopyOf l t
   says_open e (open_whole f) = no_colon e f (squeezes_trim l)
-  says_open e (open_parts {l = n} {r} f (code g)) = not_data e f g (squeezes_trim r)
-  says_open e (open_parts {l = n} {r} f (data_whole g h)) = one_colon e f g h (squeezes_trim r)
-  says_open e (open_parts {l = n} {r} f (data_parts {l = m} {r = d} g h)) = two_colons e f g h (squeezes_trim d)
+  says_open e (open_parts {r = r} f q) = says_rest r e f q
 
   says : (k : Kind) → kind_of (trim l) ≡ k → k ≢ skip → CopyOf l (copy_by k (trim l))
   unfolding copy_by

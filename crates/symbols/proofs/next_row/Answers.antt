@@ -1,0 +1,16 @@
+-- `next_row` has before each row the next of the rows from there on. Assumes nothing.
+use native.Mathlib.Omega.{arith}
+use Rattle.symbols.proofs.Next.{walk_start, walk_on, walk_end}
+use Rattle.symbols.proofs.next_row.Goals as goal
+
+pub loop-k-init : goal.loop-k-init
+loop-k-init c = walk_start _ _ _ c.no_row-best.ensures
+
+pub read_row-requires : goal.read_row-requires
+read_row-requires c = omega (arith, c.loop-k.invariant.within)
+
+pub loop-k-preserved : goal.loop-k-preserved
+loop-k-preserved c = walk_on c.loop-k.invariant (omega arith) c.read_row.ensures c.earlier_row-best.ensures
+
+pub returns : goal.returns
+returns c = walk_end c.loop-k.invariant (omega arith)
