@@ -1,3 +1,5 @@
+#![tactic(auto)]
+
 // The machine's sums and flags, in unsigned numbers of 64 bits. `h` is half of what an operation's size holds; a signed
 // number is the difference of two that are not.
 ghost use Rattle.std.specs.Prelude.{◌≡◌, not, ◌&&◌, ◌||◌, ◌+◌, ◌*◌, ◌/◌, ◌≤◌, ◌<◌, ◌^◌, pos, ◌+ℤ◌};

@@ -1,3 +1,5 @@
+#![tactic(auto)]
+
 // What a word is to the machine of W-213: a form, the halt, or neither.
 ghost use Rattle.std.specs.Prelude.{◌≡◌, ◌<◌};
 ghost use Rattle.machine.specs.Form.{listed};

@@ -1,3 +1,5 @@
+#![tactic(auto)]
+
 // Moves made one after another: each gets the slices as the move before left them. Demand 3's tally, on code.
 ghost use Rattle.rules.specs.Assemble.{slices};
 ghost use Rattle.moves.specs.Moves.{RelocateAllNeeds, RelocateAllGives};

@@ -1,3 +1,5 @@
+#![tactic(auto)]
+
 // The mover: it relocates a list in place, by a signed distance.
 ghost use Rattle.std.specs.Prelude.{◌≡◌, ◌+◌, ◌/◌, ◌^◌, ◌<◌, ◌≤◌, max, false, length, pos, ◌+ℤ◌, if◌then◌else◌, nat_eq, slice_index};
 ghost use Rattle.std.proofs.Math.Option.{none};
@@ -19,14 +21,14 @@ const MAX_DISTANCE: i32 = 1073741823;
 const LAST_ADDRESS: i64 = 1073741825;
 
 // The lowest index of what is looked for, if there is one.
-#[derive(Drop)]
+#[derive(Clone, Copy)]
 pub enum Found {
     At(usize),
     Nothing,
 }
 
 // A move's answer and, if it is accepted, the highest mark: 0 and 1 tell that there are no pairs.
-#[derive(Drop)]
+#[derive(Clone, Copy)]
 pub struct Judged {
     pub answer: Answer,
     pub top: u8,

@@ -1,3 +1,5 @@
+#![tactic(auto)]
+
 // One step of the machine of W-213: which it is, and whether it may be made; and what it does. Data registers and memory are
 // lent, flags and program counter go by value. A form's contract is its row of `act_of`, over all that the form does not look at.
 ghost use Rattle.std.specs.Prelude.{◌≡◌, ℕ, ◌+◌, ◌<◌, ◌≤◌, true, List, slice_index};

@@ -1,3 +1,5 @@
+#![tactic(auto)]
+
 // The bench (W-213): a list is filled into the memory and run, with a limit of steps, or refused before any step.
 ghost use Rattle.std.specs.Prelude.{◌≡◌, ◌+◌, ◌≤◌, length, replicate};
 ghost use Rattle.std.proofs.Math.Option.{none};
@@ -17,7 +19,7 @@ use step::{act, judge};
 const LAST_PLACE: u32 = 16382;
 
 // What the bench answers.
-#[derive(Drop)]
+#[derive(Clone, Copy)]
 pub enum Benched {
     // The run that was made.
     Made(Ran),
