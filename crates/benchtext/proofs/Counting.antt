@@ -1,6 +1,6 @@
 -- Reading LIMIT, a decimal number of 64 bits. Assumes nothing.
 use Prim.Native.Nat.{ℕ, ◌+◌, ◌*◌, ◌^◌, ◌<◌, ◌≤◌}
-use mathlib.Core.Path.{◌≡◌, refl, sym, ◌∙◌}
+use mathlib.Core.Path.{◌≡◌, refl}
 use mathlib.Core.Bool.{Bool, true, false}
 use mathlib.Core.Option.{none}
 use mathlib.Core.List.{[], ◌∷◌}
@@ -9,9 +9,9 @@ use native.Mathlib.Omega.{arith}
 use lib.Dec.{ltb}
 use lib.ListN.{length, get_or, drop, drop_of_length-le}
 use lib.Seq.{drop-cons}
-use borrow.Author.Tests.{lt-ltb, le-ltb, ltb-true}
+use borrow.Author.Tests.{lt-ltb, le-ltb}
 use Rattle.rules.specs.Text.{Text}
-use Rattle.rules.specs.Number.{Reading, read, failed, digit_value, digits, some_digits, ranged, below, value_of}
+use Rattle.rules.specs.Number.{digit_value, digits, some_digits, ranged, below, value_of}
 use Rattle.benchtext.specs.declared.arguments.Limit.TheVariants.{Value, Bad}
 use Rattle.benchtext.specs.Arguments.{limit_of, decimal_in}
 

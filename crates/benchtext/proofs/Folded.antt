@@ -1,9 +1,8 @@
 -- One argument after another: a number that was read, and one that was not. Assumes nothing.
-use Prim.Native.Nat.{ℕ, ◌+◌}
+use Prim.Native.Nat.{ℕ}
 use mathlib.Core.Path.{◌≡◌, refl, ap}
 use mathlib.Core.Option.{Option, none, some}
 use native.Mathlib.Omega.{arith}
-use lib.ListN.{set}
 use Rattle.rules.specs.Number.{Reading, read, failed}
 use Rattle.numeral.specs.Number.{number_of}
 use Rattle.numeral.specs.declared.unsigned.Number.TheVariants.{Value as Read, Failed}

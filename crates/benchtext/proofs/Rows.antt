@@ -5,7 +5,7 @@ use mathlib.Core.Bool.{Bool, true, false, cond, false≢true}
 use mathlib.Core.List.{List, [], ◌∷◌, ◌++◌, map}
 use native.Mathlib.Omega.{arith}
 use lib.Dec.{eqb}
-use lib.ListN.{length, get_or, take, drop, replicate, length-append, length-map, get_or-append}
+use lib.ListN.{length, take, replicate, length-append, length-map, get_or-append}
 use borrow.Author.Tests.{le-ltb}
 use Rattle.rules.specs.Text.{Text}
 use Rattle.rules.specs.Assemble.{Place, Slices, over, holding}
@@ -22,7 +22,7 @@ use Rattle.station.proofs.Moving.{first_front}
 use Rattle.station.proofs.Front.{parsed_front}
 use Rattle.station.proofs.Kept.{take_lesser}
 use Rattle.machine.specs.Machine.{run_of}
-use Rattle.machine.specs.Bench.{clear, placed, fill_of, state_at, short_list, bench_answer, bench_of}
+use Rattle.machine.specs.Bench.{clear, fill_of, state_at, short_list, bench_answer, bench_of}
 use Rattle.benchtext.specs.declared.arguments.Given.{Given}
 use Rattle.benchtext.specs.BenchText.{with_value, run_line, threshold, value_at, words_for, row_of, tried_rows, rows_of, registers_of, start_of, addresses_in, words_in, parsed_row, parsed_rows, row_text, row_count, input_row, input_rows}
 

@@ -9,7 +9,7 @@ use station::arguments::hexadecimal;
 use text::starts_with;
 
 // The arguments so far.
-#[derive(Drop)]
+#[derive(Clone, Copy)]
 pub struct Given {
     // The place of the next one: 0 before the first.
     pub place: usize,
@@ -26,7 +26,7 @@ pub struct Given {
 // ---- Numbers.
 
 // LIMIT as it is read.
-#[derive(Drop)]
+#[derive(Clone, Copy)]
 pub enum Limit {
     Value(u64),
     Bad,

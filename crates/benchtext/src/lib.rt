@@ -1,3 +1,5 @@
+#![tactic(auto)]
+
 // What `bench` prints for a list (W-213): the line of a run, or of one for each value of a threshold.
 pub mod arguments;
 

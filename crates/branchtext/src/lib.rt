@@ -1,3 +1,5 @@
+#![tactic(auto)]
+
 // What `asmlist` and `whyline` print for a script that was read chunk by chunk, and under a branch table that was read before it
 // where one is lent (W-210).
 ghost use Rattle.std.specs.Prelude.{◌≡◌, ◌≤◌, min, length as len, take};

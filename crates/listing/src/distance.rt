@@ -5,7 +5,7 @@ ghost use Rattle.listing.specs.Distance.{distance_of};
 
 use numeral::signed::{Signed, read_signed};
 
-#[derive(Drop)]
+#[derive(Clone, Copy)]
 pub enum Distance {
     Value(i32),
     Bad,

@@ -1,3 +1,5 @@
+#![tactic(auto)]
+
 // The text of a list, by paper 01's station examples: written, and read back.
 pub mod writing; // writing.rt: a line for each word, and the line of a refusal
 pub mod reading; // reading.rt: the list of a text in that form

@@ -9,7 +9,7 @@ use numeral::digit::digit_value;
 use text::starts_with;
 
 // What a text comes to.
-#[derive(Drop)]
+#[derive(Clone, Copy)]
 pub enum Parsed {
     // So many lines, each of a word.
     Count(usize),

@@ -1,3 +1,5 @@
+#![tactic(auto)]
+
 // What `manlist` prints for a script that was read chunk by chunk: its list by the manual's own words (W-207).
 ghost use Rattle.std.specs.Prelude.{◌≡◌, ◌≤◌, length as len, take};
 ghost use Rattle.rules.specs.Text.{Text};

@@ -1,3 +1,5 @@
+#![tactic(auto)]
+
 // What `nearlabel` prints for a script that was read chunk by chunk: the label nearest to an address (W-201); and what its
 // arguments ask.
 ghost use Rattle.std.specs.Prelude.{◌≡◌, ◌≤◌, length as len, take};
@@ -16,7 +18,7 @@ use station::input::Input;
 use station::{SCRIPT, TEXT};
 
 // What the arguments ask.
-#[derive(Drop)]
+#[derive(Clone, Copy)]
 pub enum Asked {
     // For the label near an address, the script at a base.
     At(u32, u32),

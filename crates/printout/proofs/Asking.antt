@@ -1,7 +1,7 @@
 -- Which line asks what: the lines that an accepted pass reads, and END behind them. Assumes nothing.
 use Prim.Native.Nat.{ℕ, zero, suc, ◌+◌, ◌≤◌, ◌<◌}
 use mathlib.Core.Path.{◌≡◌, refl, ap}
-use mathlib.Core.Option.{Option, none, some}
+use mathlib.Core.Option.{Option, some}
 use mathlib.Core.List.{List, [], ◌∷◌, ◌++◌}
 use native.Mathlib.Omega.{arith}
 use lib.ListN.{length, get_or, get_elem?}
@@ -37,7 +37,7 @@ asked base a t [] = over
 asked base a t (l ∷ ls) =
     pass_line size base a t l ls (Holds (λ (p : Pass). Asks p.puts (l ∷ ls)))
     (λ k. stops k) (λ k o. tt) (λ t' k o v. tt)
-    (λ t' k o v. holds_then (λ (p : Pass). Asks p.puts ls) (λ (p : Pass). Asks p.puts (l ∷ ls)) (first_pass_by size base _ t' ls) (putting a task) (asked base _ t' ls)
+    (λ t' k o v. holds_then (λ (p : Pass). Asks p.puts ls) (λ (p : Pass). Asks p.puts (l ∷ ls)) (first_pass_by size base _ t' ls) (putting a task) (asked base (address_after size base a (line_of l.text).task) t' ls)
     (λ p h. goes refl h))
   where
     task : Task
@@ -95,12 +95,12 @@ unfolding end_at
 end_last base a [] j u e f = clash cc
 end_last base a (v ∷ []) zero u e f = let x : v ≡ u = cc in rw x
 end_last base a (v ∷ w ∷ us) zero u e f = absurd (omega arith)
-end_last base a (v ∷ us) (suc j) u e f = end_last base _ us j u (omega arith) f
+end_last base a (v ∷ us) (suc j) u e f = end_last base (address_after size base v.address v.task) us j u (omega arith) f
 
 end_below : (base a : ℕ) (us : List Put) → a < address_limit → ((j : ℕ) (u : Put) → get_elem? us j ≡ some u → address_after size base u.address u.task < address_limit) → end_at base a us < address_limit
 unfolding end_at
 end_below base a [] h f = h
-end_below base a (u ∷ us) h f = end_below base _ us (f 0 u refl) (λ j v e. f (suc j) v e)
+end_below base a (u ∷ us) h f = end_below base (address_after size base u.address u.task) us (f 0 u refl) (λ j v e. f (suc j) v e)
 
 pub end_low : (base : ℕ) (s : Text) (p : Pass) → pass_at base s ≡ accepted p → end_at base base p.puts < address_limit
 end_low base s p e = end_below base base p.puts (limits base s p e).low (λ j u f. (put_low base s p e j u f).after)

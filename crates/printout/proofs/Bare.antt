@@ -78,13 +78,13 @@ pub rows_ended : (names : List Mnemonic) (t : Table) (base a : ℕ) (us : List P
 unfolding rows_from row_lines flat_map
 rows_ended names t base a us [] = refl
 rows_ended names t base a [] (l ∷ ls) = rw (read_ended names t (end_put a) l, unreads_ended ls)
-rows_ended names t base a (u ∷ us) (l ∷ ls) = rw (read_ended names t u l, rows_ended names t base _ us ls)
+rows_ended names t base a (u ∷ us) (l ∷ ls) = rw (read_ended names t u l, rows_ended names t base (address_after size base u.address u.task) us ls)
 
 pub rows_count : (names : List Mnemonic) (t : Table) (base a : ℕ) (us : List Put) (ls : List SourceLine) → length (row_lines names t base a us ls) ≡ length ls
 unfolding row_lines
 rows_count names t base a us [] = refl
 rows_count names t base a [] (l ∷ ls) = ap suc (length-map ls bare_unread)
-rows_count names t base a (u ∷ us) (l ∷ ls) = ap suc (rows_count names t base _ us ls)
+rows_count names t base a (u ∷ us) (l ∷ ls) = ap suc (rows_count names t base (address_after size base u.address u.task) us ls)
 
 -- ---- none has a byte 10
 padded_whole : (n : ℕ) → Unbroken (padded n)
@@ -159,7 +159,7 @@ pub rows_whole : (names : List Mnemonic) (t : Table) (base a : ℕ) (us : List P
 unfolding row_lines
 rows_whole names t base a us [] h = tt
 rows_whole names t base a [] (l ∷ ls) h = (read_whole names t (end_put a) l h.0, unreads_whole ls h.1)
-rows_whole names t base a (u ∷ us) (l ∷ ls) h = (read_whole names t u l h.0, rows_whole names t base _ us ls h.1)
+rows_whole names t base a (u ∷ us) (l ∷ ls) h = (read_whole names t u l h.0, rows_whole names t base (address_after size base u.address u.task) us ls h.1)
 
 pub numbered_whole : (n i : ℕ) (ts : List Text) → AllUnbroken ts → All LineWhole (numbered n i ts)
 unfolding numbered

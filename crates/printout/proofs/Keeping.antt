@@ -43,7 +43,7 @@ few_asked base a t [] = omega arith
 few_asked base a t (l ∷ ls) =
     pass_line size base a t l ls (Kept (λ (p : Ruled). length p.puts ≤ length (l ∷ ls)))
     (λ k. omega arith) (λ k o. tt) (λ t' k o v. tt)
-    (λ t' k o v. holds_then (λ (p : Ruled). length p.puts ≤ length ls) (λ (p : Ruled). length p.puts ≤ length (l ∷ ls)) (first_pass_by size base _ t' ls) (putting a task) (few_asked base _ t' ls)
+    (λ t' k o v. holds_then (λ (p : Ruled). length p.puts ≤ length ls) (λ (p : Ruled). length p.puts ≤ length (l ∷ ls)) (first_pass_by size base _ t' ls) (putting a task) (few_asked base (address_after size base a (line_of l.text).task) t' ls)
     (λ p h. omega arith))
   where
     task : Said

@@ -1,3 +1,5 @@
+#![tactic(auto)]
+
 // What `lagvettu list` prints for a source, an assembly listing for people: a row for each line with its address and its words, or
 // why it has none, and the labels under the rows. It goes by the lines that the first pass kept.
 // `lent` and `names` are the names in use, as in `branches`.

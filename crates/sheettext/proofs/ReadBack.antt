@@ -1,21 +1,18 @@
 -- A sheet read back: the loops, and what the answer says; every sheet that is written is read as its totals, and nothing else is. Assumes nothing.
-use Prim.Native.Nat.{ℕ, zero, suc, ◌+◌, ◌-◌, ◌*◌, ◌/◌, ◌%◌, ◌^◌, ◌<◌, ◌≤◌, min}
-use mathlib.Core.Path.{◌≡◌, refl, sym, ap, ap₂, ◌∙◌}
-use mathlib.Core.Bool.{Bool, true, false, ◌&&◌, cond}
-use mathlib.Core.List.{List, [], ◌∷◌, ◌++◌, append_assoc, append-nil}
-use native.Mathlib.Nat.{pow-suc}
+use Prim.Native.Nat.{ℕ, suc, ◌+◌, ◌-◌, ◌*◌, ◌^◌, ◌<◌, ◌≤◌, min}
+use mathlib.Core.Path.{◌≡◌, refl, sym, ap, ◌∙◌}
+use mathlib.Core.Bool.{Bool, true, false, cond}
+use mathlib.Core.List.{List, [], ◌∷◌}
 use native.Mathlib.Numerals.{add-one}
 use native.Mathlib.Omega.{arith}
-use borrow.Author.Tests.{eqb-true, eq-eqb, ne_eqb, le-leb, lt-leb, leb-true, lt-ltb, le-ltb, ltb-true, ltb-false}
-use lib.Dec.{eqb, leb, ltb}
-use lib.ListN.{length, take, drop, get_or, set, replicate, length-set, drop_of_length-le}
+use borrow.Author.Tests.{eq-eqb, ne_eqb, le-leb, lt-leb, lt-ltb, le-ltb}
+use lib.Dec.{eqb}
+use lib.ListN.{length, take, drop, get_or, set, drop_of_length-le}
 use lib.Seq.{drop-cons, length-take-le}
-use Rattle.rules.specs.Text.{Text, bytes, cut_at}
-use Rattle.requests.specs.Sheet.{totals, mean_of}
+use Rattle.rules.specs.Text.{Text, cut_at}
 use Rattle.requests.specs.Sheet.{Totals as Said}
-use Rattle.listing.specs.Listing.{digit_byte, digits_of, decimal_places_by, decimal_places, decimal}
 use Rattle.sheettext.specs.Rows.{sheet_text}
-use Rattle.sheettext.specs.Back.{with_byte, next_row, read_from, totals_in, same_front, Read, is_sheet, wrong, judged, sheet_in}
+use Rattle.sheettext.specs.Back.{with_byte, next_row, read_from, totals_in, same_front, is_sheet, wrong, judged, sheet_in}
 
 -- ---- the rows' numbers, byte by byte
 pub row_low : (row b : ℕ) → row ≤ 12 → next_row row b ≤ 12

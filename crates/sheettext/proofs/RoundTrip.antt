@@ -1,21 +1,21 @@
 -- A sheet that is written is read as its totals, row by row; and nothing else is read. Assumes nothing.
 use Prim.Native.Nat.{ℕ, zero, suc, ◌+◌, ◌-◌, ◌*◌, ◌/◌, ◌%◌, ◌^◌, ◌<◌, ◌≤◌, min}
 use mathlib.Core.Path.{◌≡◌, refl, sym, ap, ap₂, ◌∙◌}
-use mathlib.Core.Bool.{Bool, true, false, ◌&&◌, ◌||◌, not, cond}
+use mathlib.Core.Bool.{Bool, true, false, ◌&&◌, not, cond}
 use mathlib.Core.List.{List, [], ◌∷◌, ◌++◌}
 use native.Mathlib.Nat.{pow-suc}
 use native.Mathlib.Omega.{arith}
-use borrow.Author.Tests.{eqb-true, eq-eqb, le-leb, leb-true, leb-false, lt-leb, lt-ltb, ltb-true, ltb-false}
+use borrow.Author.Tests.{eqb-true, eq-eqb, le-leb, lt-ltb, ltb-true, ltb-false}
 use lib.Dec.{eqb, leb, ltb}
 use lib.ListN.{length, take, get_or, set, replicate, length-set}
 use lib.Seq.{get_or-set_other}
 use Rattle.rules.specs.Text.{Text, bytes, cut_at}
-use Rattle.requests.specs.Sheet.{Totals as Said, totals, numbers_in, mean_of}
+use Rattle.requests.specs.Sheet.{Totals as Said, numbers_in, mean_of}
 use Rattle.promises.specs.Nearest.{In, head, tail}
 use Rattle.listing.specs.Listing.{digit_byte, digits_of, decimal_places_by, decimal_places, decimal}
 use Rattle.sheet.specs.Totals.{lent_totals}
 use Rattle.sheettext.specs.Rows.{part_text, plain_text, code_text, counts_text, mean_text, sheet_text}
-use Rattle.sheettext.specs.Back.{with_byte, next_row, read_from, totals_in, same_front, Read, is_sheet, wrong, judged, sheet_in}
+use Rattle.sheettext.specs.Back.{with_byte, next_row, read_from, totals_in, same_front, is_sheet, wrong, judged, sheet_in}
 use Rattle.sheettext.specs.Trips.{SheetsReadBack}
 
 -- two constructors are never equal

@@ -6,7 +6,7 @@ ghost use Rattle.sheettext.specs.Arguments.{no_argument, with_argument, is_whole
 use text::starts_with;
 
 // The arguments so far.
-#[derive(Drop)]
+#[derive(Clone, Copy)]
 pub struct Given {
     // The last one was `-t`: a sheet's name is due.
     pub due: bool,

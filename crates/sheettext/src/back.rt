@@ -8,7 +8,7 @@ use crate::rows::write_sheet;
 use sheet::Totals;
 
 // What a text is.
-#[derive(Drop)]
+#[derive(Clone, Copy)]
 pub enum Sheet {
     Totals(Totals),
     // No sheet: its first wrong line.

@@ -1,3 +1,5 @@
+#![tactic(auto)]
+
 // What `plantsheet` prints, and what a step of it comes to: a script or a sheet that was read is added to the totals (W-214).
 ghost use Rattle.std.specs.Prelude.{◌≡◌, ◌≤◌, length as len, take};
 ghost use Rattle.rules.specs.Text.{Text};
@@ -27,7 +29,7 @@ pub mod files; // files.rt: one file after another
 pub const SHEET: usize = 512;
 
 // What a step comes to: totals to go on with, or why there is no going on.
-#[derive(Drop)]
+#[derive(Clone, Copy)]
 pub enum Step {
     Sum(Totals),
     // Refused: 20 or 21, and its place.

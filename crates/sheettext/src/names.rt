@@ -9,7 +9,7 @@ use station::input::keep;
 pub const NAME: usize = 4097;
 
 // What is taken from the front of a chunk.
-#[derive(Drop)]
+#[derive(Clone, Copy)]
 pub struct Taken {
     // How many bytes of the chunk.
     pub used: usize,

@@ -9,7 +9,7 @@ use numeral::unsigned::{Number, prefix_length, read_number};
 use text::starts_with;
 
 // What is told before a program's own arguments: whether a branch table is lent, by `-b FILE` (W-210).
-#[derive(Drop)]
+#[derive(Clone, Copy)]
 pub struct Given {
     pub lent: bool,
     // How many arguments there are without these two.

@@ -5,7 +5,7 @@ ghost use Rattle.station.specs.Reads.{at_start, start_after, after_read, left, k
 use crate::{LIST, SCRIPT, lesser};
 use listing::writing::write_bytes;
 
-#[derive(Drop)]
+#[derive(Clone, Copy)]
 pub struct Input {
     // The bytes read so far.
     pub total: usize,

@@ -1,3 +1,5 @@
+#![tactic(auto)]
+
 // What the programs at the station print: texts put into an array, for a script or a list that was read chunk by chunk.
 // A program's `main` only reads, keeps, calls and writes.
 pub mod arguments;

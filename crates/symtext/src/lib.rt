@@ -1,3 +1,5 @@
+#![tactic(auto)]
+
 // What `symlist` prints for a script that was read chunk by chunk: the labels with their addresses and lines (W-202).
 ghost use Rattle.std.specs.Prelude.{◌≡◌, ◌+◌, ◌≤◌, length as len, take};
 ghost use Rattle.rules.specs.Text.{Text};

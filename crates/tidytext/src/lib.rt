@@ -1,3 +1,5 @@
+#![tactic(auto)]
+
 // What `tidy` prints for a script that was read chunk by chunk, its tidy copy, and what it says of a script that is refused (W-212); and
 // the answer of a call as a text.
 ghost use Rattle.std.specs.Prelude.{◌≡◌, ◌≤◌, min, length as len, take};

@@ -1,5 +1,5 @@
 -- Verdicts by their numbers: which verdict has a number, and how long its line is. Assumes nothing.
-use Prim.Native.Nat.{ℕ, ◌+◌, ◌≤◌}
+use Prim.Native.Nat.{ℕ, ◌≤◌}
 use mathlib.Core.Path.{◌≡◌, refl, ap}
 use native.Mathlib.Omega.{arith}
 use lib.ListN.{length, get_or-eq_default}
@@ -27,16 +27,10 @@ pub number_text_lem : (v : Verdict) → number_text (verdict_number (verdict_of 
 unfolding number_text
 number_text_lem v = ap verdict_text (number_back v)
 
-past : (k n : ℕ) → k ≤ n → ¬ (n ≡ k) → k + 1 ≤ n
-past k n h d = omega arith
-
--- a number that is none of the others' is the last verdict's
-pub last_verdict : (n : ℕ) → ¬ (n ≡ 0) → ¬ (n ≡ 1) → ¬ (n ≡ 2) → ¬ (n ≡ 3) → ¬ (n ≡ 4) → ¬ (n ≡ 5) → ¬ (n ≡ 6) → ¬ (n ≡ 7) → ¬ (n ≡ 8)
-    → verdict_in n ≡ because out_of_reach
+-- a number past all others' is the last verdict's
+pub last_verdict : (n : ℕ) → 9 ≤ n → verdict_in n ≡ because out_of_reach
 unfolding verdict_in
-last_verdict n a b c d e f g h i =
-    let four = past 3 n (past 2 n (past 1 n (past 0 n (omega arith) a) b) c) d in
-    get_or-eq_default in_order (because out_of_reach) {n = n} (past 8 n (past 7 n (past 6 n (past 5 n (past 4 n four e) f) g) h) i)
+last_verdict n h = get_or-eq_default in_order (because out_of_reach) {n = n} h
 
 pub verdict_short : (v : Verdict) → length (verdict_text v) ≤ 26
 unfolding verdict_text bytes

@@ -5,7 +5,7 @@ use mathlib.Core.Option.{some}
 use mathlib.Core.List.{List, [], ◌∷◌, map}
 use native.Mathlib.Omega.{arith}
 use borrow.Author.Tests.{ltb-false}
-use lib.ListN.{length, take, get_elem?, length-map}
+use lib.ListN.{length, get_elem?, length-map}
 use lib.Seq.{take_at}
 use Rattle.rules.specs.Limits.{max_lines}
 use Rattle.rules.specs.Text.{Text, cut_at}

@@ -1,3 +1,5 @@
+#![tactic(auto)]
+
 // What `whyline` prints for a script that was read chunk by chunk: why its lines have no word (W-205); and what its arguments
 // ask.
 ghost use Rattle.std.specs.Prelude.{◌≡◌, ◌+◌, ◌≤◌, length as len, take};
@@ -19,7 +21,7 @@ use station::input::Input;
 use station::{SCRIPT, TEXT};
 
 // The lines that are asked for.
-#[derive(Drop)]
+#[derive(Clone, Copy)]
 pub enum Lines {
     // One, from 1, of the script at a base.
     One(u32, u32),
@@ -28,7 +30,7 @@ pub enum Lines {
 }
 
 // What the arguments ask.
-#[derive(Drop)]
+#[derive(Clone, Copy)]
 pub enum Asked {
     About(Lines),
     // They are not a line, nor a line and a base.

@@ -1,0 +1,11 @@
+-- `write_bytes` meets its contract: the bytes that are left are still to be put. Assumes nothing.
+use Prim.Native.Nat.{◌+◌, ◌-◌, ◌≤◌}
+use lib.ListN.{length, drop}
+use Rattle.text.proofs.Over.{Putting}
+use Rattle.listing.proofs.writing.write_bytes.Given as goal
+
+abbrev pub invariant-loop-i : goal.invariant-loop-i
+invariant-loop-i l = (l.i ≤ length l.text) × Putting l.at l.text l.initial.out (l.at + l.i) (drop l.i l.text) l.out
+
+abbrev pub decreases-loop-i : goal.decreases-loop-i
+decreases-loop-i l = length l.text - l.i

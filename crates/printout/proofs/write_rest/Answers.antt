@@ -1,0 +1,29 @@
+-- `write_rest` puts END's row, and those of the lines behind it. Assumes nothing.
+use native.Mathlib.Omega.{arith}
+use Rattle.printout.proofs.Coding.{line_within}
+use Rattle.printout.proofs.Rowing.{rest_line_lem, rest_none, rest_needs, rest_all}
+use Rattle.printout.proofs.write_rest.Goals as goal
+
+pub returns-then-source-start : goal.returns-then-source-start
+returns-then-source-start c = λ base. rest_none c.requires.1 _ _ base _ c.if-source-start.true
+
+pub outline_line-o-requires : goal.outline_line-o-requires
+outline_line-o-requires c = c.if-source-start.false
+
+pub write_read-to-requires : goal.write_read-to-requires
+write_read-to-requires c = (c.requires.0, rest_line_lem c.requires.1 c.if-source-start.false c.outline_line-o.ensures.ends)
+
+pub overflow_add-line : goal.overflow_add-line
+overflow_add-line c = omega (arith, (rest_line_lem c.requires.1 c.if-source-start.false c.outline_line-o.ensures.ends).number)
+
+pub overflow_add-end : goal.overflow_add-end
+overflow_add-end c = omega (arith, line_within (rest_line_lem c.requires.1 c.if-source-start.false c.outline_line-o.ensures.ends))
+
+pub write_unread_rows-requires : goal.write_unread_rows-requires
+write_unread_rows-requires c = rest_needs c.requires.1 _ _ 0 _ c.if-source-start.false c.outline_line-o.ensures.ends c.write_read-to.ensures.puts c.write_read-to.ensures.start_bound (omega arith)
+
+pub shape_of-out : goal.shape_of-out
+shape_of-out c = omega arith
+
+pub returns : goal.returns
+returns c = λ base. rest_all c.requires.1 _ _ base _ c.if-source-start.false c.outline_line-o.ensures.ends c.write_read-to.ensures.puts c.write_read-to.ensures.start_bound (omega arith) c.write_unread_rows.ensures (omega arith)
