@@ -1,3 +1,5 @@
+#![tactic(auto)]
+
 // Assembles a script at base 0 and prints its list. It reads the script on standard input, and a branch table, which stands in place
 // of the built-in branch names, from FILE if its arguments are `-b FILE`; it prints on standard output
 //   a line for each word, if the script is accepted: address in 8 hexadecimal digits, word in 4, mark; nothing for an empty list;
@@ -6,38 +8,44 @@
 // If the table or the script cannot be read to its end it prints nothing. It says that on standard error, and there too if standard
 // output does not take all that it prints, or if it is given other arguments.
 use branchtext::tabled_script_text;
-use libc::{STDERR_FILENO, STDIN_FILENO, STDOUT_FILENO};
+use console::{ARGUMENT, CHUNK, argument, argument_count, read_chunk, read_count};
 use station::arguments::{are_none, given_table};
 use station::failure::{SAID, tabled_failure_text};
 use station::input::{after_read, keep_script, start_after};
 use station::{SCRIPT, TABLE, TEXT};
 use tablefile::read_table;
 
-fn main() {
-    let mut option = io::buffer();
-    let mut file = io::buffer();
-    let option_size = os::arg(1, &mut option);
-    let file_size = os::arg(2, &mut file);
-    let given = given_table(os::arg_count(), &option[..option_size], &file[..file_size]);
+fn main(rt: HostRuntime) {
+    let mut option = [0u8; ARGUMENT];
+    let mut file = [0u8; ARGUMENT];
+    let option_size = argument(&rt, 1, &mut option);
+    let file_size = argument(&rt, 2, &mut file);
+    let given = given_table(
+        argument_count(&rt),
+        &option[..option_size],
+        &file[..file_size],
+    );
     if !are_none(given.count) {
-        io::write_all(STDERR_FILENO, b"usage: asmlist [-b FILE] < SCRIPT\n");
+        let _ = rt
+            .stderr()
+            .write_all(b"usage: asmlist [-b FILE] < SCRIPT\n");
         return;
     }
     let mut table = [0u8; TABLE];
-    let branches = read_table(given.lent, &file[..file_size], &mut table);
+    let branches = read_table(&rt, given.lent, &file[..file_size], &mut table);
     let mut script = [0u8; SCRIPT];
+    let mut stdin = rt.stdin();
     let mut input = start_after(branches);
     while input.more {
-        let mut chunk = io::large_buffer();
-        let got = libc::read(STDIN_FILENO, &mut chunk);
-        let count = io::count(got, &chunk);
-        keep_script(&mut script, input.total, &chunk[..count]);
+        let mut chunk = [0u8; CHUNK];
+        let got = read_chunk(&mut stdin, &mut chunk);
+        keep_script(&mut script, input.total, &chunk[..read_count(got)]);
         input = after_read(input, got);
     }
     let mut out = [0u8; TEXT];
     let size = tabled_script_text(given.lent, &table, branches, &script, input, &mut out);
-    let written = io::write_all(STDOUT_FILENO, &out[..size]);
+    let written = rt.stdout().write_all(&out[..size]).is_ok();
     let mut said = [0u8; SAID];
     let length = tabled_failure_text(b"asmlist", branches, input, written, &mut said);
-    io::write_all(STDERR_FILENO, &said[..length]);
+    let _ = rt.stderr().write_all(&said[..length]);
 }

@@ -1,3 +1,5 @@
+#![tactic(auto)]
+
 // Tries a list on the bench. It reads a list as `asmlist` prints it on standard input, takes START, LIMIT and up to eight address
 // registers that are not 0, A0 first, LIMIT a decimal number of 64 bits, the others hexadecimal numbers of 32 bits with or without
 // `$` or `0x`, and prints on standard output
@@ -11,50 +13,45 @@
 // does not take all that it prints, or if its arguments are no such numbers: it reads nothing then.
 use benchtext::arguments::{is_whole, no_argument, with_argument};
 use benchtext::{row_count, row_text};
-use libc::{STDERR_FILENO, STDIN_FILENO, STDOUT_FILENO};
+use console::{ARGUMENT, CHUNK, argument, argument_count, read_chunk, read_count};
 use station::failure::{SAID, failure_text};
 use station::input::{after_read, keep_list, start};
 use station::{LIST, TEXT};
 
-fn main() {
-    let arguments = os::arg_count();
+fn main(rt: HostRuntime) {
+    let arguments = argument_count(&rt);
     let mut given = no_argument();
-    let mut k = 1;
-    while k < arguments {
-        let mut text = io::buffer();
-        let size = os::arg(k, &mut text);
+    for k in 1..arguments {
+        let mut text = [0u8; ARGUMENT];
+        let size = argument(&rt, k, &mut text);
         given = with_argument(given, &text[..size]);
-        k += 1;
     }
     if !is_whole(given) {
-        io::write_all(
-            STDERR_FILENO,
+        let _ = rt.stderr().write_all(
             b"usage: bench [-w ADDRESS FROM TO] START LIMIT [A0 [A1 ..]] < LIST, LIMIT, FROM, TO decimal, the others hexadecimal\n",
         );
         return;
     }
     let mut list = [0u8; LIST];
+    let mut stdin = rt.stdin();
     let mut input = start();
     while input.more {
-        let mut chunk = io::large_buffer();
-        let got = libc::read(STDIN_FILENO, &mut chunk);
-        let count = io::count(got, &chunk);
-        keep_list(&mut list, input.total, &chunk[..count]);
+        let mut chunk = [0u8; CHUNK];
+        let got = read_chunk(&mut stdin, &mut chunk);
+        keep_list(&mut list, input.total, &chunk[..read_count(got)]);
         input = after_read(input, got);
     }
     let rows = row_count(&list, input, given);
     let mut out = [0u8; TEXT];
     let mut written = true;
-    let mut row = 0;
-    while row < rows {
+    for row in 0..rows {
         let size = row_text(&list, input, given, row, &mut out);
-        if !io::write_all(STDOUT_FILENO, &out[..size]) {
+        if rt.stdout().write_all(&out[..size]).is_err() {
             written = false;
             break;
         }
-        row += 1;
     }
     let mut said = [0u8; SAID];
     let length = failure_text(b"bench", input, written, &mut said);
-    io::write_all(STDERR_FILENO, &said[..length]);
+    let _ = rt.stderr().write_all(&said[..length]);
 }

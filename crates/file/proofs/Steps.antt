@@ -1,21 +1,16 @@
 -- A file read chunk by chunk: before the first read, after each, and at the end. Assumes nothing.
-use Prim.Native.Nat.{ℕ, zero, suc, ◌+◌, ◌^◌, ◌<◌}
-use mathlib.Core.Path.{◌≡◌, refl, sym, ap, ◌∙◌}
-use mathlib.Core.Bool.{Bool, true, false, false≢true, cond}
-use mathlib.Core.List.{List, [], ◌∷◌, ◌++◌}
-use native.Mathlib.Omega.{arith}
-use lib.IntN.{ℤ, pos, negsuc}
-use lib.Dec.{ltb}
-use lib.ListN.{length, take, length-append}
+use Rattle.std.proofs.Common.{ℕ, zero, suc, ◌+◌, ◌^◌, ◌<◌, ◌≤◌, ◌≡◌, refl, sym, ap, ◌∙◌, Bool, true, false, cond, List, [], ◌∷◌, ◌++◌, arith, ℤ, pos, negsuc, length, take, length-append}
+use mathlib.Core.Bool.{false≢true}
+use Rattle.std.proofs.Math.Dec.{ltb}
+use Rattle.std.proofs.Math.Seq.{length-take-le}
+use Rattle.std.proofs.lemmas.Bool.{ltb-true, le-ltb}
 use lib.Signed.{lt_z}
-use borrow.Author.Tests.{le-ltb, ltb-true}
-use Rattle.libc.specs.Io.{Moved}
-use Rattle.io.specs.Counts.{clamp_len}
+use Rattle.console.specs.Chunks.{count_of}
 use Rattle.rules.specs.Text.{Text}
 use Rattle.station.specs.Reads.{at_start, failed_at, after_read, kept}
 use Rattle.station.specs.declared.input.Input.{Input}
 use Rattle.station.proofs.Kept.{kept_on, kept_nil, reads_on}
-use Rattle.file.specs.FileRead.{opened_by, Partly}
+use Rattle.file.specs.FileRead.{opened_by, Partly, FileRead}
 
 -- nothing is read yet, or nothing can be
 pub nothing_read : (x : List ℕ) (i : Input) → i.total ≡ 0 → Partly x x i
@@ -30,6 +25,11 @@ pub opened_first : (x : List ℕ) (z : ℤ) → Partly x x (opened_by z)
 unfolding opened_by
 opened_first x (pos n) = nothing_read x at_start refl
 opened_first x (negsuc n) = nothing_read x (failed_at 0) refl
+
+-- a file that is not opened is at its end
+pub none_opened : (x : List ℕ) (i : Input) (n : ℕ) → i ≡ opened_by (negsuc n) → FileRead x x i
+unfolding opened_by
+none_opened x i n e = record { part = nothing_read x i (rw e); over = rw e }
 
 -- a read that failed
 unread : (x y : List ℕ) (n : ℕ) → Partly x y (failed_at n)
@@ -64,34 +64,35 @@ some_more chunk x y i j h a b p =
           ∙ kept_on p.text chunk x;
     }
 
--- n bytes are asked for, and the read answers z; y is what was kept before
-pub step : (n : ℕ) (z : ℤ) (chunk : Text) (x y : List ℕ) (i : Input) → Moved n z → length chunk ≡ clamp_len z n → Partly x y i → Partly x (kept i.total chunk y) (after_read z i)
+-- the read answers z; y is what was kept before
+pub step : (z : ℤ) (chunk : Text) (x y : List ℕ) (i : Input) → length chunk ≡ count_of z → Partly x y i → Partly x (kept i.total chunk y) (after_read z i)
 unfolding after_read
-step n (negsuc k) chunk x y i m l p = unread x (kept i.total chunk y) i.total
-step n (pos zero) chunk x y i m l p =
-    let none : length chunk ≡ 0 = omega (arith, l) in
-    none_more chunk none x y i (record { total = i.total; more = false; failed = i.failed }) refl refl p
-step n (pos (suc k)) chunk x y i m l p = go (ltb (i.total + suc k) (2 ^ 64)) refl
+step (negsuc k) chunk x y i l p = unread x (kept i.total chunk y) i.total
+step (pos zero) chunk x y i l p = none_more chunk l x y i (record { total = i.total; more = false; failed = i.failed }) refl refl p
+step (pos (suc k)) chunk x y i l p = go (ltb (i.total + suc k) (2 ^ 64)) refl
   where
     go : (v : Bool) → ltb (i.total + suc k) (2 ^ 64) ≡ v
         → Partly x (kept i.total chunk y) (cond v (record { total = i.total + suc k; more = true; failed = i.failed }) (failed_at i.total))
     go true e =
-        let same : length chunk ≡ suc k = omega (arith, l, m) in
-        some_more chunk x y i (record { total = i.total + suc k; more = true; failed = i.failed }) (omega (arith, same, ltb-true (i.total + suc k) (2 ^ 64) e)) (omega (arith, same)) refl p
+        some_more chunk x y i (record { total = i.total + suc k; more = true; failed = i.failed }) (omega (arith, l, ltb-true (i.total + suc k) (2 ^ 64) e)) (omega (arith, l)) refl p
     go false e = unread x (kept i.total chunk y) i.total
 
+-- the same of the front of what it was read into
+pub step_front : (z : ℤ) (n : ℕ) (chunk : Text) (x y : List ℕ) (i : Input) → n ≡ count_of z → n ≤ length chunk → Partly x y i
+    → Partly x (kept i.total (take n chunk) y) (after_read z i)
+step_front z n chunk x y i e h p = step z (take n chunk) x y i (length-take-le n chunk h ∙ e) p
+
 -- what a read that did not fail adds to the count
-pub counted : (n : ℕ) (z : ℤ) (k : ℕ) (i : Input) → Moved n z → k ≡ clamp_len z n → (after_read z i).failed ≡ false
-    → (i.failed ≡ false) × ((after_read z i).total ≡ i.total + k)
+pub counted : (z : ℤ) (k : ℕ) (i : Input) → k ≡ count_of z → (after_read z i).failed ≡ false → (i.failed ≡ false) × ((after_read z i).total ≡ i.total + k)
 unfolding after_read
-counted n (negsuc j) k i m l f = absurd (false≢true (sym f))
-counted n (pos zero) k i m l f = (f, omega (arith, l))
-counted n (pos (suc j)) k i m l f = go (ltb (i.total + suc j) (2 ^ 64)) refl f
+counted (negsuc j) k i l f = absurd (false≢true (sym f))
+counted (pos zero) k i l f = (f, omega (arith, l))
+counted (pos (suc j)) k i l f = go (ltb (i.total + suc j) (2 ^ 64)) refl f
   where
     go : (v : Bool) → ltb (i.total + suc j) (2 ^ 64) ≡ v
         → (cond v (record { total = i.total + suc j; more = true; failed = i.failed }) (failed_at i.total)).failed ≡ false
         → (i.failed ≡ false) × ((cond (ltb (i.total + suc j) (2 ^ 64)) (record { total = i.total + suc j; more = true; failed = i.failed }) (failed_at i.total)).total ≡ i.total + k)
-    go true e g = (g, rw e (omega (arith, l, m)))
+    go true e g = (g, rw e (omega (arith, l)))
     go false e g = absurd (false≢true (sym g))
 
 -- opening, by the sign of what it answered

@@ -1,5 +1,5 @@
 -- What reading a file leaves. Assumes nothing.
-use Rattle.std.specs.Prelude.{ℕ, ◌≡◌, false, List, ℤ, pos, negsuc}
+use Rattle.std.specs.Prelude.{ℕ, ℤ, pos, negsuc, ◌≡◌, false, List}
 use Rattle.rules.specs.Text.{Text}
 use Rattle.station.specs.Reads.{at_start, failed_at, kept, Reads}
 use Rattle.station.specs.declared.input.Input.{Input}

@@ -1,3 +1,5 @@
+#![tactic(auto)]
+
 // Names the label of a script that is nearest to an address, at or below it. It reads the script on standard input, takes the
 // address and, if it is not 0, the base of the script, hexadecimal numbers of 32 bits with or without `$` or `0x`, and prints
 // on standard output
@@ -6,42 +8,41 @@
 // A script over the limit of 32,768 bytes is read to its end for its length, the place of refusal 1.
 // If the script cannot be read to its end it prints nothing. It says that on standard error, and there too if standard output
 // does not take all that it prints, or if it has no such arguments or more than two: it reads nothing then.
-use libc::{STDERR_FILENO, STDIN_FILENO, STDOUT_FILENO};
+use console::{ARGUMENT, CHUNK, argument, argument_count, read_chunk, read_count};
 use neartext::{Asked, asked_by, near_text};
 use station::failure::{SAID, failure_text};
 use station::input::{after_read, keep_script, start};
 use station::{SCRIPT, TEXT};
 
-fn main() {
-    let mut address_text = io::buffer();
-    let mut base_text = io::buffer();
-    let address_size = os::arg(1, &mut address_text);
-    let base_size = os::arg(2, &mut base_text);
+fn main(rt: HostRuntime) {
+    let mut address_text = [0u8; ARGUMENT];
+    let mut base_text = [0u8; ARGUMENT];
+    let address_size = argument(&rt, 1, &mut address_text);
+    let base_size = argument(&rt, 2, &mut base_text);
     let given = asked_by(
-        os::arg_count(),
+        argument_count(&rt),
         &address_text[..address_size],
         &base_text[..base_size],
     );
     let Asked::At(address, base) = given else {
-        io::write_all(
-            STDERR_FILENO,
+        let _ = rt.stderr().write_all(
             b"usage: nearlabel ADDRESS [BASE] < SCRIPT, hexadecimal, 0 to FFFFFFFF\n",
         );
         return;
     };
     let mut script = [0u8; SCRIPT];
+    let mut stdin = rt.stdin();
     let mut input = start();
     while input.more {
-        let mut chunk = io::large_buffer();
-        let got = libc::read(STDIN_FILENO, &mut chunk);
-        let count = io::count(got, &chunk);
-        keep_script(&mut script, input.total, &chunk[..count]);
+        let mut chunk = [0u8; CHUNK];
+        let got = read_chunk(&mut stdin, &mut chunk);
+        keep_script(&mut script, input.total, &chunk[..read_count(got)]);
         input = after_read(input, got);
     }
     let mut out = [0u8; TEXT];
     let size = near_text(&script, input, base, address, &mut out);
-    let written = io::write_all(STDOUT_FILENO, &out[..size]);
+    let written = rt.stdout().write_all(&out[..size]).is_ok();
     let mut said = [0u8; SAID];
     let length = failure_text(b"nearlabel", input, written, &mut said);
-    io::write_all(STDERR_FILENO, &said[..length]);
+    let _ = rt.stderr().write_all(&said[..length]);
 }

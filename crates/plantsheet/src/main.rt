@@ -1,3 +1,5 @@
+#![tactic(auto)]
+
 // Adds up a plant's scripts on one sheet. It reads the names of files on standard input, one a line, and prints a line for each total on
 // standard output: `skipped`, `org`, `label`, `data`, `word`, `wordless`, `end`, `words`, `marked`, `labels`, `accepted`, `refused`, then
 // `mean` with words and accepted scripts. Each `-t SHEET` names a file that holds such a sheet, to which is added.
@@ -11,8 +13,8 @@ ghost use Rattle.rules.specs.Text.{Text};
 ghost use Rattle.sheettext.specs.Steps.{Outcome, outcome};
 ghost use Rattle.sheettext.specs.Files.{FileAdded, Adding, NamesAdded};
 
+use console::{ARGUMENT, SMALL_CHUNK, argument, argument_count, read_chunk, read_count};
 use file::read_script;
-use libc::{STDERR_FILENO, STDIN_FILENO, STDOUT_FILENO};
 use sheettext::arguments::{is_whole, no_argument, with_argument};
 use sheettext::files::{UNREAD, is_read, unread_text, with_file};
 use sheettext::names::{NAME, held_on, take_name};
@@ -23,6 +25,7 @@ use station::{SCRIPT, lesser};
 
 // Goes on with the file whose name is in the first bytes, a sheet or a script, if it is due. One that cannot be read is said.
 fn add_file(
+    rt: &HostRuntime,
     step: Step,
     due: bool,
     name: &[u8],
@@ -36,22 +39,28 @@ fn add_file(
         return step;
     }
     let n = lesser(size, name.len());
-    let input = read_script(&name[..n], script);
+    let input = read_script(rt, &name[..n], script);
     let mut said = [0u8; UNREAD];
     let length = unread_text(&name[..n], input, &mut said);
-    io::write_all(STDERR_FILENO, &said[..length]);
+    let _ = rt.stderr().write_all(&said[..length]);
     with_file(step, sheet, script, input)
 }
 
 // Where the program stands in the names: the step so far, and how many bytes of the next name are held.
-#[derive(Drop)]
+#[derive(Clone, Copy)]
 struct Fed {
     held: usize,
     step: Step,
 }
 
 // Goes on with a chunk of the names: each that ends there is a script's.
-fn add_chunk(fed: Fed, chunk: &[u8], name: &mut [u8; NAME], script: &mut [u8; SCRIPT]) -> Fed
+fn add_chunk(
+    rt: &HostRuntime,
+    fed: Fed,
+    chunk: &[u8],
+    name: &mut [u8; NAME],
+    script: &mut [u8; SCRIPT],
+) -> Fed
     ensures { (o : Outcome) (t : Text) → Adding o t name.old fed.held (outcome fed.step) → Adding o (t ++ chunk.now) name.new result.held (outcome result.step) }
 {
     let mut held = fed.held;
@@ -59,7 +68,7 @@ fn add_chunk(fed: Fed, chunk: &[u8], name: &mut [u8; NAME], script: &mut [u8; SC
     let mut at = 0;
     while at < chunk.len() {
         let taken = take_name(&chunk[at..], name, held);
-        step = add_file(step, taken.whole, name, taken.held, false, script);
+        step = add_file(rt, step, taken.whole, name, taken.held, false, script);
         held = held_on(taken);
         at += taken.used;
     }
@@ -67,14 +76,14 @@ fn add_chunk(fed: Fed, chunk: &[u8], name: &mut [u8; NAME], script: &mut [u8; SC
 }
 
 // How the names ended, and what their scripts come to.
-#[derive(Drop)]
+#[derive(Clone, Copy)]
 struct Named {
     input: Input,
     step: Step,
 }
 
 // Reads the names on standard input to their end, and adds their scripts.
-fn add_names(first: Step, script: &mut [u8; SCRIPT]) -> Named
+fn add_names(rt: &HostRuntime, first: Step, script: &mut [u8; SCRIPT]) -> Named
     ensures { NamesAdded (outcome first) (outcome result.step) result.input }
 {
     let mut name = [0u8; NAME];
@@ -82,33 +91,30 @@ fn add_names(first: Step, script: &mut [u8; SCRIPT]) -> Named
         held: 0,
         step: first,
     };
+    let mut stdin = rt.stdin();
     let mut input = start();
     while input.more {
-        let mut chunk = io::buffer();
-        let got = libc::read(STDIN_FILENO, &mut chunk);
-        let count = io::count(got, &chunk);
-        fed = add_chunk(fed, &chunk[..count], &mut name, script);
+        let mut chunk = [0u8; SMALL_CHUNK];
+        let got = read_chunk(&mut stdin, &mut chunk);
+        fed = add_chunk(rt, fed, &chunk[..read_count(got)], &mut name, script);
         input = after_read(input, got);
     }
     let held = fed.held;
     let last = fed.step;
-    let step = add_file(last, 0 < held, &name, held, false, script);
+    let step = add_file(rt, last, 0 < held, &name, held, false, script);
     Named { input, step }
 }
 
-fn main() {
-    let arguments = os::arg_count();
+fn main(rt: HostRuntime) {
+    let arguments = argument_count(&rt);
     let mut given = no_argument();
-    let mut k = 1;
-    while k < arguments {
-        let mut text = io::buffer();
-        let size = os::arg(k, &mut text);
+    for k in 1..arguments {
+        let mut text = [0u8; ARGUMENT];
+        let size = argument(&rt, k, &mut text);
         given = with_argument(given, &text[..size]);
-        k += 1;
     }
     if !is_whole(given) {
-        io::write_all(
-            STDERR_FILENO,
+        let _ = rt.stderr().write_all(
             b"usage: plantsheet [-t SHEET].. < NAMES, the names of script files, one a line\n",
         );
         return;
@@ -116,21 +122,19 @@ fn main() {
     let mut script = [0u8; SCRIPT];
     let mut step = no_sources();
     given = no_argument();
-    k = 1;
-    while k < arguments {
-        let mut path = io::buffer();
-        let size = os::arg(k, &mut path);
-        step = add_file(step, given.due, &path, size, true, &mut script);
+    for k in 1..arguments {
+        let mut path = [0u8; ARGUMENT];
+        let size = argument(&rt, k, &mut path);
+        step = add_file(&rt, step, given.due, &path, size, true, &mut script);
         given = with_argument(given, &path[..size]);
-        k += 1;
     }
-    let named = add_names(step, &mut script);
+    let named = add_names(&rt, step, &mut script);
     let input = named.input;
     let last = named.step;
     let mut out = [0u8; SHEET];
     let size = step_text(ended(last, input), &mut out);
-    let written = io::write_all(STDOUT_FILENO, &out[..size]);
+    let written = rt.stdout().write_all(&out[..size]).is_ok();
     let mut said = [0u8; SAID];
     let length = failure_text(b"plantsheet", input, written, &mut said);
-    io::write_all(STDERR_FILENO, &said[..length]);
+    let _ = rt.stderr().write_all(&said[..length]);
 }

@@ -1,36 +1,40 @@
+#![tactic(auto)]
+
 // Replays recorded calls: standard input holds calls with the answers that they must get, made by the Rust original and by
 // the papers' words. Each is made again, and every place of the slices is compared, or its text. It takes no argument, and prints
 // on standard output how many records agree, in how many words, and the number of the first that differs, if one does.
 // If the input cannot be read to its end it prints nothing. It says that on standard error, and there too if the last record is
 // cut off, if standard output does not take all that it prints, or if it is given an argument.
-use libc::{STDERR_FILENO, STDIN_FILENO, STDOUT_FILENO};
+use console::{CHUNK, argument_count, read_chunk, read_count};
 use recorded::{COUNTS, RECORD, is_cut_off, replay_chunk, replay_text};
 use station::arguments::are_none;
 use station::failure::{SAID, failure_text};
 use station::input::{after_read, start};
 
-fn main() {
-    if !are_none(os::arg_count()) {
-        io::write_all(STDERR_FILENO, b"usage: replay < RECORDS\n");
+fn main(rt: HostRuntime) {
+    if !are_none(argument_count(&rt)) {
+        let _ = rt.stderr().write_all(b"usage: replay < RECORDS\n");
         return;
     }
     let mut bytes = [0u8; RECORD];
     let mut tally = recorded::start();
+    let mut stdin = rt.stdin();
     let mut input = start();
     while input.more {
-        let mut chunk = io::large_buffer();
-        let got = libc::read(STDIN_FILENO, &mut chunk);
-        let count = io::count(got, &chunk);
-        tally = replay_chunk(tally, &chunk[..count], &mut bytes);
+        let mut chunk = [0u8; CHUNK];
+        let got = read_chunk(&mut stdin, &mut chunk);
+        tally = replay_chunk(tally, &chunk[..read_count(got)], &mut bytes);
         input = after_read(input, got);
     }
     let mut out = [0u8; COUNTS];
     let size = replay_text(tally, input, &mut out);
-    let written = io::write_all(STDOUT_FILENO, &out[..size]);
+    let written = rt.stdout().write_all(&out[..size]).is_ok();
     let mut said = [0u8; SAID];
     let length = failure_text(b"replay", input, written, &mut said);
-    io::write_all(STDERR_FILENO, &said[..length]);
+    let _ = rt.stderr().write_all(&said[..length]);
     if is_cut_off(tally, input) {
-        io::write_all(STDERR_FILENO, b"replay: the last record is cut off\n");
+        let _ = rt
+            .stderr()
+            .write_all(b"replay: the last record is cut off\n");
     }
 }

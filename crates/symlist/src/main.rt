@@ -1,3 +1,5 @@
+#![tactic(auto)]
+
 // Prints the labels of a script assembled at base 0. It reads the script on standard input, takes no argument, and prints on
 // standard output
 //   a line for each label, in the order of the lines on which their addresses were last set: name, address in 8 hexadecimal
@@ -6,31 +8,31 @@
 // A script over the limit of 32,768 bytes is read to its end for its length, the place of refusal 1.
 // If the script cannot be read to its end it prints nothing. It says that on standard error, and there too if standard output
 // does not take all that it prints, or if it is given an argument.
-use libc::{STDERR_FILENO, STDIN_FILENO, STDOUT_FILENO};
+use console::{CHUNK, argument_count, read_chunk, read_count};
 use station::arguments::are_none;
 use station::failure::{SAID, failure_text};
 use station::input::{after_read, keep_script, start};
 use station::{SCRIPT, TEXT};
 use symtext::symbols_text;
 
-fn main() {
-    if !are_none(os::arg_count()) {
-        io::write_all(STDERR_FILENO, b"usage: symlist < SCRIPT\n");
+fn main(rt: HostRuntime) {
+    if !are_none(argument_count(&rt)) {
+        let _ = rt.stderr().write_all(b"usage: symlist < SCRIPT\n");
         return;
     }
     let mut script = [0u8; SCRIPT];
+    let mut stdin = rt.stdin();
     let mut input = start();
     while input.more {
-        let mut chunk = io::large_buffer();
-        let got = libc::read(STDIN_FILENO, &mut chunk);
-        let count = io::count(got, &chunk);
-        keep_script(&mut script, input.total, &chunk[..count]);
+        let mut chunk = [0u8; CHUNK];
+        let got = read_chunk(&mut stdin, &mut chunk);
+        keep_script(&mut script, input.total, &chunk[..read_count(got)]);
         input = after_read(input, got);
     }
     let mut out = [0u8; TEXT];
     let size = symbols_text(&script, input, &mut out);
-    let written = io::write_all(STDOUT_FILENO, &out[..size]);
+    let written = rt.stdout().write_all(&out[..size]).is_ok();
     let mut said = [0u8; SAID];
     let length = failure_text(b"symlist", input, written, &mut said);
-    io::write_all(STDERR_FILENO, &said[..length]);
+    let _ = rt.stderr().write_all(&said[..length]);
 }

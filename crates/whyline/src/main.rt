@@ -1,3 +1,5 @@
+#![tactic(auto)]
+
 // Says why a line of a script has no word. It reads the script on standard input, takes the line, a decimal number from 1, and, if it
 // is not 0, the base of the script, a hexadecimal number of 32 bits with or without `$` or `0x`, and prints on standard output
 //   `word emitted`, or the first reason that holds: `not an instruction`, `unknown mnemonic`, `wrong operand count`, `operand
@@ -9,7 +11,7 @@
 // If the table or the script cannot be read to its end it prints nothing. It says that on standard error, and there too if standard
 // output does not take all that it prints, or if its arguments are no such numbers or more than two: it reads nothing then.
 use branchtext::tabled_why_text;
-use libc::{STDERR_FILENO, STDIN_FILENO, STDOUT_FILENO};
+use console::{ARGUMENT, CHUNK, argument, argument_count, read_chunk, read_count};
 use station::arguments::given_table;
 use station::failure::{SAID, tabled_failure_text};
 use station::input::{after_read, keep_script, start_after};
@@ -17,40 +19,43 @@ use station::{SCRIPT, TABLE, TEXT};
 use tablefile::read_table;
 use whytext::{Asked, asked_by};
 
-fn main() {
-    let mut option = io::buffer();
-    let mut file = io::buffer();
-    let option_size = os::arg(1, &mut option);
-    let file_size = os::arg(2, &mut file);
-    let given = given_table(os::arg_count(), &option[..option_size], &file[..file_size]);
-    let mut line = io::buffer();
-    let mut base = io::buffer();
-    let line_size = os::arg(given.first, &mut line);
-    let base_size = os::arg(given.second, &mut base);
+fn main(rt: HostRuntime) {
+    let mut option = [0u8; ARGUMENT];
+    let mut file = [0u8; ARGUMENT];
+    let option_size = argument(&rt, 1, &mut option);
+    let file_size = argument(&rt, 2, &mut file);
+    let given = given_table(
+        argument_count(&rt),
+        &option[..option_size],
+        &file[..file_size],
+    );
+    let mut line = [0u8; ARGUMENT];
+    let mut base = [0u8; ARGUMENT];
+    let line_size = argument(&rt, given.first, &mut line);
+    let base_size = argument(&rt, given.second, &mut base);
     let asked = asked_by(given.count, &line[..line_size], &base[..base_size]);
     let Asked::About(lines) = asked else {
-        io::write_all(
-            STDERR_FILENO,
+        let _ = rt.stderr().write_all(
             b"usage: whyline [-b FILE] [LINE [BASE]] < SCRIPT, LINE decimal, BASE hexadecimal\n",
         );
         return;
     };
     let lent = given.lent;
     let mut table = [0u8; TABLE];
-    let branches = read_table(lent, &file[..file_size], &mut table);
+    let branches = read_table(&rt, lent, &file[..file_size], &mut table);
     let mut script = [0u8; SCRIPT];
+    let mut stdin = rt.stdin();
     let mut input = start_after(branches);
     while input.more {
-        let mut chunk = io::large_buffer();
-        let got = libc::read(STDIN_FILENO, &mut chunk);
-        let count = io::count(got, &chunk);
-        keep_script(&mut script, input.total, &chunk[..count]);
+        let mut chunk = [0u8; CHUNK];
+        let got = read_chunk(&mut stdin, &mut chunk);
+        keep_script(&mut script, input.total, &chunk[..read_count(got)]);
         input = after_read(input, got);
     }
     let mut out = [0u8; TEXT];
     let size = tabled_why_text(lent, &table, branches, &script, input, lines, &mut out);
-    let written = io::write_all(STDOUT_FILENO, &out[..size]);
+    let written = rt.stdout().write_all(&out[..size]).is_ok();
     let mut said = [0u8; SAID];
     let length = tabled_failure_text(b"whyline", branches, input, written, &mut said);
-    io::write_all(STDERR_FILENO, &said[..length]);
+    let _ = rt.stderr().write_all(&said[..length]);
 }

@@ -1,0 +1,7 @@
+-- Where no table is lent nothing is read.
+use Rattle.std.proofs.Common.{refl}
+use Rattle.file.proofs.Steps.{nothing_read}
+use Rattle.tablefile.proofs.read_table.Goals as goal
+
+pub returns-then-not-lent : goal.returns-then-not-lent
+returns-then-not-lent g c = record { part = nothing_read _ _ refl; over = refl }
