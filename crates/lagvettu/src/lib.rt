@@ -1,3 +1,5 @@
+#![tactic(auto)]
+
 // The C interface of paper 01: assembling at a base, and moving. An answer is the paper's number, 0 for accepted, and
 // its place or the count in a number that the caller lends. include/lagvettu.h declares the same functions.
 ghost use Rattle.rules.specs.Assemble.{slices};

@@ -1,3 +1,5 @@
+#![tactic(auto)]
+
 // The C interface of paper 02's calls, an archive of its own: so no second caller takes from 01's calls what the compiler inlines
 // there. An answer is as in 01's interface; include/lagvettu.h declares both.
 pub mod bench;

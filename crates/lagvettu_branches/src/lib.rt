@@ -1,3 +1,5 @@
+#![tactic(auto)]
+
 // The C interface of the calls under a branch table, W-210: 01's assembling call and W-205's, in an archive of their own: so no second
 // caller takes from the calls without one what the compiler inlines there. include/lagvettu.h declares them.
 ghost use Rattle.rules.specs.Assemble.{slices};

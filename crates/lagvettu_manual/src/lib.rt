@@ -1,3 +1,5 @@
+#![tactic(auto)]
+
 // The C interface of W-207's call, the manual's own words, in an archive of its own: so no second caller of what it stands on
 // takes from the other calls what the compiler inlines there. An answer is as in 01's interface; include/lagvettu.h declares it.
 ghost use Rattle.rules.specs.Assemble.{slices};

@@ -1,3 +1,5 @@
+#![tactic(auto)]
+
 // The C interface of the texts that the programs print, an archive of its own for the command `lagvettu`: so no text is made twice.
 // A text is put at the front of `out`, which has room for the longest, and its length into `size`. include/lagvettu_text.h declares it.
 ghost use Rattle.std.specs.Prelude.{◌≡◌, take};
