@@ -1,3 +1,5 @@
+#![tactic(auto)]
+
 // Paper 02's calls by the numbers that they have in records, each answered as a text, and a recorded text compared with it.
 ghost use Rattle.std.specs.Prelude.{◌≡◌, true, ◌↔◌, ◌+◌, ◌≤◌, min, length as len, take, drop};
 ghost use Rattle.rules.specs.Text.{same};

@@ -1,3 +1,5 @@
+#![tactic(auto)]
+
 // Recorded calls: each is read from the bytes of its record, made again, and compared, the assembler's place by place and 02's by
 // their texts. A record starts with the number of the call that it records; compare/src/record.rs says how it goes on.
 ghost use Rattle.std.specs.Prelude.{◌≡◌, ◌+◌, ◌*◌, ◌≤◌, min, true, ◌↔◌, length, if◌then◌else◌, nat_eq};
@@ -204,7 +206,7 @@ fn agrees(source: &[u8], terms: &[u8], rows: &[u8]) -> bool
 // ---- Records one after another.
 
 // What a record comes to.
-#[derive(Drop)]
+#[derive(Clone, Copy)]
 pub enum Verdict {
     // It agrees, in so many places.
     Agrees(usize),
@@ -212,7 +214,7 @@ pub enum Verdict {
 }
 
 // How far a replay has come.
-#[derive(Drop)]
+#[derive(Clone, Copy)]
 pub struct Tally {
     // The bytes of the record that is not yet whole.
     pub length: usize,

@@ -1,0 +1,13 @@
+-- `count` meets its contract: the number tells whether there is a list. Assumes nothing.
+use Rattle.std.proofs.Common.{arith, eq-eqb, ne_eqb}
+use Rattle.recorded.specs.Recorded.{terms_in, count_of}
+use Rattle.recorded.proofs.Bytes.{one_byte}
+use Rattle.recorded.proofs.count.Goals as goal
+
+pub returns-then-terms-ne0 : goal.returns-then-terms-ne0
+unfolding count_of terms_in
+returns-then-terms-ne0 c = rw (← (one_byte c.args.terms.now 20 (omega arith)), ne_eqb _ _ c.if-terms-ne0.true)
+
+pub returns : goal.returns
+unfolding count_of terms_in
+returns c = rw (← (one_byte c.args.terms.now 20 (omega arith)), eq-eqb _ _ c.if-terms-ne0.false) c.number_at.ensures
