@@ -250,7 +250,7 @@ fn sheet_table() {
 fn plant_row() {
     let program = std::path::Path::new(env!("CARGO_MANIFEST_DIR")).join("../target/bin/plantsheet");
     if !program.exists() {
-        println!("plantsheet: not built (rt check plantsheet)");
+        println!("plantsheet: not built (tools/build plantsheet)");
         return;
     }
     let folder = std::env::temp_dir().join(format!("lagvettu-plant-{}", std::process::id()));
