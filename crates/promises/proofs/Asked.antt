@@ -1,12 +1,12 @@
 -- An accepted pass line by line: each line that is read asks at its index and address, and where the pass stops. Assumes nothing.
+use Rattle.std.specs.Prelude.{Some, slice_get}
 use Prim.Native.Nat.{ℕ, zero, suc, ◌+◌, ◌<◌, ◌≤◌}
 use mathlib.Core.Path.{◌≡◌, refl, sym, ap, ◌∙◌}
 use mathlib.Core.Logic.{◌≢◌}
 use mathlib.Core.Bool.{Bool, true, false}
-use mathlib.Core.Option.{some}
 use mathlib.Core.List.{List, [], ◌∷◌, ◌++◌}
 use native.Mathlib.Omega.{arith}
-use lib.ListN.{length, get_elem?, take, drop, length-drop}
+use lib.ListN.{length, take, drop, length-drop}
 use Rattle.rules.specs.Text.{Text, cut_at}
 use Rattle.rules.specs.Line.{SourceLine, numbered, lines_of, end, line_of}
 use Rattle.rules.specs.Label.{Table}
@@ -18,7 +18,7 @@ use Rattle.promises.proofs.Demand1Lines.{line_at}
 use Rattle.promises.proofs.Tasks.{next_address_lem, is_end_lem, not_end, pass_line}
 
 -- a list at an index
-at_drop : {A : Type 0} (xs : List A) (j : ℕ) (x : A) → get_elem? xs j ≡ some x → drop j xs ≡ x ∷ drop (suc j) xs
+at_drop : {A : Type 0} (xs : List A) (j : ℕ) (x : A) → slice_get xs j ≡ Some x → drop j xs ≡ x ∷ drop (suc j) xs
 at_drop [] j x e = clash cc
 at_drop (y ∷ xs) zero x e = let u : y ≡ x = cc in ap (λ z. z ∷ xs) u
 at_drop (y ∷ xs) (suc j) x e = at_drop xs j x e

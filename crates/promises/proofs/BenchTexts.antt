@@ -1,9 +1,10 @@
 -- Lines whose operands are made of plain bytes, read: what a line's text comes to where it has a mnemonic with or without a suffix, a
 -- blank, and operands parted by a comma; and immediates in hexadecimal. Assumes nothing.
+use Rattle.std.specs.Prelude.{Option, None, Some}
+use Rattle.rules.specs.Option.{bind}
 use Prim.Native.Nat.{ℕ, suc, ◌+◌, ◌*◌, ◌/◌, ◌%◌, ◌<◌}
 use mathlib.Core.Path.{◌≡◌, refl, ◌∙◌, ap}
 use mathlib.Core.Bool.{Bool, true, false, cond}
-use mathlib.Core.Option.{Option, none, some, bind}
 use mathlib.Core.List.{List, [], ◌∷◌, ◌++◌, map, append-nil}
 use native.Mathlib.Omega.{arith}
 use lib.Dec.{ltb, eqb}
@@ -153,7 +154,7 @@ head_text subq_l = bytes "SUBQ.L"
 head_text asl_l = bytes "ASL.L"
 
 abbrev pub head_says : Head → List Text → Said
-head_says MOVEQ ps = record { mnemonic = bytes "MOVEQ"; suffix = none; operands = ps }
+head_says MOVEQ ps = record { mnemonic = bytes "MOVEQ"; suffix = None; operands = ps }
 head_says move_l ps = record { mnemonic = bytes "MOVE"; suffix = L; operands = ps }
 head_says move_w ps = record { mnemonic = bytes "MOVE"; suffix = W; operands = ps }
 head_says muls_w ps = record { mnemonic = bytes "MULS"; suffix = W; operands = ps }
@@ -290,10 +291,10 @@ pub record Immediate {A : Type 0} (f : Text → Option A) (x : A) : Type 0 where
   pub first : ℕ
   pub others : Text
   pub plain : Plains (first ∷ others)
-  pub reads : f (first ∷ others) ≡ some x
+  pub reads : f (first ∷ others) ≡ Some x
 
 -- a number that was read is the value, if it is in range
-value_by : {A : Type 0} (f : ℕ → Option A) (r : Reading ℕ) (v : ℕ) (x : A) → r ≡ read v → f v ≡ some x → value_of (ranged f r) ≡ some x
+value_by : {A : Type 0} (f : ℕ → Option A) (r : Reading ℕ) (v : ℕ) (x : A) → r ≡ read v → f v ≡ Some x → value_of (ranged f r) ≡ Some x
 unfolding value_of bind
 value_by f r v x e h = ranged_value f r ∙ rw (e, h)
 
@@ -304,7 +305,7 @@ immediate_16 v l =
     let b = digit (v / 256 % 16) (omega arith) in
     let c = digit (v / 16 % 16) (omega arith) in
     let d = digit (v % 16) (omega arith) in
-    let e : below 65536 v ≡ some v = rw (lt-ltb v 65536 l) in
+    let e : below 65536 v ≡ Some v = rw (lt-ltb v 65536 l) in
     record {
       first = 35;
       others = 36 ∷ hex (v / 4096) ∷ hex (v / 256 % 16) ∷ hex (v / 16 % 16) ∷ hex (v % 16) ∷ [];
@@ -322,7 +323,7 @@ unfolding imm8 immediate reading8 by_prefix hex_tail after bytes bind within
 immediate_8 k l =
     let a = digit (k / 16) (omega arith) in
     let b = digit (k % 16) (omega arith) in
-    let e : within 128 (pos k) ≡ some (pos k) = rw (lt-ltb k 128 l) in
+    let e : within 128 (pos k) ≡ Some (pos k) = rw (lt-ltb k 128 l) in
     record {
       first = 35;
       others = 36 ∷ hex (k / 16) ∷ hex (k % 16) ∷ [];
@@ -337,7 +338,7 @@ unfolding imm8 immediate reading8 by_prefix hex_tail after bytes bind within sig
 immediate_below k l =
     let a = digit (suc k / 16) (omega arith) in
     let b = digit (suc k % 16) (omega arith) in
-    let e : within 128 (negsuc k) ≡ some (negsuc k) = rw (lt-ltb k 128 l) in
+    let e : within 128 (negsuc k) ≡ Some (negsuc k) = rw (lt-ltb k 128 l) in
     record {
       first = 35;
       others = 36 ∷ 45 ∷ hex (suc k / 16) ∷ hex (suc k % 16) ∷ [];

@@ -1,8 +1,9 @@
 -- W-210: mnemonics that mean the same give the same lists and verdicts, and the eleven in any order mean what 01's do. Assumes nothing.
+use Rattle.std.specs.Prelude.{Option, None, Some}
+use Rattle.rules.specs.Option.{bind, or_else}
 use Prim.Native.Nat.{ℕ}
 use mathlib.Core.Path.{◌≡◌, refl, sym, ap, ◌∙◌}
 use mathlib.Core.Bool.{true, cond}
-use mathlib.Core.Option.{Option, none, some, bind, or_else}
 use mathlib.Core.List.{List, [], ◌∷◌, ◌++◌, map}
 use lib.Dec.{ltb}
 use lib.ListN.{length}
@@ -36,7 +37,7 @@ module _ (ms ns : List Mnemonic) (e : (m : Text) → operation_in ms m ≡ opera
   task_same ls a no_org = refl
   task_same ls a label_only = refl
   task_same ls a (instruction i) =
-      λ k. elim (e i.mnemonic k) [ none ↦ because unknown_mnemonic | some o ↦ why_operation ls a o i.operands ]
+      λ k. elim (e i.mnemonic k) [ None ↦ because unknown_mnemonic | Some o ↦ why_operation ls a o i.operands ]
   task_same ls a (value n v) = refl
   task_same ls a (space n) = refl
 
@@ -66,7 +67,7 @@ pick (tail i) (also p ps) = pick i ps
 
 -- they differ in their names
 abbrev Found : Mnemonic → Type 0
-Found n = operation_in branches n.name ≡ some n.operation
+Found n = operation_in branches n.name ≡ Some n.operation
 
 all_found : All Found branches
 unfolding branches bytes operation_in same
@@ -78,11 +79,11 @@ module _ (ns : List Mnemonic) (e : TheEleven ns) (m : Text) where
   same_rows = go (operation_in ns m) refl (operation_in branches m) refl
     where
       go : (x : Option Operation) → operation_in ns m ≡ x → (y : Option Operation) → operation_in branches m ≡ y → x ≡ y
-      go (some o) f y g = sym (pick {P = Found} (e.no_other (mnemonic m o) (found ns m o f)) all_found) ∙ g
-      go none f none g = refl
-      go none f (some o) g =
+      go (Some o) f y g = sym (pick {P = Found} (e.no_other (mnemonic m o) (found ns m o f)) all_found) ∙ g
+      go None f None g = refl
+      go None f (Some o) g =
           let u : is_some (operation_in ns m) ≡ true = is_found (e.each (mnemonic m o) (found branches m o g)) in
-          let v : is_some {A = Operation} none ≡ true = rw f at u in
+          let v : is_some {A = Operation} None ≡ true = rw f at u in
           clash cc
 
   pub eleven_mean : operation_in (other_mnemonics ++ ns) m ≡ operation_in mnemonics m

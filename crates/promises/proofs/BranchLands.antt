@@ -1,9 +1,10 @@
 -- W-210: each name of an accepted table is found, and its branches land. Assumes nothing.
+use Rattle.std.specs.Prelude.{Option, None, Some}
+use Rattle.rules.specs.Option.{or_else}
 use Prim.Native.Nat.{ℕ, ◌+◌, ◌<◌}
 use mathlib.Core.Path.{◌≡◌, refl, sym, ap, ◌∙◌}
 use mathlib.Core.Logic.{◌⊎◌, inl, inr}
 use mathlib.Core.Bool.{true}
-use mathlib.Core.Option.{Option, none, some, or_else}
 use mathlib.Core.List.{List, [], ◌∷◌, ◌++◌}
 use native.Mathlib.Omega.{arith}
 use lib.ListN.{length, replicate, length-append, length-replicate}
@@ -82,16 +83,16 @@ module _ (t : Text) (ns : List Mnemonic) (a : Accepted t ns) where
         omega (arith, (a.right r.front r.row r.back r.stands).0)
 
     -- it is no mnemonic other than the eleven, and no other row has it
-    loaded_name : operation_in (other_mnemonics ++ ns) m ≡ some (branch c)
+    loaded_name : operation_in (other_mnemonics ++ ns) m ≡ Some (branch c)
     unfolding or_else is_some
     loaded_name = in_both other_mnemonics ns m ∙ go (operation_in other_mnemonics m) refl (operation_in ns m) refl
       where
-        go : (x : Option Operation) → operation_in other_mnemonics m ≡ x → (y : Option Operation) → operation_in ns m ≡ y → or_else x y ≡ some (branch c)
-        go (some o) f y g =
+        go : (x : Option Operation) → operation_in other_mnemonics m ≡ x → (y : Option Operation) → operation_in ns m ≡ y → or_else x y ≡ Some (branch c)
+        go (Some o) f y g =
             let r = its_row in
             absurd ((a.right r.front r.row r.back r.stands).1 (taken (found other_mnemonics m o f) r.padded))
-        go none f (some o) g = ap some (one_row (row_of a.named (found ns m o g)) its_row)
-        go none f none g = let h : is_some {A = Operation} none ≡ true = rw g at (is_found i) in clash cc
+        go None f (Some o) g = ap Some (one_row (row_of a.named (found ns m o g)) its_row)
+        go None f None g = let h : is_some {A = Operation} None ≡ true = rw g at (is_found i) in clash cc
 
 pub branches_land_under : BranchesLandUnder
 unfolding BranchesLandUnder BranchesLandBy ListsUnder

@@ -1,9 +1,9 @@
 -- W-210: what the tests of a row's name say: padding, letters, earlier rows, and mnemonics that are taken. Assumes nothing.
+use Rattle.std.specs.Prelude.{Option, None, Some}
 use Prim.Native.Nat.{ℕ, zero, suc, ◌<◌, ◌≤◌}
 use mathlib.Core.Path.{◌≡◌, refl, sym, ap, ◌∙◌}
 use mathlib.Core.Logic.{◌≢◌}
 use mathlib.Core.Bool.{Bool, true, false, ◌&&◌, ◌||◌, cond}
-use mathlib.Core.Option.{Option, none, some}
 use mathlib.Core.List.{List, [], ◌∷◌, ◌++◌}
 use native.Mathlib.Omega.{arith}
 use borrow.Author.Tests.{leb-true, le-leb, eqb-true, eqb-false}
@@ -105,13 +105,13 @@ is_lower {b} (head {y = c} e) l h = let f : 97 ≤ c = rw e at l in let g : c �
 is_lower (tail {y = c} {ys = s} i) l h = or_true (leb 97 c && leb c 122) (any_lower s) (is_lower i l h)
 
 -- ---- mnemonics found
-pub found : (ns : List Mnemonic) (m : Text) (o : Operation) → operation_in ns m ≡ some o → In (mnemonic m o) ns
+pub found : (ns : List Mnemonic) (m : Text) (o : Operation) → operation_in ns m ≡ Some o → In (mnemonic m o) ns
 unfolding operation_in
 found [] m o e = clash cc
 found (n ∷ ns) m o e = go (same m n.name) refl (found ns m o) e
   where
-    go : (x : Bool) → same m n.name ≡ x → (operation_in ns m ≡ some o → In (mnemonic m o) ns)
-        → elim x [ true ↦ some n.operation | false ↦ operation_in ns m ] ≡ some o → In (mnemonic m o) (n ∷ ns)
+    go : (x : Bool) → same m n.name ≡ x → (operation_in ns m ≡ Some o → In (mnemonic m o) ns)
+        → elim x [ true ↦ Some n.operation | false ↦ operation_in ns m ] ≡ Some o → In (mnemonic m o) (n ∷ ns)
     go true f ih h = let a : m ≡ n.name = same_eq m n.name f in let b : n.operation ≡ o = cc in head {y = n} (rw (a, ← b))
     go false f ih h = tail (ih h)
 
@@ -120,7 +120,7 @@ unfolding operation_in is_some
 is_found {n} (head {y = a} {ys = ns} e) = rw (e, same_self a.name, operation_in)
 is_found {n} (tail {y = a} {ys = ns} i) = go (same n.name a.name) (is_found i)
   where
-    go : (x : Bool) → is_some (operation_in ns n.name) ≡ true → is_some {A = Operation} (elim x [ true ↦ some a.operation | false ↦ operation_in ns n.name ]) ≡ true
+    go : (x : Bool) → is_some (operation_in ns n.name) ≡ true → is_some {A = Operation} (elim x [ true ↦ Some a.operation | false ↦ operation_in ns n.name ]) ≡ true
     go true ih = refl
     go false ih = ih
 
@@ -129,8 +129,8 @@ unfolding is_some
 some_found ns m e = go (operation_in ns m) refl e
   where
     go : (x : Option Operation) → operation_in ns m ≡ x → is_some x ≡ true → (n : Mnemonic) × In n ns × (m ≡ n.name)
-    go none f h = clash cc
-    go (some o) f h = (mnemonic m o, found ns m o f, refl)
+    go None f h = clash cc
+    go (Some o) f h = (mnemonic m o, found ns m o f, refl)
 
 -- ---- earlier rows
 earlier_has : (t name : Text) (n j : ℕ) → j < n → four_of t j ≡ name → earlier t name n ≡ true

@@ -1,8 +1,8 @@
 -- A call of the mover on slices whose first n places hold a list: what it reads and writes is the list's. Assumes nothing.
+use Rattle.std.specs.Prelude.{None, Some}
 use Prim.Native.Nat.{ℕ, zero, suc, ◌≤◌}
 use mathlib.Core.Path.{◌≡◌, refl}
 use mathlib.Core.Bool.{true, false}
-use mathlib.Core.Option.{none, some}
 use mathlib.Core.List.{List, [], ◌∷◌, map}
 use native.Mathlib.Omega.{arith}
 use borrow.Author.Tests.{le-ltb}
@@ -21,7 +21,7 @@ same_outside d i (suc n) [] ws ms e = absurd (omega arith)
 same_outside d i (suc n) (a ∷ xs) [] ms e = absurd (omega arith)
 same_outside d i (suc n) (a ∷ xs) (w ∷ ws) [] e = absurd (omega arith)
 same_outside d i (suc n) (a ∷ xs) (w ∷ ws) (m ∷ ms) e =
-    λ k. elim (outside (pos a +ℤ d)) [ true ↦ some i | false ↦ same_outside d (suc i) n xs ws ms (omega arith) k ]
+    λ k. elim (outside (pos a +ℤ d)) [ true ↦ Some i | false ↦ same_outside d (suc i) n xs ws ms (omega arith) k ]
 
 -- refusal 10: the next mark, and the scan, are the list's
 same_first : (n : ℕ) (xs ws ms : List ℕ) → length (list_in n xs ws ms) ≡ n → first_in n ms ≡ first_in n (map (λ p. p.mark) (list_in n xs ws ms))
@@ -39,7 +39,7 @@ same_marks b i (suc n) [] ws ms e = absurd (omega arith)
 same_marks b i (suc n) (a ∷ xs) [] ms e = absurd (omega arith)
 same_marks b i (suc n) (a ∷ xs) (w ∷ ws) [] e = absurd (omega arith)
 same_marks b i (suc n) (a ∷ xs) (w ∷ ws) (m ∷ ms) e =
-    λ k. elim (bad_mark b m (same_first n xs ws ms (omega arith) k)) [ true ↦ some i | false ↦ same_marks m (suc i) n xs ws ms (omega arith) k ]
+    λ k. elim (bad_mark b m (same_first n xs ws ms (omega arith) k)) [ true ↦ Some i | false ↦ same_marks m (suc i) n xs ws ms (omega arith) k ]
 
 -- refusal 9: each slice has n places
 long_enough : (n : ℕ) (xs ws ms : List ℕ) → length (list_in n xs ws ms) ≡ n → (n ≤ length xs) × (n ≤ length ws) × (n ≤ length ms)
@@ -57,7 +57,7 @@ not_short x n e =
     rw (le-ltb (length x.addresses) n h.0, le-ltb (length x.words) n h.1, le-ltb (length x.marks) n h.2)
 
 -- the answer: only 8 and 11 are left, and 11 is the list's
-pub call_answers : (x : Slices) (n : ℕ) (d : ℤ) → length (held n x) ≡ n → first_bad_mark 0 0 n (map (λ p. p.mark) (held n x)) ≡ none
+pub call_answers : (x : Slices) (n : ℕ) (d : ℤ) → length (held n x) ≡ n → first_bad_mark 0 0 n (map (λ p. p.mark) (held n x)) ≡ None
     → move_answer x n d ≡ refuse_if (far d) 8 0 (refuse_at (first_outside d 0 (held n x)) 11 (accepted n))
 unfolding move_answer held refuse_if refuse_at
 call_answers x n d e h =

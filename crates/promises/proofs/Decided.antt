@@ -1,7 +1,8 @@
 -- Tests that decide a proposition, and options that are there. Assumes nothing.
+use Rattle.std.specs.Prelude.{Option, None, Some}
+use Rattle.rules.specs.Option.{bind}
 use mathlib.Core.Path.{◌≡◌, refl, sym}
 use mathlib.Core.Bool.{Bool, true, false, false≢true}
-use mathlib.Core.Option.{Option, none, some, bind}
 use Rattle.rules.specs.Encode.{is_some}
 
 -- a test that decides P
@@ -22,17 +23,17 @@ decided_false (yes p) m = absurd (m p)
 decided_false (no n) m = refl
 
 -- what is there, and what is not
-pub there : {A : Type 0} (o : Option A) → is_some o ≡ true → (x : A) × (o ≡ some x)
+pub there : {A : Type 0} (o : Option A) → is_some o ≡ true → (x : A) × (o ≡ Some x)
 unfolding is_some
-there none e = absurd (false≢true e)
-there (some x) e = (x, refl)
+there None e = absurd (false≢true e)
+there (Some x) e = (x, refl)
 
-pub none_there : {A : Type 0} (o : Option A) → is_some o ≡ false → o ≡ none
+pub none_there : {A : Type 0} (o : Option A) → is_some o ≡ false → o ≡ None
 unfolding is_some
-none_there none e = refl
-none_there (some x) e = absurd (false≢true (sym e))
+none_there None e = refl
+none_there (Some x) e = absurd (false≢true (sym e))
 
 pub bound : {A B : Type 0} (o : Option A) (f : A → Option B) → is_some (bind o f) ≡ true → is_some o ≡ true
 unfolding bind is_some
-bound none f e = e
-bound (some x) f e = refl
+bound None f e = e
+bound (Some x) f e = refl

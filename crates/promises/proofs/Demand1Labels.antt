@@ -1,9 +1,9 @@
 -- The label table holds the names recorded, each once; a line's labels overflow it exactly where one is new and the table is full.
 -- Assumes nothing.
+use Rattle.std.specs.Prelude.{Option, None, Some}
 use Prim.Native.Nat.{ℕ, suc, ◌<◌, ◌≤◌}
 use mathlib.Core.Path.{◌≡◌, refl, sym, ap, ◌∙◌}
 use mathlib.Core.Bool.{Bool, true, false, ◌||◌, cond}
-use mathlib.Core.Option.{Option, none, some}
 use mathlib.Core.List.{List, [], ◌∷◌, map}
 use native.Mathlib.Omega.{arith}
 use borrow.Author.Tests.{ltb-true, ltb-false, eqb-true}
@@ -82,32 +82,32 @@ holds_more x t ns h =
 
 -- the labels of a line: one too many, or all recorded
 data Recorded (ms ns : List Text) : Option Table → Type 0 where
-  overflow : TooMany ms ns → Recorded ms ns none
-  fits : {t : Table} → ¬ TooMany ms ns → Holds t (on_top ms ns) → Recorded ms ns (some t)
+  overflow : TooMany ms ns → Recorded ms ns None
+  fits : {t : Table} → ¬ TooMany ms ns → Holds t (on_top ms ns) → Recorded ms ns (Some t)
 
 -- what the test for room says of a label: it is new and the table is full, or a new one has room
 pub full_new : (o : Option ℕ) (t : Table) → has_room o t ≡ false → (is_some o ≡ false) × (max_labels ≤ length t)
 unfolding has_room is_some
-full_new none t e = (refl, ltb-false (length t) max_labels e)
-full_new (some a) t e = clash cc
+full_new None t e = (refl, ltb-false (length t) max_labels e)
+full_new (Some a) t e = clash cc
 
 pub new_room : (o : Option ℕ) (t : Table) → has_room o t ≡ true → is_some o ≡ false → length t < max_labels
 unfolding has_room is_some
-new_room none t e f = ltb-true (length t) max_labels e
-new_room (some a) t e f = clash cc
+new_room None t e f = ltb-true (length t) max_labels e
+new_room (Some a) t e f = clash cc
 
 -- recorded where there is room, at most as many labels as there may be stay so many
 pub recorded_room : (x : Label) (t : Table) (o : Option ℕ) → find x.name t ≡ o → length t ≤ max_labels → has_room o t ≡ true → length (recorded x t) ≤ max_labels
 unfolding is_some
-recorded_room x t none e h r = rw (length_recorded x t, e) (new_room none t r refl)
-recorded_room x t (some a) e h r = rw (length_recorded x t, e) h
+recorded_room x t None e h r = rw (length_recorded x t, e) (new_room None t r refl)
+recorded_room x t (Some a) e h r = rw (length_recorded x t, e) h
 
 -- a name that has room: if one is too many, it is one after it
 later_only : (m : Text) (ms ns : List Text) (o : Option Table) → (is_among m ns ≡ false → distinct ns < max_labels)
     → Recorded ms (m ∷ ns) o → Recorded (m ∷ ms) ns o
 unfolding on_top
-later_only m ms ns none k (overflow v) = overflow (later v)
-later_only m ms ns (some t) k (fits d h) = fits go h
+later_only m ms ns None k (overflow v) = overflow (later v)
+later_only m ms ns (Some t) k (fits d h) = fits go h
   where
     go : TooMany (m ∷ ms) ns → ⊥
     go (now e f) = let l = k e in omega arith
@@ -137,14 +137,14 @@ records l a (m ∷ ms) t ns h = go (has_room (find m.text t) t) refl (λ u. reco
 
 -- so where they are not recorded one is too many, and else none is, and the table holds them
 module _ (l : SourceLine) (a : ℕ) (ms : List Name) (t : Table) (ns : List Text) (h : Holds t ns) where
-  pub not_recorded : record_all l a ms t ≡ none → TooMany (map (λ n. n.text) ms) ns
+  pub not_recorded : record_all l a ms t ≡ None → TooMany (map (λ n. n.text) ms) ns
   not_recorded e = go (rw e at (records l a ms t ns h))
     where
-      go : Recorded (map (λ n. n.text) ms) ns none → TooMany (map (λ n. n.text) ms) ns
+      go : Recorded (map (λ n. n.text) ms) ns None → TooMany (map (λ n. n.text) ms) ns
       go (overflow v) = v
 
-  pub all_recorded : (t' : Table) → record_all l a ms t ≡ some t' → (¬ TooMany (map (λ n. n.text) ms) ns) × Holds t' (on_top (map (λ n. n.text) ms) ns)
+  pub all_recorded : (t' : Table) → record_all l a ms t ≡ Some t' → (¬ TooMany (map (λ n. n.text) ms) ns) × Holds t' (on_top (map (λ n. n.text) ms) ns)
   all_recorded t' e = go t' (rw e at (records l a ms t ns h))
     where
-      go : (u : Table) → Recorded (map (λ n. n.text) ms) ns (some u) → (¬ TooMany (map (λ n. n.text) ms) ns) × Holds u (on_top (map (λ n. n.text) ms) ns)
+      go : (u : Table) → Recorded (map (λ n. n.text) ms) ns (Some u) → (¬ TooMany (map (λ n. n.text) ms) ns) × Holds u (on_top (map (λ n. n.text) ms) ns)
       go u (fits d k) = (d, k)

@@ -1,11 +1,11 @@
 -- Conditions 6 and 5 over the lines of a pass: what is common to all ways to say them. Assumes nothing.
+use Rattle.std.specs.Prelude.{Some, slice_get}
 use Prim.Native.Nat.{ℕ, zero, suc, ◌≤◌}
 use mathlib.Core.Path.{◌≡◌, refl}
 use mathlib.Core.Logic.{◌≢◌}
-use mathlib.Core.Option.{some}
 use mathlib.Core.List.{List, [], ◌∷◌}
 use native.Mathlib.Omega.{arith}
-use lib.ListN.{get_elem?, drop}
+use lib.ListN.{drop}
 use Rattle.rules.specs.Text.{Text}
 use Rattle.rules.specs.Line.{Task, numbered}
 use Rattle.rules.specs.Label.{Table}
@@ -16,14 +16,14 @@ use Rattle.promises.proofs.Compared.{clash, Compared, less, more, equal, compare
 use Rattle.promises.proofs.Stages.{Runs, done, stop_line, pass_lines}
 
 -- a line from what is left of the lines
-pub line_at : (ls : List Text) (j : ℕ) (l : Text) (rest : List Text) → drop j ls ≡ l ∷ rest → (get_elem? ls j ≡ some l) × (drop (suc j) ls ≡ rest)
+pub line_at : (ls : List Text) (j : ℕ) (l : Text) (rest : List Text) → drop j ls ≡ l ∷ rest → (slice_get ls j ≡ Some l) × (drop (suc j) ls ≡ rest)
 line_at [] zero l rest e = clash cc
 line_at [] (suc j) l rest e = clash cc
 line_at (k ∷ ls) zero l rest e = (cc, cc)
 line_at (k ∷ ls) (suc j) l rest e = line_at ls j l rest e
 
 -- after the last line there is none
-pub no_line : (ls : List Text) (i j : ℕ) (l : Text) → drop j ls ≡ [] → j ≤ i → get_elem? ls i ≢ some l
+pub no_line : (ls : List Text) (i j : ℕ) (l : Text) → drop j ls ≡ [] → j ≤ i → slice_get ls i ≢ Some l
 no_line [] i j l e h f = clash cc
 no_line (k ∷ ls) i zero l e h f = clash cc
 no_line (k ∷ ls) zero (suc j) l e h f = absurd (omega arith)

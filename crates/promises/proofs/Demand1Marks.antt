@@ -1,9 +1,9 @@
 -- The scan of the marks finds the lowest one that refusal 10 names. Assumes nothing.
+use Rattle.std.specs.Prelude.{Option, None, Some}
 use Prim.Native.Nat.{ℕ, zero, suc, ◌<◌, ◌≤◌}
 use mathlib.Core.Path.{◌≡◌, refl, sym, ◌∙◌}
 use mathlib.Core.Logic.{◌≢◌}
 use mathlib.Core.Bool.{Bool, true, false, ◌&&◌, ◌||◌, not, cond, false≢true}
-use mathlib.Core.Option.{Option, none, some}
 use mathlib.Core.List.{List, [], ◌∷◌}
 use native.Mathlib.Omega.{arith}
 use borrow.Author.Tests.{ltb-true, lt-ltb, eqb-true, eqb-false, ne_eqb}
@@ -51,8 +51,8 @@ scan b (suc n) (m ∷ ms) h = go (bad_mark b m (first_in n ms)) refl (scan m n m
     there i = rw (leb-suc-suc (suc (suc i)) n)
 
     moved : (o : Option ℕ) → Found (λ i. around m n ms i ≡ true) n o → Found (λ i. around b (suc n) (m ∷ ms) (suc i) ≡ true) n o
-    moved (some p) (found k) = found {p = p} (record { inside = k.inside; holds = sym (there p) ∙ k.holds; lowest = λ i l e. k.lowest i l (there i ∙ e) })
-    moved none (nowhere k) = nowhere (λ i l e. k i l (there i ∙ e))
+    moved (Some p) (found k) = found {p = p} (record { inside = k.inside; holds = sym (there p) ∙ k.holds; lowest = λ i l e. k.lowest i l (there i ∙ e) })
+    moved None (nowhere k) = nowhere (λ i l e. k i l (there i ∙ e))
 
     go : (y : Bool) → bad_mark b m (first_in n ms) ≡ y → Found (λ i. around m n ms i ≡ true) n (first_bad_mark m 0 n ms)
         → Found (λ i. around b (suc n) (m ∷ ms) i ≡ true) (suc n) (first_bad_mark b 0 (suc n) (m ∷ ms))
@@ -108,6 +108,6 @@ pub marks_found : (ms : List ℕ) (n : ℕ) → n ≤ length ms → Found (BadMa
 marks_found ms n h = go (first_bad_mark 0 0 n ms) (scan 0 n ms h)
   where
     go : (o : Option ℕ) → Found (λ i. around 0 n ms i ≡ true) n o → Found (BadMark ms n) n o
-    go (some p) (found k) =
+    go (Some p) (found k) =
         found {p = p} (record { inside = k.inside; holds = bad ms n p k.holds; lowest = λ i l. decided ms n i (around 0 n ms i) refl (k.lowest i l) })
-    go none (nowhere k) = nowhere (λ i l. decided ms n i (around 0 n ms i) refl (k i l))
+    go None (nowhere k) = nowhere (λ i l. decided ms n i (around 0 n ms i) refl (k i l))

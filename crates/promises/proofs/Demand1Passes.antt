@@ -1,8 +1,8 @@
 -- The first pass refuses by the first line at which condition 6 or 5 holds, or by none. Assumes nothing.
+use Rattle.std.specs.Prelude.{Some}
 use Prim.Native.Nat.{ℕ, suc, ◌+◌, ◌<◌, ◌≤◌}
 use mathlib.Core.Path.{◌≡◌, refl}
 use mathlib.Core.Logic.{◌≢◌}
-use mathlib.Core.Option.{some}
 use mathlib.Core.List.{List, [], ◌∷◌}
 use native.Mathlib.Omega.{arith}
 use lib.ListN.{length, drop}
@@ -134,7 +134,7 @@ module _ (z : Sizes) (base : ℕ) (s : Text) where
       after : next_address z base a (line_of l).task ≡ address_after z base a (line_of l).task
       after = next_address_lem z base a (line_of l).task
 
-      fits : (t' : Table) → record_all here a (line_of l).names t ≡ some t' → ¬ C 6 (suc j)
+      fits : (t' : Table) → record_all here a (line_of l).names t ≡ Some t' → ¬ C 6 (suc j)
       fits t' o v = (all_recorded here a (line_of l).names t ns h t' o).0 (labels_at r is v)
 
   -- the pass over the whole source

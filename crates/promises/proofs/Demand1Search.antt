@@ -1,8 +1,8 @@
 -- A search finds the lowest index at which a test passes. Assumes nothing.
+use Rattle.std.specs.Prelude.{Option, None, Some}
 use Prim.Native.Nat.{ℕ, zero, suc, ◌<◌, ◌≤◌}
 use mathlib.Core.Path.{◌≡◌, refl}
 use mathlib.Core.Bool.{Bool, true, false}
-use mathlib.Core.Option.{Option, none, some}
 use mathlib.Core.List.{List, [], ◌∷◌}
 use native.Mathlib.Omega.{arith}
 use lib.ListN.{length, get_or}
@@ -12,11 +12,11 @@ use Rattle.promises.proofs.Compared.{Compared, less, more, equal, compared}
 
 -- a search for the lowest index below n at which P holds
 pub data Found (P : ℕ → Type 0) (n : ℕ) : Option ℕ → Type 0 where
-  found : {p : ℕ} → Lowest P n p → Found P n (some p)
-  nowhere : ((i : ℕ) → i < n → ¬ P i) → Found P n none
+  found : {p : ℕ} → Lowest P n p → Found P n (Some p)
+  nowhere : ((i : ℕ) → i < n → ¬ P i) → Found P n None
 
 -- none found, none there
-pub none_found : (P : ℕ → Type 0) (n : ℕ) → Found P n none → (i : ℕ) → i < n → ¬ P i
+pub none_found : (P : ℕ → Type 0) (n : ℕ) → Found P n None → (i : ℕ) → i < n → ¬ P i
 none_found P n (nowhere h) = h
 
 -- there is one lowest index
@@ -30,18 +30,18 @@ lowest_once P n p q h k = go (compared p q)
 
 -- an index counted from one more
 unfoldable pub later : Option ℕ → Option ℕ
-later none = none
-later (some p) = some (suc p)
+later None = None
+later (Some p) = Some (suc p)
 
 -- a search that goes on after index 0, where P does not hold
 pub goes_on : (P : ℕ → Type 0) (n : ℕ) (o : Option ℕ) → ¬ P 0 → Found (λ i. P (suc i)) n o → Found P (suc n) (later o)
 unfolding later
-goes_on P n (some p) d (found h) = found {p = suc p} (record { inside = omega (arith, h.inside); holds = h.holds; lowest = go })
+goes_on P n (Some p) d (found h) = found {p = suc p} (record { inside = omega (arith, h.inside); holds = h.holds; lowest = go })
   where
     go : (i : ℕ) → i < suc p → ¬ P i
     go zero l = d
     go (suc i) l = h.lowest i (omega arith)
-goes_on P n none d (nowhere h) = nowhere go
+goes_on P n None d (nowhere h) = nowhere go
   where
     go : (i : ℕ) → i < suc n → ¬ P i
     go zero l = d

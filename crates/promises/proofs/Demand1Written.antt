@@ -1,9 +1,9 @@
 -- What an accepted move writes at a place, in plain integers. Assumes nothing.
+use Rattle.std.specs.Prelude.{None, Some}
 use Prim.Native.Nat.{ℕ, zero, suc, ◌+◌, ◌-◌, ◌*◌, ◌/◌, ◌%◌, ◌^◌, ◌≤◌, ◌<◌}
 use mathlib.Core.Path.{◌≡◌, refl, sym, ap, ◌∙◌}
 use mathlib.Core.Logic.{◌≢◌}
 use mathlib.Core.Bool.{Bool, true, false, cond}
-use mathlib.Core.Option.{none, some}
 use mathlib.Core.List.{List, [], ◌∷◌}
 use native.Mathlib.Omega.{arith}
 use borrow.Author.Tests.{ltb-true, ltb-false, le-ltb, eqb-true, eqb-false, ne_eqb}
@@ -20,15 +20,15 @@ use Rattle.promises.proofs.Demand1Marks.{marks_found}
 use Rattle.promises.proofs.Residues.{pair_added, low_lt, high_lt}
 
 -- of the first n numbers none passes the test
-none_passes : (f : ℕ → Bool) (i n : ℕ) (xs : List ℕ) → first_index f i n xs ≡ none → n ≤ length xs → (k : ℕ) → k < n → f (get_or xs k 0) ≡ false
+none_passes : (f : ℕ → Bool) (i n : ℕ) (xs : List ℕ) → first_index f i n xs ≡ None → n ≤ length xs → (k : ℕ) → k < n → f (get_or xs k 0) ≡ false
 unfolding first_index
 none_passes f i zero xs e h k l = absurd (omega arith)
 none_passes f i (suc n) [] e h k l = absurd (omega arith)
 none_passes f i (suc n) (x ∷ xs) e h k l = go (f x) refl k l (none_passes f (suc i) n xs)
   where
     go : (y : Bool) → f x ≡ y → (k : ℕ) → k < suc n
-        → (first_index f (suc i) n xs ≡ none → n ≤ length xs → (j : ℕ) → j < n → f (get_or xs j 0) ≡ false) → f (get_or (x ∷ xs) k 0) ≡ false
-    go true g k l ih = let u : some i ≡ none = rw (g, first_index) at e in clash cc
+        → (first_index f (suc i) n xs ≡ None → n ≤ length xs → (j : ℕ) → j < n → f (get_or xs j 0) ≡ false) → f (get_or (x ∷ xs) k 0) ≡ false
+    go true g k l ih = let u : Some i ≡ None = rw (g, first_index) at e in clash cc
     go false g zero l ih = g
     go false g (suc j) l ih = ih (rw (g, first_index) at e) (omega arith) j (omega arith)
 
@@ -85,7 +85,7 @@ word_at d (suc n) (m ∷ ms) (w ∷ ws) h g (suc i) k =
     (r.0, r.1, λ l. r.2 (omega arith))
 
 -- a 2 among marks of which none is bad has a 3 next to it
-paired_at : (n : ℕ) (ms : List ℕ) → first_bad_mark 0 0 n ms ≡ none → n ≤ length ms → (i : ℕ) → i < n → get_or ms i 0 ≡ 2 → (suc i < n) × (get_or ms (suc i) 0 ≡ 3)
+paired_at : (n : ℕ) (ms : List ℕ) → first_bad_mark 0 0 n ms ≡ None → n ≤ length ms → (i : ℕ) → i < n → get_or ms i 0 ≡ 2 → (suc i < n) × (get_or ms (suc i) 0 ≡ 3)
 paired_at n ms e h i k m = go (ltb (suc i) n) refl (eqb (get_or ms (suc i) 0) 3) refl
   where
     alone : ¬ BadMark ms n i
@@ -131,7 +131,7 @@ module _ (d : ℤ) (m w v : ℕ) where
       go false = low_lt d w
 
 module _ (d : ℤ) (n : ℕ) (x : Slices) (la : n ≤ length x.addresses) (lw : n ≤ length x.words) (lm : n ≤ length x.marks)
-    (good : first_bad_mark 0 0 n x.marks ≡ none) (e : first_index (λ a. outside (pos a +ℤ d)) 0 n x.addresses ≡ none) where
+    (good : first_bad_mark 0 0 n x.marks ≡ None) (e : first_index (λ a. outside (pos a +ℤ d)) 0 n x.addresses ≡ None) where
   abbrev after : List ℕ
   after = move_words d n x.marks x.words
 

@@ -1,8 +1,7 @@
 -- Demand 2, the Rust: the second pass, and the theorem that the list, marks left out, is the Rust's. Assumes nothing.
+use Rattle.std.specs.Prelude.{Option, None, Some, unwrap_or, option_map}
 use Prim.Native.Nat.{ℕ, suc, ◌+◌, ◌/◌, ◌%◌, ◌^◌, ◌<◌}
 use mathlib.Core.Path.{◌≡◌, refl, sym, ap, ◌∙◌}
-use mathlib.Core.Option
-use mathlib.Core.Option.{Option, none, some, get_or}
 use mathlib.Core.List.{List, [], ◌∷◌, ◌++◌, map, flat_map, foldl, append-nil, append_assoc, map-append}
 use native.Mathlib.Omega.{arith}
 use native.Mathlib.Nat.{mod-eq_of_lt, mod-mod, div-add-mod'}
@@ -64,36 +63,36 @@ data_pushes m d = append_assoc m _ _
 
 code_pushes : (m : List (ℕ × ℕ)) (a : ℕ) (o : Option Code) → push_code m a o ≡ m ++ push_code [] a o
 unfolding push_code push_ext
-code_pushes m a none = sym (append-nil m)
-code_pushes m a (some c) = go c.1
+code_pushes m a None = sym (append-nil m)
+code_pushes m a (Some c) = go c.1
   where
     go : (e : Option ℕ) → push_ext (push m (a, c.0)) a e ≡ m ++ push_ext ((a, c.0) ∷ []) a e
-    go none = refl
-    go (some e) = append_assoc m _ _
+    go None = refl
+    go (Some e) = append_assoc m _ _
 
 instruction_pushes : (labels : HashMap) (m : List (ℕ × ℕ)) (i : AssemblyInstruction) → push_instruction labels m i ≡ m ++ inst_words labels i
 unfolding push_instruction inst_words
 instruction_pushes labels m i = code_pushes m i.address (encode_instruction_with_ext labels i)
 
 -- they stand at the rules' places
-code_words_lem : (a : ℕ) → a < 2 ^ 30 → (o : Option Code) → push_code [] a o ≡ words_at a (get_or (Option.map code_words o) [])
+code_words_lem : (a : ℕ) → a < 2 ^ 30 → (o : Option Code) → push_code [] a o ≡ words_at a (unwrap_or (option_map code_words o) [])
 unfolding push_code push_ext words_at
-code_words_lem a h none = refl
-code_words_lem a h (some c) = go c.1
+code_words_lem a h None = refl
+code_words_lem a h (Some c) = go c.1
   where
     go : (e : Option ℕ) → push_ext ((a, c.0) ∷ []) a e ≡ (a, c.0) ∷ words_at (a + 2) (ext_words e)
-    go none = refl
-    go (some e) = rw (two_on a h)
+    go None = refl
+    go (Some e) = rw (two_on a h)
 
-get_d_map : (o : Option (List Content)) → get_or (Option.map plain o) [] ≡ plain (get_or o [])
-get_d_map none = refl
-get_d_map (some cs) = refl
+get_d_map : (o : Option (List Content)) → unwrap_or (option_map plain o) [] ≡ plain (unwrap_or o [])
+get_d_map None = refl
+get_d_map (Some cs) = refl
 
 inst_words_lem : {m : HashMap} {t : Table} → Agrees m t → (a : ℕ) → a < 2 ^ 30 → (i : Said) → inst_words m (inst_at a i) ≡ map without_mark (places_at a (words_by encode t a i))
 unfolding inst_words push_instruction
 inst_words_lem {m} {t} g a low i =
     code_words_lem a low (encode_instruction_with_ext m (inst_at a i))
-    ∙ ap (λ (o : Option (List ℕ)). words_at a (get_or o [])) (encode_same a low i g).words
+    ∙ ap (λ (o : Option (List ℕ)). words_at a (unwrap_or o [])) (encode_same a low i g).words
     ∙ ap (words_at a) (get_d_map (encode t a i))
     ∙ sym (places_words a (words_by encode t a i))
 

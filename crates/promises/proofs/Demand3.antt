@@ -1,14 +1,15 @@
 -- Demand 3 for every lawful pair: the four statements, from the shift of the base and the mover's tally; and so for 01's. Assumes nothing.
+use Rattle.std.specs.Prelude.{None, Some, slice_get}
+use Rattle.std.proofs.lemmas.Option.{same_Some, none-some}
 use Prim.Native.Nat.{ℕ, zero, suc, ◌-◌, ◌≤◌, ◌<◌}
 use mathlib.Core.Path.{◌≡◌, refl, sym, ◌∙◌, ap}
 use mathlib.Core.Logic.{◌≢◌, ◌↔◌}
 use mathlib.Core.Bool.{Bool, true, false, cond}
-use mathlib.Core.Option.{none, some, some-injective, none-ne-some}
 use mathlib.Core.List.{List, [], ◌∷◌}
 use native.Mathlib.Omega.{arith}
 use borrow.Author.Tests.{ltb-true, ltb-false, lt-leb, leb-false, ne_eqb}
 use lib.Dec.{ltb}
-use lib.ListN.{length, get_elem?}
+use lib.ListN.{length}
 use lib.IntN.{ℤ, pos, negsuc, ◌+ℤ◌, ◌-ℤ◌, nat_abs, sub_ℕ, +ℤ_comm, -ℤ-+ℤ_cancel}
 use Rattle.rules.specs.Limits.{address_limit, distance_limit}
 use Rattle.rules.specs.Text.{Text}
@@ -57,10 +58,10 @@ low_differs d m w v h k l =
     rw (ne_eqb m 0 h, ne_eqb m 2 k) (λ u e. u (omega arith), λ u e. u (omega arith))
 
 -- the place at an index of a moved list
-moved_at : (d : ℤ) (l : List Place) (i : ℕ) (p q : Place) → get_elem? l i ≡ some p → get_elem? (tally_list d l) i ≡ some q → (v : ℕ) × (q ≡ moved_place d p v)
+moved_at : (d : ℤ) (l : List Place) (i : ℕ) (p q : Place) → slice_get l i ≡ Some p → slice_get (tally_list d l) i ≡ Some q → (v : ℕ) × (q ≡ moved_place d p v)
 unfolding tally_list
-moved_at d [] i p q hp hq = absurd (none-ne-some p hp)
-moved_at d (r ∷ rs) zero p q hp hq = (first_word rs, rw (← some-injective r p hp) (sym (some-injective (moved_place d r (first_word rs)) q hq)))
+moved_at d [] i p q hp hq = absurd (none-some p hp)
+moved_at d (r ∷ rs) zero p q hp hq = (first_word rs, rw (← same_Some r p hp) (sym (same_Some (moved_place d r (first_word rs)) q hq)))
 moved_at d (r ∷ rs) (suc i) p q hp hq = moved_at d rs i p q hp hq
 
 -- words of marks 0 and 1 differ where their mark is 1, if those of mark 0 do not and those of others do
@@ -87,7 +88,7 @@ module _ {z : Sizes} {e : Encoder} {most : ℕ} (law : Lawful z e most) where
         (apart b c (leb-false address_limit b (accepts z e b s lb eb).low) (leb-false address_limit c (accepts z e c s lc ec).low))
 
     -- the list for c is the list for b, moved by c − b, and refusal 11 names no place: both are the list at base 0, moved
-    moved : (tally_list (pos c -ℤ pos b) lb ≡ lc) × (first_outside (pos c -ℤ pos b) 0 lb ≡ none)
+    moved : (tally_list (pos c -ℤ pos b) lb ≡ lc) × (first_outside (pos c -ℤ pos b) 0 lb ≡ None)
     moved =
         let qb = list_at law b s lb eb in
         let qc = list_at law c s lc ec in

@@ -1,8 +1,8 @@
 -- W-204: a line's number is in its task exactly if it is read. Assumes nothing.
+use Rattle.std.specs.Prelude.{Some}
 use Prim.Native.Nat.{ℕ}
 use mathlib.Core.Path.{◌≡◌, refl}
 use mathlib.Core.Bool.{Bool, true, false}
-use mathlib.Core.Option.{some}
 use mathlib.Core.List.{List, [], ◌∷◌}
 use lib.Dec.{eqb}
 use Rattle.rules.specs.Text.{Text, bytes, uppers, leading, trim, pieces, Cut, uncut, around, first_cut, starts, contains, nth}
@@ -12,12 +12,12 @@ use Rattle.rules.specs.Directive.{piece_directive, directive_of, data_reading, a
 use Rattle.promises.specs.Readings.{Passes, org_read, org_failed, value_read, value_failed, no_value, not_read, ends, only_labelled, instructs, LinesPassOn}
 
 -- ORG and data by their number
-org_passes : (r : Reading ℕ) → Passes (org_task (value_of r)) (some r)
+org_passes : (r : Reading ℕ) → Passes (org_task (value_of r)) (Some r)
 unfolding org_task value_of
 org_passes (read v) = org_read
 org_passes (failed x) = org_failed
 
-value_passes : (n : ℕ) (r : Reading ℕ) → Passes (sized n (value_of r)) (some r)
+value_passes : (n : ℕ) (r : Reading ℕ) → Passes (sized n (value_of r)) (Some r)
 unfolding sized value_of
 value_passes n (read v) = value_read
 value_passes n (failed x) = value_failed

@@ -1,12 +1,12 @@
 -- W-205 holds: the verdict on a line that is read is right, and 13 comes exactly for the others. Assumes nothing.
+use Rattle.std.specs.Prelude.{Option, None, Some, slice_get}
 use Prim.Native.Nat.{ℕ, zero, suc, ◌<◌, ◌≤◌}
 use mathlib.Core.Path.{◌≡◌, refl, sym, ap, ◌∙◌}
 use mathlib.Core.Logic.{◌↔◌}
 use mathlib.Core.Bool.{Bool, true, false}
-use mathlib.Core.Option.{Option, none, some}
 use mathlib.Core.List.{List, [], ◌∷◌, ◌++◌, append-nil}
 use native.Mathlib.Omega.{arith}
-use lib.ListN.{length, get_elem?, take, drop, length-drop, drop_of_length-le}
+use lib.ListN.{length, take, drop, length-drop, drop_of_length-le}
 use lib.Seq.{take_all}
 use Rattle.rules.specs.Text.{Text, cut_at}
 use Rattle.rules.specs.Line.{lines_of, Task, end, line_of, size}
@@ -33,13 +33,13 @@ use Rattle.promises.proofs.LineVerdicts.{contents, Told, worded, reasoned, task_
 use Rattle.promises.proofs.LineWords.{words_or_none, line_puts, line_silent}
 
 -- ---- a list by index
-first_is : {A : Type 0} (xs : List A) (j : ℕ) (x : A) (ys : List A) → drop j xs ≡ x ∷ ys → get_elem? xs j ≡ some x
+first_is : {A : Type 0} (xs : List A) (j : ℕ) (x : A) (ys : List A) → drop j xs ≡ x ∷ ys → slice_get xs j ≡ Some x
 first_is [] zero x ys e = clash cc
 first_is [] (suc j) x ys e = clash cc
-first_is (y ∷ xs) zero x ys e = let u : y ≡ x = cc in ap some u
+first_is (y ∷ xs) zero x ys e = let u : y ≡ x = cc in ap Some u
 first_is (y ∷ xs) (suc j) x ys e = first_is xs j x ys e
 
-is_elem : {A : Type 0} (xs : List A) (j : ℕ) (x : A) → get_elem? xs j ≡ some x → j < length xs
+is_elem : {A : Type 0} (xs : List A) (j : ℕ) (x : A) → slice_get xs j ≡ Some x → j < length xs
 is_elem [] j x e = clash cc
 is_elem (y ∷ xs) zero x e = omega arith
 is_elem (y ∷ xs) (suc j) x e = let h = is_elem xs j x e in omega arith
@@ -53,11 +53,11 @@ module _ (names : List Mnemonic) (base : ℕ) (s : Text) (p : Pass) (accepts : p
   unfolding pass_at_by
   passed = (not_refused _ 4 0 _ p (checks_passed s _ p accepts).1).1
 
-  recorded : (l : Text) (x : ℕ) → find l p.labels ≡ some x → RecordedAt base s l x
+  recorded : (l : Text) (x : ℕ) → find l p.labels ≡ Some x → RecordedAt base s l x
   unfolding FoundIsLast
   recorded l x = (found_is_last size base s p accepts l x).0
 
-  is_recorded : (l : Text) (x : ℕ) → RecordedAt base s l x → find l p.labels ≡ some x
+  is_recorded : (l : Text) (x : ℕ) → RecordedAt base s l x → find l p.labels ≡ Some x
   unfolding FoundIsLast
   is_recorded l x = (found_is_last size base s p accepts l x).1
 
@@ -257,13 +257,13 @@ explain_refuses_exactly names base s n =
     refuses_exactly (ExplainCondition base s n) explaining (are_apart explaining refl) (known names base s n) (explain_by names base s n) (one_runs names base s n)
 
 each_line : (names : List Mnemonic) (base : ℕ) (s : Text) (vs : List Verdict) → explain_all_by names base s ≡ accepted vs
-    → (j : ℕ) (v : Verdict) → (get_elem? vs j ≡ some v) ↔ (explain_by names base s (suc j) ≡ accepted v)
+    → (j : ℕ) (v : Verdict) → (slice_get vs j ≡ Some v) ↔ (explain_by names base s (suc j) ≡ accepted v)
 unfolding verdict_at told_line
-each_line names base s vs e j v = rw (one_of_all names base s vs e (suc j)) (go (get_elem? vs j))
+each_line names base s vs e j v = rw (one_of_all names base s vs e (suc j)) (go (slice_get vs j))
   where
-    go : (o : Option Verdict) → (o ≡ some v) ↔ (told_line (suc j) o ≡ accepted v)
-    go none = (λ f. clash cc, λ f. clash cc)
-    go (some w) = (λ f. let u : w ≡ v = cc in ap accepted u, λ f. let u : w ≡ v = cc in ap some u)
+    go : (o : Option Verdict) → (o ≡ Some v) ↔ (told_line (suc j) o ≡ accepted v)
+    go None = (λ f. clash cc, λ f. clash cc)
+    go (Some w) = (λ f. let u : w ≡ v = cc in ap accepted u, λ f. let u : w ≡ v = cc in ap Some u)
 
 pub explains_all : ExplainsAll
 unfolding apart

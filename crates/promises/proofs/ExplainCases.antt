@@ -1,6 +1,6 @@
 -- W-205's odd lines hold by computation. Assumes nothing.
+use Rattle.rules.specs.Option.{bind, or_else}
 use mathlib.Core.Path.{refl}
-use mathlib.Core.Option.{bind, or_else}
 use Rattle.rules.specs.Text.{bytes, blank, upper, uppers, trim_start, keep_end, trim_end, trim, on_first, cut_where, cut_at, drop_empty, pieces, join_more, joined, in_front, first_cut, same, starts, contains, after, nth, first_text, other_texts}
 use Rattle.rules.specs.Number.{digit_value, digits, some_digits, ranged, below, within, without, unsigned_reading, signed_reading, hex_tail, by_prefix, reading32, reading16, reading8, immediate, value_of, number16, imm8, imm16}
 use Rattle.rules.specs.Line.{numbered, lines_of, reading_in, number_in, value_reading, value_reading_in, operands_of, instruction_of, data_size, data_value, sized, data_task, is_directive, data_pieces, nonempty, data_line, is_data, rest_line, after_label, label_line, org_task, trimmed_line, line_of, is_l, is_plain, is_long, instruction_size, size}

@@ -1,8 +1,9 @@
 -- W-205 at every base: no verdict changes with labels and lines b higher. Assumes nothing.
+use Rattle.std.specs.Prelude.{Option, None, Some, option_map}
+use Rattle.rules.specs.Option.{bind, or_else}
 use Prim.Native.Nat.{ℕ, ◌+◌}
 use mathlib.Core.Path.{◌≡◌, refl, sym, ap, ap₂, ◌∙◌}
 use mathlib.Core.Bool.{◌&&◌, ◌||◌}
-use mathlib.Core.Option.{Option, none, some, map, bind, or_else}
 use mathlib.Core.List.{List, [], ◌∷◌, map-map}
 use lib.ListN.{length-map}
 use lib.IntN.{ℤ}
@@ -37,8 +38,8 @@ module _ (b : ℕ) (ls : Table) (a : ℕ) where
   meets_shift hash_label s = go (after (bytes "#") s)
     where
       go : (o : Option Text) → is_some (bind o λ l. find l up) ≡ is_some (bind o λ l. find l ls)
-      go none = refl
-      go (some l) = found_shift l
+      go None = refl
+      go (Some l) = found_shift l
   meets_shift Dn s = refl
   meets_shift An s = refl
   meets_shift AtAn s = refl
@@ -51,19 +52,19 @@ module _ (b : ℕ) (ls : Table) (a : ℕ) where
   unfound_shift l = rw (unless_found, find_shift b l ls) (go (find l ls))
     where
       go : (o : Option ℕ)
-          → ◌≡◌ {A = Option Reason} (elim (map (λ x. b + x) o) [ none ↦ some not_recorded | some x ↦ none ]) (elim o [ none ↦ some not_recorded | some x ↦ none ])
-      go none = refl
-      go (some x) = refl
+          → ◌≡◌ {A = Option Reason} (elim (option_map (λ x. b + x) o) [ None ↦ Some not_recorded | Some x ↦ None ]) (elim o [ None ↦ Some not_recorded | Some x ↦ None ])
+      go None = refl
+      go (Some x) = refl
 
   unreached_shift : (l : Text) → unless_reached up (b + a) l ≡ unless_reached ls a l
   unfolding unless_reached
   unreached_shift l = rw (unless_reached, find_shift b l ls) (go (find l ls))
     where
       go : (o : Option ℕ)
-          → ◌≡◌ {A = Option Reason} (elim (map (λ x. b + x) o) [ none ↦ some not_recorded | some x ↦ elim (reach x (b + a)) [ none ↦ some out_of_reach | some z ↦ none ] ])
-          (elim o [ none ↦ some not_recorded | some x ↦ elim (reach x a) [ none ↦ some out_of_reach | some z ↦ none ] ])
-      go none = refl
-      go (some x) = rw (reach_shift b x a)
+          → ◌≡◌ {A = Option Reason} (elim (option_map (λ x. b + x) o) [ None ↦ Some not_recorded | Some x ↦ elim (reach x (b + a)) [ None ↦ Some out_of_reach | Some z ↦ None ] ])
+          (elim o [ None ↦ Some not_recorded | Some x ↦ elim (reach x a) [ None ↦ Some out_of_reach | Some z ↦ None ] ])
+      go None = refl
+      go (Some x) = rw (reach_shift b x a)
 
   fault_shift : (x : Operand) (s : Text) → fault up (b + a) x s ≡ fault ls a x s
   unfolding fault bind
@@ -72,8 +73,8 @@ module _ (b : ℕ) (ls : Table) (a : ℕ) where
   fault_shift hash_label s = go (after (bytes "#") s)
     where
       go : (o : Option Text) → bind o (unless_found up) ≡ bind o (unless_found ls)
-      go none = refl
-      go (some l) = unfound_shift l
+      go None = refl
+      go (Some l) = unfound_shift l
   fault_shift Dn s = refl
   fault_shift An s = refl
   fault_shift AtAn s = refl
@@ -82,9 +83,9 @@ module _ (b : ℕ) (ls : Table) (a : ℕ) where
   fault_shift branch_target s = go (written_reading s)
     where
       go : (o : Option (Reading ℤ))
-          → ◌≡◌ {A = Option Reason} (elim o [ none ↦ unless_reached up (b + a) s | some r ↦ failing r ]) (elim o [ none ↦ unless_reached ls a s | some r ↦ failing r ])
-      go none = unreached_shift s
-      go (some r) = refl
+          → ◌≡◌ {A = Option Reason} (elim o [ None ↦ unless_reached up (b + a) s | Some r ↦ failing r ]) (elim o [ None ↦ unless_reached ls a s | Some r ↦ failing r ])
+      go None = unreached_shift s
+      go (Some r) = refl
 
   -- a form's places
   met_shift : (f : List Operand) (ps : List Text) → met up (b + a) f ps ≡ met ls a f ps
@@ -110,10 +111,10 @@ module _ (b : ℕ) (ls : Table) (a : ℕ) where
   kinds_shift fs ps = go (form_with fs ps)
     where
       go : (o : Option (List Operand))
-          → ◌≡◌ {A = Verdict} (elim o [ none ↦ because wrong_kinds | some f ↦ unless (fault_in up (b + a) f ps) ])
-          (elim o [ none ↦ because wrong_kinds | some f ↦ unless (fault_in ls a f ps) ])
-      go none = refl
-      go (some f) = ap unless (fault_in_shift f ps)
+          → ◌≡◌ {A = Verdict} (elim o [ None ↦ because wrong_kinds | Some f ↦ unless (fault_in up (b + a) f ps) ])
+          (elim o [ None ↦ because wrong_kinds | Some f ↦ unless (fault_in ls a f ps) ])
+      go None = refl
+      go (Some f) = ap unless (fault_in_shift f ps)
 
   forms_shift : (fs : List (List Operand)) (ps : List Text) → why_forms up (b + a) fs ps ≡ why_forms ls a fs ps
   unfolding why_forms
@@ -133,10 +134,10 @@ module _ (b : ℕ) (ls : Table) (a : ℕ) where
   task_shift names (instruction i) = go (operation_in names i.mnemonic)
     where
       go : (x : Option Operation)
-          → ◌≡◌ {A = Verdict} (elim x [ none ↦ because unknown_mnemonic | some o ↦ why_operation up (b + a) o i.operands ])
-          (elim x [ none ↦ because unknown_mnemonic | some o ↦ why_operation ls a o i.operands ])
-      go none = refl
-      go (some o) = operation_shift o i.operands
+          → ◌≡◌ {A = Verdict} (elim x [ None ↦ because unknown_mnemonic | Some o ↦ why_operation up (b + a) o i.operands ])
+          (elim x [ None ↦ because unknown_mnemonic | Some o ↦ why_operation ls a o i.operands ])
+      go None = refl
+      go (Some o) = operation_shift o i.operands
   task_shift names (value n v) = refl
   task_shift names (space n) = refl
 

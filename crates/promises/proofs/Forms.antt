@@ -1,9 +1,10 @@
 -- 01's rows and the table of forms agree: an operation gives words exactly if its count is right and one of its forms is met, and a
 -- form is met only by its kinds or by a recorded label. Assumes nothing.
+use Rattle.std.specs.Prelude.{Option, None, Some}
+use Rattle.rules.specs.Option.{bind, or_else}
 use Prim.Native.Nat.{ℕ, suc, ◌+◌, ◌≤◌}
 use mathlib.Core.Path.{◌≡◌, refl, sym, ap, ◌∙◌}
 use mathlib.Core.Bool.{Bool, true, false, cond, ◌&&◌, ◌||◌, false≢true, and-true, and_comm, or-false}
-use mathlib.Core.Option.{Option, none, some, bind, or_else}
 use mathlib.Core.List.{List, [], ◌∷◌}
 use native.Mathlib.Omega.{arith}
 use lib.Dec.{eqb, leb}
@@ -27,13 +28,13 @@ use Rattle.promises.proofs.OperandKinds.{of_kind}
 module _ {A : Type 0} where
   on : {X : Type 0} (o : Option X) (f : X → Option A) (c : Bool) → ((x : X) → is_some (f x) ≡ c) → is_some (bind o f) ≡ (is_some o && c)
   unfolding bind is_some
-  on none f c k = refl
-  on (some x) f c k = k x
+  on None f c k = refl
+  on (Some x) f c k = k x
 
   either : (x y : Option A) (b c : Bool) → is_some x ≡ b → is_some y ≡ c → is_some (or_else x y) ≡ (b || c)
   unfolding or_else is_some
-  either none y b c e f = rw (← e) f
-  either (some a) y b c e f = rw (← e)
+  either None y b c e f = rw (← e) f
+  either (Some a) y b c e f = rw (← e)
 
   last : (x : Option A) (b : Bool) → is_some x ≡ b → is_some x ≡ (b || false)
   last x b e = rw or-false e
@@ -79,8 +80,8 @@ module _ (ls : Table) (a : ℕ) where
     where
       go : (o : Option Text)
           → is_some (bind o λ l. bind (address_register t) λ n. with_label ls (0x207C + R n) l) ≡ (is_some (bind o λ l. find l ls) && (is_some (address_register t) && true) || false)
-      go none = refl
-      go (some l) = rw (or-false, and-true) (on (address_register t) _ _ (λ n. labelled _ l) ∙ and_comm (is_some (address_register t)) (is_some (find l ls)))
+      go None = refl
+      go (Some l) = rw (or-false, and-true) (on (address_register t) _ _ (λ n. labelled _ l) ∙ and_comm (is_some (address_register t)) (is_some (find l ls)))
 
   -- ---- counts
   module _ (o : Operation) where
@@ -124,7 +125,7 @@ module _ (ls : Table) (a : ℕ) where
   forms_agree tst = one_form tst tst_row refl λ s. last (tst_row s) _ (on (data_register s) _ true λ n. refl)
   forms_agree jmp = one_form jmp (jump_row ls) refl λ s. last (jump_row ls s) _ (jumping (jumps ls s))
     where
-      jumping : (x : Bool) → is_some {A = List Content} (cond x (some (literal 0x4EF8 ∷ [])) none) ≡ (x && true)
+      jumping : (x : Bool) → is_some {A = List Content} (cond x (Some (literal 0x4EF8 ∷ [])) None) ≡ (x && true)
       jumping true = refl
       jumping false = refl
   forms_agree dbra = two_forms dbra (dbra_row ls a) refl λ s t. last (dbra_row ls a s t) _ (on (data_register s) _ _ λ n. on (displacement ls a t) _ true λ z. refl)
@@ -159,8 +160,8 @@ module _ (ls : Table) (a : ℕ) where
     where
       go : (x : Bool) → near ls a s ≡ x → (o : Option Reason) → fault ls a branch_target s ≡ o → (x || clear o) ≡ true → StandsIn ls branch_target s
       go true f o g e = named branch_target s refl (bound (find s ls) _ f)
-      go false f none g e = by_kind (of_kind s (number_text_lem ls a s f g))
-      go false f (some r) g e = absurd (false≢true e)
+      go false f None g e = by_kind (of_kind s (number_text_lem ls a s f g))
+      go false f (Some r) g e = absurd (false≢true e)
 
   met_stands : (f : List Operand) (ps : List Text) → met ls a f ps ≡ true → AllStandIn ls f ps
   unfolding met

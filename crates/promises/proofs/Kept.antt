@@ -1,10 +1,10 @@
 -- A table into which labels are recorded one after another, each starting later than those before, holds the last of each name.
 -- Assumes nothing.
+use Rattle.std.specs.Prelude.{Some}
 use Prim.Native.Nat.{ℕ, suc, ◌+◌, ◌<◌, ◌≤◌}
 use mathlib.Core.Path.{◌≡◌, refl, sym, ap, ◌∙◌}
 use mathlib.Core.Logic.{◌≢◌, ◌⊎◌, inl, inr}
 use mathlib.Core.Bool.{Bool, true, false}
-use mathlib.Core.Option.{some}
 use mathlib.Core.List.{List, [], ◌∷◌, map}
 use native.Mathlib.Omega.{arith}
 use borrow.Author.Tests.{eq-eqb}
@@ -159,7 +159,7 @@ keeps_one P b t x l k = record { unique = r.unique; is = is; has = has; covers =
 
 -- the names of a line
 module _ (l : SourceLine) (a : ℕ) where
-  pub keeps_all : {e : ℕ} (P : Label → Type 0) {ns : List Name} {c : ℕ} (b : ℕ) (t t' : Table) → b ≤ l.start + c → Rising l.text e c ns → record_all l a ns t ≡ some t'
+  pub keeps_all : {e : ℕ} (P : Label → Type 0) {ns : List Name} {c : ℕ} (b : ℕ) (t t' : Table) → b ≤ l.start + c → Rising l.text e c ns → record_all l a ns t ≡ Some t'
       → Keeps P b t → Keeps (λ y. P y ⊎ In y (map (label_of l a) ns)) (l.start + e) t'
   unfolding record_all
   keeps_all {e = e} P b t t' h (over r) f k =
@@ -187,7 +187,7 @@ module _ (l : SourceLine) (a : ℕ) where
       back y (inr (tail i)) = inr i
 
       go : (y : Bool) → has_room (find n.text t) t ≡ y
-          → ((c : ℕ) (u : Table) → c ≤ l.start + suc (n.start + length n.text) → record_all l a ns u ≡ some t' → Keeps Q c u
+          → ((c : ℕ) (u : Table) → c ≤ l.start + suc (n.start + length n.text) → record_all l a ns u ≡ Some t' → Keeps Q c u
           → Keeps (λ y. Q y ⊎ In y (map (label_of l a) ns)) (l.start + e) t')
           → Keeps (λ y. P y ⊎ In y (map (label_of l a) (n ∷ ns))) (l.start + e) t'
       go true g ih =

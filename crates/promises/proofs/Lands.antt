@@ -1,9 +1,10 @@
 -- Branches land, before and after moves, in 01's lists and in those of the manual's call. Assumes nothing.
+use Rattle.std.specs.Prelude.{Option, None, Some}
+use Rattle.rules.specs.Option.{bind}
 use Prim.Native.Nat.{ℕ, zero, suc, ◌+◌, ◌-◌, ◌*◌, ◌/◌, ◌%◌, ◌<◌}
 use mathlib.Core.Path.{◌≡◌, refl, sym, ap, ◌∙◌}
 use mathlib.Core.Logic.{◌≢◌}
 use mathlib.Core.Bool.{Bool, true, false, cond}
-use mathlib.Core.Option.{Option, none, some, bind}
 use mathlib.Core.List.{List, [], ◌∷◌, ◌++◌, map}
 use native.Mathlib.Omega.{arith}
 use borrow.Author.Tests.{lt-ltb, le-ltb}
@@ -103,7 +104,7 @@ module _ {z : Sizes} {e : Encoder} {most : ℕ} (law : Lawful z e most) (base : 
     (passed : pass_at_by z base s ≡ accepted p) (made : assemble_by z e base s ≡ accepted l) where
   -- they stand in its place
   in_place : {j a : ℕ} {ns : List Text} (line : Text) (i : Instruction) → Reached z base s j a ns → IsLine s j line → (line_of line).task ≡ instruction i
-      → (ws : List ℕ) → e p.labels a i ≡ some (map literal ws) → l ≡ words_before e p j ++ (marked_zero a ws ++ words_after e p j)
+      → (ws : List ℕ) → e p.labels a i ≡ Some (map literal ws) → l ≡ words_before e p j ++ (marked_zero a ws ++ words_after e p j)
   unfolding assemble_by and_then code_places_by code_contents_by
   in_place {j} {a} line i r is k ws w =
       let q : accepted (second_pass_by e p) ≡ accepted l = rw passed at made in
@@ -133,7 +134,7 @@ module _ {z : Sizes} {e : Encoder} {most : ℕ} (law : Lawful z e most) (base : 
           lands = follow (w ∷ ws) a (pos t) lands (moved_address total a) total here;
         }
 
-    pub landed : {j : ℕ} {i : Instruction} {o : Text} {d : ℤ} → Aims z base s j a i o t d → e p.labels a i ≡ some (map literal (w ∷ ws)) → Landed Leads e p j a t l
+    pub landed : {j : ℕ} {i : Instruction} {o : Text} {d : ℤ} → Aims z base s j a i o t d → e p.labels a i ≡ Some (map literal (w ∷ ws)) → Landed Leads e p j a t l
     landed {j} {i} m k =
         let list = in_place m.line i m.reached m.is m.asks (w ∷ ws) k in
         record { words = w ∷ ws; list = list; lands = lands; stays = lands_moved (words_before e p j) (words_after e p j) list }
@@ -147,8 +148,8 @@ branch_leads c a t d small near leads =
     by_byte h (ap (λ (b : ℕ). pos (a + 2) +ℤ sign_of b) u ∙ ap (λ (z : ℤ). pos (a + 2) +ℤ z) k.1 ∙ leads)
 
 -- ---- 01's call
-branch_encoded : (names : List Mnemonic) (ls : Table) (a : ℕ) (i : Instruction) (c : ℕ) (o : Text) (ps : List Text) (d : ℤ) → operation_in names i.mnemonic ≡ some (branch c)
-    → i.operands ≡ o ∷ ps → displacement ls a o ≡ some d → InByte d → encode_by names ls a i ≡ some (literal (0x6000 + 256 * c + byte d) ∷ [])
+branch_encoded : (names : List Mnemonic) (ls : Table) (a : ℕ) (i : Instruction) (c : ℕ) (o : Text) (ps : List Text) (d : ℤ) → operation_in names i.mnemonic ≡ Some (branch c)
+    → i.operands ≡ o ∷ ps → displacement ls a o ≡ Some d → InByte d → encode_by names ls a i ≡ Some (literal (0x6000 + 256 * c + byte d) ∷ [])
 unfolding encode_by bind encode_operation one_or_more branch_row
 branch_encoded names ls a i c o ps d e f g near = rw (e, f, g, byte_modulo d near)
 
@@ -164,7 +165,7 @@ branches_land_by names base s p l h f j a i o t d m q =
 record Known (c : Condition) : Type 0 where
   number : ℕ
   small : number < 16
-  named : operation_in mnemonics (branch_named c) ≡ some (branch number)
+  named : operation_in mnemonics (branch_named c) ≡ Some (branch number)
 
 known : (c : Condition) → Known c
 unfolding operation_in mnemonics other_mnemonics branches same bytes branch_named
@@ -189,7 +190,7 @@ branches_land base s p l h f j a i o t d m q =
 
 -- ---- the manual's call
 -- the eleven have a head without a suffix alone
-no_suffix : (c : Condition) (t : Text) → head_in heads (branch_named c) (some t) ≡ none
+no_suffix : (c : Condition) (t : Text) → head_in heads (branch_named c) (Some t) ≡ None
 unfolding head_in heads same same_suffix bytes branch_named
 no_suffix T t = refl
 no_suffix CC t = refl
@@ -208,7 +209,7 @@ with_branch : (c : Condition) (o : Text) (ps : List Text) → Has (λ g. g ≡ d
 unfolding form_of one other_text bind
 with_branch c o [] = go (same_kind (kind_of o) text)
   where
-    go : (x : Bool) → Has (λ g. g ≡ displaced_by (branching c) o) (bind (cond x (some o) none) (λ l. some (displaced_by (branching c) l)))
+    go : (x : Bool) → Has (λ g. g ≡ displaced_by (branching c) o) (bind (cond x (Some o) None) (λ l. Some (displaced_by (branching c) l)))
     go true = refl
     go false = tt
 with_branch c o (q ∷ ps) = tt
@@ -216,8 +217,8 @@ with_branch c o (q ∷ ps) = tt
 branch_form : (c : Condition) (f : Option Text) (o : Text) (ps : List Text)
     → Has (λ g. g ≡ displaced_by (branching c) o) (bind (head_in heads (branch_named c) f) (λ h. form_of h (o ∷ ps)))
 unfolding bind
-branch_form c none o ps = rw (branch_head c) (with_branch c o ps)
-branch_form c (some t) o ps = rw (no_suffix c t) tt
+branch_form c None o ps = rw (branch_head c) (with_branch c o ps)
+branch_form c (Some t) o ps = rw (no_suffix c t) tt
 
 abbrev IsLoop : Text → Form → Type 0
 IsLoop o g = (n : ℕ) × (n < 8) × (g ≡ displaced_by (looping n) o)
@@ -227,45 +228,45 @@ unfolding form_of two other_text bind
 with_loop r o [] = go (data_register r) (is_d r) (same_kind (kind_of o) text)
   where
     go : (x : Option ℕ) → Has (Numbered D r) x → (y : Bool)
-        → Has (IsLoop o) (bind x (λ n. bind (cond y (some o) none) (λ l. some (displaced_by (looping n) l))))
-    go none h y = tt
-    go (some n) h true = (n, h.1, refl)
-    go (some n) h false = tt
+        → Has (IsLoop o) (bind x (λ n. bind (cond y (Some o) None) (λ l. Some (displaced_by (looping n) l))))
+    go None h y = tt
+    go (Some n) h true = (n, h.1, refl)
+    go (Some n) h false = tt
 with_loop r o (q ∷ ps) = tt
 
 loop_form : (f : Option Text) (r o : Text) (ps : List Text) → Has (IsLoop o) (bind (head_in heads (bytes "DBRA") f) (λ h. form_of h (r ∷ o ∷ ps)))
 unfolding bind head_in heads same same_suffix bytes
-loop_form none r o ps = with_loop r o ps
-loop_form (some t) r o ps = tt
+loop_form None r o ps = with_loop r o ps
+loop_form (Some t) r o ps = tt
 
 -- what has words has a form, and its words are the form's
-by_form : (ls : Table) (a : ℕ) (P : Form → Type 0) (x : Option Form) {cs : List Content} → Has P x → bind x (form_contents ls a) ≡ some cs
+by_form : (ls : Table) (a : ℕ) (P : Form → Type 0) (x : Option Form) {cs : List Content} → Has P x → bind x (form_contents ls a) ≡ Some cs
     → (g : Form) × P g × (bind x (form_contents ls a) ≡ form_contents ls a g)
 unfolding bind
-by_form ls a P none h e = clash cc
-by_form ls a P (some g) h e = (g, h, refl)
+by_form ls a P None h e = clash cc
+by_form ls a P (Some g) h e = (g, h, refl)
 
 -- the words of a branch in range, and of DBRA
-module _ (ls : Table) (a : ℕ) (o : Text) (t : ℕ) (d : ℤ) (found : find o ls ≡ some t) (leads : pos (a + 2) +ℤ d ≡ pos t) where
-  contents : (g : Branching) → Range g d → form_contents ls a (displaced_by g o) ≡ some (map literal (manual_words (branched g d)))
+module _ (ls : Table) (a : ℕ) (o : Text) (t : ℕ) (d : ℤ) (found : find o ls ≡ Some t) (leads : pos (a + 2) +ℤ d ≡ pos t) where
+  contents : (g : Branching) → Range g d → form_contents ls a (displaced_by g o) ≡ Some (map literal (manual_words (branched g d)))
   unfolding form_contents bind
   contents g near = rw (taken ls a g o d (taken_label (record { target = t; found = found; leads = leads }) near))
 
   branch_code : (i : Instruction) (c : Condition) (ps : List Text) {cs : List Content} → i.mnemonic ≡ branch_named c → i.operands ≡ o ∷ ps → InBranch d
-      → manual_encode ls a i ≡ some cs → manual_encode ls a i ≡ some (literal (0x6000 + 256 * condition c + byte d) ∷ [])
+      → manual_encode ls a i ≡ Some cs → manual_encode ls a i ≡ Some (literal (0x6000 + 256 * condition c + byte d) ∷ [])
   unfolding manual_encode form branched manual_words extensions
   branch_code i c ps e f near h =
       let k = by_form ls a (λ g. g ≡ displaced_by (branching c) o) (form i) (rw (e, f) (branch_form c i.suffix o ps)) h in
-      let u : form_contents ls a k.0 ≡ some (map literal (manual_words (branched (branching c) d))) = rw k.1 (contents (branching c) near) in
+      let u : form_contents ls a k.0 ≡ Some (map literal (manual_words (branched (branching c) d))) = rw k.1 (contents (branching c) near) in
       k.2 ∙ u ∙ rw (no_word_after d near, operation_words.branch c d)
 
   loop_code : (i : Instruction) (r : Text) (ps : List Text) {cs : List Content} → i.mnemonic ≡ bytes "DBRA" → i.operands ≡ r ∷ o ∷ ps → InWord d
-      → manual_encode ls a i ≡ some cs → (n : ℕ) × (n < 8) × (manual_encode ls a i ≡ some (literal (0x51C8 + n) ∷ literal (sixteen_bits d) ∷ []))
+      → manual_encode ls a i ≡ Some cs → (n : ℕ) × (n < 8) × (manual_encode ls a i ≡ Some (literal (0x51C8 + n) ∷ literal (sixteen_bits d) ∷ []))
   unfolding manual_encode form branched manual_words extensions
   loop_code i r ps e f near h =
       let k = by_form ls a (IsLoop o) (form i) (rw (e, f) (loop_form i.suffix r o ps)) h in
       let n = k.1.0 in
-      let u : form_contents ls a k.0 ≡ some (map literal (manual_words (branched (looping n) d))) = rw k.1.2 (contents (looping n) near) in
+      let u : form_contents ls a k.0 ≡ Some (map literal (manual_words (branched (looping n) d))) = rw k.1.2 (contents (looping n) near) in
       (n, k.1.1, k.2 ∙ u ∙ rw (operation_words.dbra n d))
 
 -- a word's displacement is read back

@@ -1,6 +1,6 @@
 -- Such lines as W-209 speaks of are there, of each of the eleven and of DBRA, by computation. Assumes nothing.
+use Rattle.rules.specs.Option.{bind}
 use mathlib.Core.Path.{◌≡◌, refl}
-use mathlib.Core.Option.{bind}
 use mathlib.Core.List.{[], ◌∷◌}
 use native.Mathlib.Omega.{arith}
 use lib.IntN.{negsuc}

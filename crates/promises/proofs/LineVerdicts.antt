@@ -1,9 +1,10 @@
 -- W-205 of what a line asks: the verdict on it is right, and no other is. Assumes nothing.
+use Rattle.std.specs.Prelude.{Option, None, Some}
+use Rattle.rules.specs.Option.{bind}
 use Prim.Native.Nat.{ℕ, ◌<◌, ◌≤◌}
 use mathlib.Core.Path.{◌≡◌, refl, ◌∙◌}
 use mathlib.Core.Logic.{◌≢◌}
 use mathlib.Core.Bool.{Bool, true, false}
-use mathlib.Core.Option.{Option, none, some, bind}
 use mathlib.Core.List.{List, [], ◌∷◌, ◌++◌}
 use native.Mathlib.Omega.{arith}
 use Rattle.rules.specs.Text.{Text, same}
@@ -22,23 +23,23 @@ use Rattle.promises.proofs.Decided.{there, none_there}
 use Rattle.promises.proofs.Verdicts.{Judged, makes, lacks, judged, first_told}
 
 -- ---- mnemonics in use
-known : (ns : List Mnemonic) (m : Text) (o : Operation) → operation_in ns m ≡ some o → ((n : Mnemonic) → In n ns → m ≢ n.name) → ⊥
+known : (ns : List Mnemonic) (m : Text) (o : Operation) → operation_in ns m ≡ Some o → ((n : Mnemonic) → In n ns → m ≢ n.name) → ⊥
 unfolding operation_in
 known [] m o e k = clash cc
 known (n ∷ ns) m o e k = go (same m n.name) refl e (known ns m o)
   where
-    go : (x : Bool) → same m n.name ≡ x → elim x [ true ↦ some n.operation | false ↦ operation_in ns m ] ≡ some o
-        → (operation_in ns m ≡ some o → ((l : Mnemonic) → In l ns → m ≢ l.name) → ⊥) → ⊥
+    go : (x : Bool) → same m n.name ≡ x → elim x [ true ↦ Some n.operation | false ↦ operation_in ns m ] ≡ Some o
+        → (operation_in ns m ≡ Some o → ((l : Mnemonic) → In l ns → m ≢ l.name) → ⊥) → ⊥
     go true f e ih = k n (head refl) (same_eq m n.name f)
     go false f e ih = ih e (λ l i. k l (tail i))
 
-unknown_all : (ns : List Mnemonic) (m : Text) → operation_in ns m ≡ none → (n : Mnemonic) → In n ns → m ≢ n.name
+unknown_all : (ns : List Mnemonic) (m : Text) → operation_in ns m ≡ None → (n : Mnemonic) → In n ns → m ≢ n.name
 unfolding operation_in
 unknown_all [] m e = λ n. elim [ ]
 unknown_all (n ∷ ns) m e = go (same m n.name) refl e (unknown_all ns m)
   where
-    go : (x : Bool) → same m n.name ≡ x → ◌≡◌ {A = Option Operation} (elim x [ true ↦ some n.operation | false ↦ operation_in ns m ]) none
-        → (operation_in ns m ≡ none → (l : Mnemonic) → In l ns → m ≢ l.name) → (l : Mnemonic) → In l (n ∷ ns) → m ≢ l.name
+    go : (x : Bool) → same m n.name ≡ x → ◌≡◌ {A = Option Operation} (elim x [ true ↦ Some n.operation | false ↦ operation_in ns m ]) None
+        → (operation_in ns m ≡ None → (l : Mnemonic) → In l ns → m ≢ l.name) → (l : Mnemonic) → In l (n ∷ ns) → m ≢ l.name
     go true f e ih = clash cc
     go false f e ih = on
       where
@@ -67,28 +68,28 @@ pub data Told (names : List Mnemonic) (ls : Table) (At : Text → ℕ → Type 0
   reasoned : {r : Reason} → contents names ls a k ≡ [] → Holds names At a k r → ((q : Reason) → rank q < rank r → ¬ Holds names At a k q)
       → Told names ls At a k (because r)
 
-module _ (names : List Mnemonic) (ls : Table) (a : ℕ) (At : Text → ℕ → Type 0) (at : (l : Text) (x : ℕ) → find l ls ≡ some x → At l x)
-    (is_at : (l : Text) (x : ℕ) → At l x → find l ls ≡ some x) where
+module _ (names : List Mnemonic) (ls : Table) (a : ℕ) (At : Text → ℕ → Type 0) (at : (l : Text) (x : ℕ) → find l ls ≡ Some x → At l x)
+    (is_at : (l : Text) (x : ℕ) → At l x → find l ls ≡ Some x) where
   -- what is no instruction and has no words
   silent : (k : Task) → contents names ls a k ≡ [] → ((i : Instruction) → k ≢ instruction i) → Told names ls At a k (because not_instruction)
   unfolding rank
   silent k e n = reasoned e (other n) (λ q l h. let u = holds_rank q in omega arith)
 
-  encode_as : (i : Instruction) (o : Operation) → operation_in names i.mnemonic ≡ some o → encode_by names ls a i ≡ encode_operation ls a o i.operands
+  encode_as : (i : Instruction) (o : Operation) → operation_in names i.mnemonic ≡ Some o → encode_by names ls a i ≡ encode_operation ls a o i.operands
   unfolding encode_by bind
   encode_as i o e = rw e
 
-  why_as : (i : Instruction) (o : Operation) → operation_in names i.mnemonic ≡ some o → why names ls a i ≡ why_operation ls a o i.operands
+  why_as : (i : Instruction) (o : Operation) → operation_in names i.mnemonic ≡ Some o → why names ls a i ≡ why_operation ls a o i.operands
   unfolding why
   why_as i o e = rw (why, e)
 
   -- an instruction by its operation's words
-  of_operation : (i : Instruction) (o : Operation) → operation_in names i.mnemonic ≡ some o → (v : Verdict) → Judged ls a At o i.operands v
+  of_operation : (i : Instruction) (o : Operation) → operation_in names i.mnemonic ≡ Some o → (v : Verdict) → Judged ls a At o i.operands v
       → Told names ls At a (instruction i) v
   unfolding contents data_contents code_contents_by
   of_operation i o e v (makes w) = let h = there (encode_by names ls a i) (rw (encode_as i o e) w) in filled h.0 h.1 (some_words names ls a i h.0 h.1)
     where
-      filled : (cs : List Content) → encode_by names ls a i ≡ some cs → cs ≢ [] → Told names ls At a (instruction i) emitted
+      filled : (cs : List Content) → encode_by names ls a i ≡ Some cs → cs ≢ [] → Told names ls At a (instruction i) emitted
       filled [] f n = absurd (n refl)
       filled (c ∷ cs) f n = worded {c = c} {cs = cs} (rw f)
   of_operation i o e v (lacks {r} w f k) = reasoned (rw (encode_as i o e, none_there (encode_operation ls a o i.operands) w)) (operands refl e f) before
@@ -102,7 +103,7 @@ module _ (names : List Mnemonic) (ls : Table) (a : ℕ) (At : Text → ℕ → T
           let v : p ≡ o = cc in
           k q l (rw (u, v) at h)
 
-  of_unknown : (i : Instruction) → operation_in names i.mnemonic ≡ none → Told names ls At a (instruction i) (because unknown_mnemonic)
+  of_unknown : (i : Instruction) → operation_in names i.mnemonic ≡ None → Told names ls At a (instruction i) (because unknown_mnemonic)
   unfolding contents data_contents code_contents_by encode_by bind rank
   of_unknown i e = reasoned (rw e) (unknown refl (unknown_all names i.mnemonic e)) before
     where
@@ -121,9 +122,9 @@ module _ (names : List Mnemonic) (ls : Table) (a : ℕ) (At : Text → ℕ → T
   task_told (instruction i) = go (operation_in names i.mnemonic) refl
     where
       go : (x : Option Operation) → operation_in names i.mnemonic ≡ x
-          → Told names ls At a (instruction i) (elim x [ none ↦ because unknown_mnemonic | some o ↦ why_operation ls a o i.operands ])
-      go none e = of_unknown i e
-      go (some o) e = of_operation i o e _ (judged ls a At at is_at o i.operands)
+          → Told names ls At a (instruction i) (elim x [ None ↦ because unknown_mnemonic | Some o ↦ why_operation ls a o i.operands ])
+      go None e = of_unknown i e
+      go (Some o) e = of_operation i o e _ (judged ls a At at is_at o i.operands)
   task_told (value n v) = worded refl
   task_told (space n) = silent (space n) refl (λ i e. clash cc)
 
@@ -139,14 +140,14 @@ module _ (names : List Mnemonic) (ls : Table) (a : ℕ) (At : Text → ℕ → T
   other_told (value m v) e n = clash cc
   other_told (space m) e n = refl
 
-  operands_told : (i : Instruction) (o : Operation) (r : Reason) → operation_in names i.mnemonic ≡ some o → contents names ls a (instruction i) ≡ []
+  operands_told : (i : Instruction) (o : Operation) (r : Reason) → operation_in names i.mnemonic ≡ Some o → contents names ls a (instruction i) ≡ []
       → Faulty At a o i.operands r → ((q : Reason) → rank q < rank r → ¬ Faulty At a o i.operands q) → why_operation ls a o i.operands ≡ because r
   unfolding contents data_contents code_contents_by is_some
   operands_told i o r e c f k = first_told ls a At at is_at o i.operands (go (encode_operation ls a o i.operands) refl) f k
     where
       go : (y : Option (List Content)) → encode_operation ls a o i.operands ≡ y → is_some y ≡ false
-      go none g = refl
-      go (some cs) g = let h = encode_as i o e ∙ g in absurd (some_words names ls a i cs h (rw h at c))
+      go None g = refl
+      go (Some cs) g = let h = encode_as i o e ∙ g in absurd (some_words names ls a i cs h (rw h at c))
 
   pub told_task : (k : Task) (v : Verdict) → Told names ls At a k v → why_task names ls a k ≡ v
   unfolding why_task why
@@ -159,7 +160,7 @@ module _ (names : List Mnemonic) (ls : Table) (a : ℕ) (At : Text → ℕ → T
   told_task k _ (reasoned e (unknown {i} g n) m) = rw g (go (operation_in names i.mnemonic) refl)
     where
       go : (x : Option Operation) → operation_in names i.mnemonic ≡ x
-          → elim x [ none ↦ because unknown_mnemonic | some o ↦ why_operation ls a o i.operands ] ≡ because unknown_mnemonic
-      go none f = refl
-      go (some o) f = absurd (known names i.mnemonic o f n)
+          → elim x [ None ↦ because unknown_mnemonic | Some o ↦ why_operation ls a o i.operands ] ≡ because unknown_mnemonic
+      go None f = refl
+      go (Some o) f = absurd (known names i.mnemonic o f n)
   told_task k _ (reasoned {r} e (operands {i} {o} g d f) m) = rw g (why_as i o d ∙ operands_told i o r d (rw g at e) f (λ q l h. m q l (operands g d h)))

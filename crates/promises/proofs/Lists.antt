@@ -1,10 +1,9 @@
 -- Laws of lists that the library has not, of a property of all elements. Assumes nothing.
+use Rattle.std.specs.Prelude.{Some, option_map, slice_get}
+use Rattle.std.proofs.lemmas.Option.{same_Some, none-some}
 use Prim.Native.Nat.{ℕ, zero, suc}
 use mathlib.Core.Path.{◌≡◌, refl, sym, subst}
-use mathlib.Core.Option
-use mathlib.Core.Option.{some, some-injective, none-ne-some}
 use mathlib.Core.List.{List, [], ◌∷◌, map, flat_map, ◌++◌, append_assoc, map-append}
-use lib.ListN.{get_elem?}
 
 -- each element has the property
 abbrev pub All : {A : Type 0} → (A → Type 0) → List A → Type 0
@@ -17,9 +16,9 @@ module _ {B : Type 0} (Q : B → Type 0) where
   all_append [] ys h k = k
   all_append (x ∷ xs) ys h k = (h.0, all_append xs ys h.1 k)
 
-  pub all_at : (xs : List B) (i : ℕ) (x : B) → All Q xs → get_elem? xs i ≡ some x → Q x
-  all_at [] i x h e = absurd (none-ne-some x e)
-  all_at (y ∷ ys) zero x h e = subst Q (some-injective y x e) h.0
+  pub all_at : (xs : List B) (i : ℕ) (x : B) → All Q xs → slice_get xs i ≡ Some x → Q x
+  all_at [] i x h e = absurd (none-some x e)
+  all_at (y ∷ ys) zero x h e = subst Q (same_Some y x e) h.0
   all_at (y ∷ ys) (suc i) x h e = all_at ys i x h.1 e
 
   pub all_flat_map : {A : Type 0} (P : A → Type 0) (f : A → List B) → ((x : A) → P x → All Q (f x)) → (xs : List A) → All P xs → All Q (flat_map f xs)
@@ -40,10 +39,10 @@ flat_map_by g h f f' e [] = refl
 flat_map_by g h f f' e (x ∷ xs) = rw (map-append, e x, flat_map_by g h f f' e xs)
 
 -- the element at an index of a mapped list
-pub getElem?-map : {A B : Type 0} (f : A → B) (xs : List A) (i : ℕ) → get_elem? (map f xs) i ≡ Option.map f (get_elem? xs i)
-getElem?-map f [] i = refl
-getElem?-map f (x ∷ xs) zero = refl
-getElem?-map f (x ∷ xs) (suc i) = getElem?-map f xs i
+pub slice_get-mapped : {A B : Type 0} (f : A → B) (xs : List A) (i : ℕ) → slice_get (map f xs) i ≡ option_map f (slice_get xs i)
+slice_get-mapped f [] i = refl
+slice_get-mapped f (x ∷ xs) zero = refl
+slice_get-mapped f (x ∷ xs) (suc i) = slice_get-mapped f xs i
 
 -- by another property
 pub all_by : {A : Type 0} (P Q : A → Type 0) → ((x : A) → P x → Q x) → (xs : List A) → All P xs → All Q xs

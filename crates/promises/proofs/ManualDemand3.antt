@@ -1,7 +1,7 @@
 -- Demand 3 for the manual's call: its lists are those of a lawful pair, and its faults are the same at every base. Assumes nothing.
+use Rattle.std.specs.Prelude.{Option, None, Some}
 use Prim.Native.Nat.{ℕ, suc, ◌+◌}
 use mathlib.Core.Path.{◌≡◌, refl, sym, ap, ◌∙◌}
-use mathlib.Core.Option.{Option, none, some}
 use mathlib.Core.List.{List, [], ◌∷◌, map}
 use native.Mathlib.Nat.{add-zero}
 use native.Mathlib.Omega.{arith}
@@ -33,10 +33,10 @@ use Rattle.promises.proofs.ManualCall.{displacements_shift, lawful}
 -- ---- faults under a shift
 form_fault_shift : (d : ℕ) (ls : Table) (a : ℕ) (o : Option Form) → form_fault (shift_table d ls) (d + a) o ≡ form_fault ls a o
 unfolding form_fault
-form_fault_shift d ls a none = refl
-form_fault_shift d ls a (some (said i)) = refl
-form_fault_shift d ls a (some (labelled g l)) = simp (find_shift, is_some_mapped)
-form_fault_shift d ls a (some (displaced g s)) = rw (displacements_shift d ls a s)
+form_fault_shift d ls a None = refl
+form_fault_shift d ls a (Some (said i)) = refl
+form_fault_shift d ls a (Some (labelled g l)) = simp (find_shift, is_some_mapped)
+form_fault_shift d ls a (Some (displaced g s)) = rw (displacements_shift d ls a s)
 
 fault_shift : (d : ℕ) (ls : Table) (a : ℕ) (k : Task) → task_fault (shift_table d ls) (d + a) k ≡ task_fault ls a k
 unfolding task_fault manual_fault
@@ -57,8 +57,8 @@ faultless_shift d t n (p ∷ ps) r = go (task_fault t p.address p.task) refl (fa
   where
     go : (o : Option ℕ) → task_fault t p.address p.task ≡ o → faultless (shift_table d t) (suc n) (map (shift_put d) ps) r ≡ faultless t (suc n) ps r
         → faultless (shift_table d t) n (map (shift_put d) (p ∷ ps)) r ≡ faultless t n (p ∷ ps) r
-    go none e ih = rw (fault_shift d t p.address p.task, e, faultless) ih
-    go (some f) e ih = rw (fault_shift d t p.address p.task, e, faultless)
+    go None e ih = rw (fault_shift d t p.address p.task, e, faultless) ih
+    go (Some f) e ih = rw (fault_shift d t p.address p.task, e, faultless)
 
 -- without a fault what follows is there, whatever it is; and a fault does not look at it
 pub data Faults (t : Table) (n : ℕ) (ps : List Put) : Type 0 where
@@ -71,9 +71,9 @@ faults t n [] = none_there (λ r. refl)
 faults t n (p ∷ ps) = go (task_fault t p.address p.task) refl (faults t (suc n) ps)
   where
     go : (o : Option ℕ) → task_fault t p.address p.task ≡ o → Faults t (suc n) ps → Faults t n (p ∷ ps)
-    go none e (none_there h) = none_there (λ r. rw (e, faultless) (h r))
-    go none e (one_there f m h) = one_there f m (λ r. rw (e, faultless) (h r))
-    go (some f) e ih = one_there f n (λ r. rw (e, faultless))
+    go None e (none_there h) = none_there (λ r. rw (e, faultless) (h r))
+    go None e (one_there f m h) = one_there f m (λ r. rw (e, faultless) (h r))
+    go (Some f) e ih = one_there f n (λ r. rw (e, faultless))
 
 -- ---- an accepted list is that of the lawful pair
 pub plain_pass : (p : Pass) (l : List Place) → encoded_manual p ≡ accepted l → (second_pass_by manual_encode p ≡ l) × ((r : Answer (List Place)) → faultless p.labels 1 p.puts r ≡ r)

@@ -1,8 +1,9 @@
 -- 14 and 15 come exactly by their conditions, and an instruction has words or one of them. Assumes nothing.
+use Rattle.std.specs.Prelude.{Option, None, Some}
+use Rattle.rules.specs.Option.{bind}
 use Prim.Native.Nat.{ℕ}
 use mathlib.Core.Path.{◌≡◌, refl, sym, ◌∙◌}
 use mathlib.Core.Bool.{Bool, cond}
-use mathlib.Core.Option.{Option, none, some, bind}
 use mathlib.Core.List.{List, [], ◌∷◌, map}
 use native.Mathlib.Omega.{arith}
 use lib.IntN.{ℤ}
@@ -27,7 +28,7 @@ apart : {X : Type 0} → ◌≡◌ {A = ℕ} 14 15 → X
 apart e = absurd (let h : ◌≡◌ {A = ℕ} 14 15 = e in omega arith)
 
 -- ---- displacements
-in_range_none : (f : ℤ → Bool) (ds : List ℤ) (d : ℤ) → first_that f ds ≡ some d → range_fault f ds ≡ none
+in_range_none : (f : ℤ → Bool) (ds : List ℤ) (d : ℤ) → first_that f ds ≡ Some d → range_fault f ds ≡ None
 unfolding range_fault first_that is_some
 in_range_none f [] d e = clash cc
 in_range_none f (x ∷ ds) d e = rw e
@@ -37,15 +38,15 @@ module _ (ls : Table) (a : ℕ) (g : Branching) (s : Text) where
   ds = displacements ls a s
 
   -- none in range, where one is given
-  outside_15 : Outside ls a (Range g) s → range_fault (fits g) ds ≡ some 15
+  outside_15 : Outside ls a (Range g) s → range_fault (fits g) ds ≡ Some 15
   unfolding range_fault is_some
   outside_15 o = go ds (gives_among o.given) (passes_none (fits g) ds (λ e k. decided_false (in_range g e) (o.outside e (among_gives ls a s e k))))
     where
-      go : (xs : List ℤ) → Among o.displacement xs → first_that (fits g) xs ≡ none → range_fault (fits g) xs ≡ some 15
+      go : (xs : List ℤ) → Among o.displacement xs → first_that (fits g) xs ≡ None → range_fault (fits g) xs ≡ Some 15
       go (x ∷ xs) k e = rw e
       go [] k e = elim k [ ]
 
-  none_outside : (x : ℤ) (xs : List ℤ) → ds ≡ x ∷ xs → first_that (fits g) ds ≡ none → Outside ls a (Range g) s
+  none_outside : (x : ℤ) (xs : List ℤ) → ds ≡ x ∷ xs → first_that (fits g) ds ≡ None → Outside ls a (Range g) s
   none_outside x xs e f =
       record {
         displacement = x;
@@ -55,9 +56,9 @@ module _ (ls : Table) (a : ℕ) (g : Branching) (s : Text) where
 
   -- what the fault of displacements says: one is in range, there is none, or none is in range
   data Ranged : Option ℕ → Type 0 where
-    one_taken : (d : ℤ) → first_that (fits g) ds ≡ some d → Ranged none
-    none_given : ((d : ℤ) → ¬ Gives ls a s d) → Ranged (some 14)
-    all_outside : Outside ls a (Range g) s → Ranged (some 15)
+    one_taken : (d : ℤ) → first_that (fits g) ds ≡ Some d → Ranged None
+    none_given : ((d : ℤ) → ¬ Gives ls a s d) → Ranged (Some 14)
+    all_outside : Outside ls a (Range g) s → Ranged (Some 15)
 
   ranged : Ranged (range_fault (fits g) ds)
   unfolding range_fault is_some
@@ -68,8 +69,8 @@ module _ (ls : Table) (a : ℕ) (g : Branching) (s : Text) where
 
       go : (xs : List ℤ) → ds ≡ xs → (o : Option ℤ) → first_that (fits g) ds ≡ o → Ranged (range_fault (fits g) ds)
       go [] e o f = rw e (none_given (λ d k. none_in d (rw e at (gives_among k))))
-      go (x ∷ xs) e none f = rw (outside_15 (none_outside x xs e f)) (all_outside (none_outside x xs e f))
-      go (x ∷ xs) e (some d) f = rw (in_range_none (fits g) ds d f) (one_taken d f)
+      go (x ∷ xs) e None f = rw (outside_15 (none_outside x xs e f)) (all_outside (none_outside x xs e f))
+      go (x ∷ xs) e (Some d) f = rw (in_range_none (fits g) ds d f) (one_taken d f)
 
 -- ---- a form's fault
 leads_out : {ls : Table} {a : ℕ} {m : Text} {f : Option Text} {ps : List Text} {g : Branching} {s : Text} → Leads m f ps g s → Outside ls a (Range g) s → OutOfRange ls a m f ps
@@ -77,14 +78,14 @@ leads_out (branch_to c o) k = branch c o k
 leads_out (loop_to h o) k = loop h o k
 
 -- what is written as a form has none
-no_fault : {ls : Table} {a : ℕ} {i : Said} {ins : Instruction} {ms : List ℕ} → Formed ls a i ins ms → manual_fault ls a i ≡ none
+no_fault : {ls : Table} {a : ℕ} {i : Said} {ins : Instruction} {ms : List ℕ} → Formed ls a i ins ms → manual_fault ls a i ≡ None
 unfolding manual_fault form_fault is_some
 no_fault (as_said e k) = rw e
 no_fault (as_label e k) = rw (e, form_fault, k)
 no_fault {ls} {a} (as_taken {g} {s} {d} e k w) = rw (e, form_fault) (in_range_none (fits g) (displacements ls a s) d (taken ls a g s d k))
 
 -- what is out of range has 15
-has_15 : {ls : Table} {a : ℕ} {m : Text} {f : Option Text} {ps : List Text} → OutOfRange ls a m f ps → manual_fault ls a (line m f ps) ≡ some 15
+has_15 : {ls : Table} {a : ℕ} {m : Text} {f : Option Text} {ps : List Text} → OutOfRange ls a m f ps → manual_fault ls a (line m f ps) ≡ Some 15
 unfolding manual_fault form head_in heads same same_suffix bytes bind form_of two one form_fault
 has_15 {ls} {a} (branch c {s} o k) = rw (branch_head c, other_read s o) (outside_15 ls a (branches c) s k)
 has_15 {ls} {a} (loop {s} {n} h o k) = rw (data_register_lem n h, other_read s o) (outside_15 ls a (loops n) s k)
@@ -95,20 +96,20 @@ module _ (ls : Table) (a : ℕ) (i : Said) where
 
   -- which fault it is, by the form
   data Judged : Option ℕ → Type 0 where
-    fine : (ins : Instruction) (ms : List ℕ) → WrittenHere ls a i.mnemonic i.suffix i.operands ins ms → Judged none
-    unencoded : Judged (some 14)
-    far : OutOfRange ls a i.mnemonic i.suffix i.operands → Judged (some 15)
+    fine : (ins : Instruction) (ms : List ℕ) → WrittenHere ls a i.mnemonic i.suffix i.operands ins ms → Judged None
+    unencoded : Judged (Some 14)
+    far : OutOfRange ls a i.mnemonic i.suffix i.operands → Judged (Some 15)
 
   judged_form : (o : Option Form) → All Has o → Judged (form_fault ls a o)
   unfolding form_fault is_some
-  judged_form none w = unencoded
-  judged_form (some (said ins)) w = fine ins _ (w ls a)
-  judged_form (some (labelled g l)) w = go (find l ls) refl
+  judged_form None w = unencoded
+  judged_form (Some (said ins)) w = fine ins _ (w ls a)
+  judged_form (Some (labelled g l)) w = go (find l ls) refl
     where
-      go : (o : Option ℕ) → find l ls ≡ o → Judged (cond (is_some o) none (some 14))
-      go none e = unencoded
-      go (some x) e = fine _ _ (w ls a x e)
-  judged_form (some (displaced g s)) w = go (ranged ls a g s)
+      go : (o : Option ℕ) → find l ls ≡ o → Judged (cond (is_some o) None (Some 14))
+      go None e = unencoded
+      go (Some x) e = fine _ _ (w ls a x e)
+  judged_form (Some (displaced g s)) w = go (ranged ls a g s)
     where
       go : {o : Option ℕ} → Ranged ls a g s o → Judged o
       go (one_taken d e) = fine _ _ (leads_written w ls a d (takes ls a g s d e))
@@ -119,25 +120,25 @@ module _ (ls : Table) (a : ℕ) (i : Said) where
   unfolding manual_fault
   judged = judged_form (form i) (form_written i)
 
-  to_14 : manual_fault ls a i ≡ some 14 → NoEncoding ls a i
+  to_14 : manual_fault ls a i ≡ Some 14 → NoEncoding ls a i
   to_14 e =
       record {
         unwritten = λ ins ms w. let c = sym e ∙ no_fault (formed w) in clash cc;
         in_range = λ o. let c = sym e ∙ has_15 o in apart cc;
       }
 
-  from_14 : NoEncoding ls a i → manual_fault ls a i ≡ some 14
+  from_14 : NoEncoding ls a i → manual_fault ls a i ≡ Some 14
   from_14 n = go judged
     where
-      go : {o : Option ℕ} → Judged o → o ≡ some 14
+      go : {o : Option ℕ} → Judged o → o ≡ Some 14
       go (fine ins ms w) = absurd (n.unwritten ins ms w)
       go unencoded = refl
       go (far k) = absurd (n.in_range k)
 
-  to_15 : manual_fault ls a i ≡ some 15 → OutOfRange ls a i.mnemonic i.suffix i.operands
+  to_15 : manual_fault ls a i ≡ Some 15 → OutOfRange ls a i.mnemonic i.suffix i.operands
   to_15 e = go judged e
     where
-      go : {o : Option ℕ} → Judged o → o ≡ some 15 → OutOfRange ls a i.mnemonic i.suffix i.operands
+      go : {o : Option ℕ} → Judged o → o ≡ Some 15 → OutOfRange ls a i.mnemonic i.suffix i.operands
       go (fine ins ms w) k = clash cc
       go unencoded k = apart cc
       go (far o) k = o
@@ -146,27 +147,27 @@ pub faults_exactly : FaultsExactly
 faults_exactly = record { fourteen = λ ls a i. (to_14 ls a i, from_14 ls a i); fifteen = λ ls a i. (to_15 ls a i, has_15) }
 
 -- ---- words or a fault
-by_label : (k : ℕ → List Content) (o : Option ℕ) → Outcome (bind o λ x. some (k x)) (cond (is_some o) none (some 14))
+by_label : (k : ℕ → List Content) (o : Option ℕ) → Outcome (bind o λ x. Some (k x)) (cond (is_some o) None (Some 14))
 unfolding bind is_some
-by_label k none = no_encoding
-by_label k (some x) = emits
+by_label k None = no_encoding
+by_label k (Some x) = emits
 
-by_range : (k : ℤ → List Content) (o : Option ℤ) → Outcome (bind o λ d. some (k d)) (cond (is_some o) none (some 15))
+by_range : (k : ℤ → List Content) (o : Option ℤ) → Outcome (bind o λ d. Some (k d)) (cond (is_some o) None (Some 15))
 unfolding bind is_some
-by_range k none = out_of_range
-by_range k (some d) = emits
+by_range k None = out_of_range
+by_range k (Some d) = emits
 
-by_displacement : (k : ℤ → List Content) (f : ℤ → Bool) (xs : List ℤ) → Outcome (bind (first_that f xs) λ d. some (k d)) (range_fault f xs)
+by_displacement : (k : ℤ → List Content) (f : ℤ → Bool) (xs : List ℤ) → Outcome (bind (first_that f xs) λ d. Some (k d)) (range_fault f xs)
 unfolding bind first_that range_fault
 by_displacement k f [] = no_encoding
 by_displacement k f (x ∷ xs) = by_range k (first_that f (x ∷ xs))
 
 form_outcome : (ls : Table) (a : ℕ) (o : Option Form) → Outcome (bind o (form_contents ls a)) (form_fault ls a o)
 unfolding bind form_contents form_fault
-form_outcome ls a none = no_encoding
-form_outcome ls a (some (said i)) = emits
-form_outcome ls a (some (labelled g l)) = by_label (with_address g) (find l ls)
-form_outcome ls a (some (displaced g s)) = by_displacement (λ d. map literal (manual_words (branched g d))) (fits g) (displacements ls a s)
+form_outcome ls a None = no_encoding
+form_outcome ls a (Some (said i)) = emits
+form_outcome ls a (Some (labelled g l)) = by_label (with_address g) (find l ls)
+form_outcome ls a (Some (displaced g s)) = by_displacement (λ d. map literal (manual_words (branched g d))) (fits g) (displacements ls a s)
 
 pub words_or_fault : WordsOrFault
 unfolding WordsOrFault manual_encode manual_fault

@@ -1,7 +1,8 @@
 -- Every listed form has a line, by computation. Assumes nothing.
+use Rattle.std.specs.Prelude.{Option, None}
+use Rattle.rules.specs.Option.{bind}
 use Prim.Native.Nat.{ℕ}
 use mathlib.Core.Path.{◌≡◌, refl}
-use mathlib.Core.Option.{Option, none, bind}
 use mathlib.Core.List.{List, [], ◌∷◌, ◌++◌}
 use native.Mathlib.Omega.{arith}
 use lib.IntN.{ℤ, pos}
@@ -37,7 +38,7 @@ not_in_reach y r = apart (cc r.found)
 
 -- the line of a branch with one operand
 abbrev pub BranchLine : Branch → Text → Type 0
-BranchLine c s = (line_of (branch_name c ++ (32 ∷ s))).task ≡ instruction (said (branch_name c) none (s ∷ []))
+BranchLine c s = (line_of (branch_name c ++ (32 ∷ s))).task ≡ instruction (said (branch_name c) None (s ∷ []))
 
 -- the two lines of each branch
 pub branch_lines : (c : Branch) → BranchLine c (bytes "X") × BranchLine c (bytes "-2")

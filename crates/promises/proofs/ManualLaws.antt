@@ -1,9 +1,10 @@
 -- Registers as texts, immediates and displacements in their ranges, and signed bytes: what the manual's lines rest on. Assumes nothing.
+use Rattle.std.specs.Prelude.{Option, None, Some}
+use Rattle.rules.specs.Option.{bind, or_else}
 use Prim.Native.Nat.{ℕ, ◌%◌, zero, suc, ◌+◌, ◌-◌, ◌≤◌, ◌<◌}
 use mathlib.Core.Path.{◌≡◌, refl, ap}
 use mathlib.Core.Logic.{◌≢◌}
 use mathlib.Core.Bool.{Bool, true, false, cond}
-use mathlib.Core.Option.{Option, none, some, bind, or_else}
 use mathlib.Core.List.{[]}
 use native.Mathlib.Omega.{arith}
 use lib.Dec.{ltb, eqb}
@@ -23,24 +24,24 @@ pub digit : (n : ℕ) → n < 8 → digit_value (48 + n) ≡ n
 unfolding digit_value
 digit n h = rw (le-leb 48 (48 + n) (omega arith), le-leb (48 + n) 57 (omega arith)) (omega arith)
 
-pub data_register_lem : (n : ℕ) → n < 8 → data_register (D n) ≡ some n
+pub data_register_lem : (n : ℕ) → n < 8 → data_register (D n) ≡ Some n
 unfolding data_register register_digit after bytes
 data_register_lem n h = rw (digit n h, lt-ltb n 8 h)
 
-pub indirect_register : (n : ℕ) → n < 8 → indirect (at_a n) ≡ some n
+pub indirect_register : (n : ℕ) → n < 8 → indirect (at_a n) ≡ Some n
 unfolding indirect closed register_digit after bytes
 indirect_register n h = rw (digit n h, lt-ltb n 8 h)
 
 -- what a register is not
-pub d_not_immediate : (n : ℕ) → imm16 (D n) ≡ none
+pub d_not_immediate : (n : ℕ) → imm16 (D n) ≡ None
 unfolding imm16 immediate after bytes bind
 d_not_immediate n = refl
 
-pub at_a_not_immediate : (n : ℕ) → imm16 (at_a n) ≡ none
+pub at_a_not_immediate : (n : ℕ) → imm16 (at_a n) ≡ None
 unfolding imm16 immediate after bytes bind
 at_a_not_immediate n = refl
 
-pub d_not_indirect : (n : ℕ) → indirect (D n) ≡ none
+pub d_not_indirect : (n : ℕ) → indirect (D n) ≡ None
 unfolding indirect closed after bytes
 d_not_indirect n = refl
 
@@ -106,27 +107,27 @@ leads_there a t = go (ltb t a) refl
     go false p = let h : a ≤ t = ltb-false t a p in ap pos (omega arith)
 
 -- a signed byte is within its bound
-within_itself : (z : ℤ) → InByte z → within 128 z ≡ some z
+within_itself : (z : ℤ) → InByte z → within 128 z ≡ Some z
 unfolding within
 within_itself (pos n) h = rw (lt-ltb n 128 h)
 within_itself (negsuc n) h = rw (lt-ltb n 128 h)
 
 -- 01's displacement of a branch's operand, and its range
-pub displaced : {ls : Table} {a : ℕ} {s : Text} {z : ℤ} → Displaced ls a s z → displacement ls a s ≡ some z
+pub displaced : {ls : Table} {a : ℕ} {s : Text} {z : ℤ} → Displaced ls a s z → displacement ls a s ≡ Some z
 unfolding displacement reach bind or_else
 displaced {ls} {a} {s} {z} (label r) =
     rw (r.found, leads_back (a + 2) r.target z r.leads, within_itself z r.near)
 displaced {ls} {a} {s} {z} (signed_number away e) = go (find s ls) refl
   where
-    go : (x : Option ℕ) → find s ls ≡ x → or_else (bind x λ t. reach t a) (written_signed s) ≡ some z
-    go none p = e
-    go (some t) p =
+    go : (x : Option ℕ) → find s ls ≡ x → or_else (bind x λ t. reach t a) (written_signed s) ≡ Some z
+    go None p = e
+    go (Some t) p =
         unreached (reach t a)
         (within_all 128 (InReach ls a s) (sub_ℕ t (a + 2)) (λ h. record { target = t; found = p; leads = leads_there (a + 2) t; near = in_byte (sub_ℕ t (a + 2)) h }))
       where
-        unreached : (x : Option ℤ) → All (InReach ls a s) x → or_else x (written_signed s) ≡ some z
-        unreached none h = e
-        unreached (some y) h = absurd (away y h)
+        unreached : (x : Option ℤ) → All (InReach ls a s) x → or_else x (written_signed s) ≡ Some z
+        unreached None h = e
+        unreached (Some y) h = absurd (away y h)
 
 pub displaced_byte : {ls : Table} {a : ℕ} {s : Text} {z : ℤ} → Displaced ls a s z → InByte z
 displaced_byte (label r) = r.near

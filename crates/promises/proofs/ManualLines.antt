@@ -1,7 +1,8 @@
 -- The lines of paper 01's listed forms are the manual's words. Assumes nothing.
+use Rattle.std.specs.Prelude.{Option, Some}
+use Rattle.rules.specs.Option.{bind, or_else}
 use Prim.Native.Nat.{ℕ, ◌+◌}
 use mathlib.Core.Path.{◌≡◌, refl, ap}
-use mathlib.Core.Option.{Option, some, bind, or_else}
 use mathlib.Core.List.{List, [], ◌∷◌, map, flat_map, append-nil}
 use native.Mathlib.Omega.{arith}
 use Rattle.rules.specs.Text.{Text, bytes, same}
@@ -14,11 +15,11 @@ use Rattle.promises.specs.Demand2Manual.{Branch, BRA, BCC, BCS, BNE, BEQ, BGE, B
 use Rattle.promises.proofs.ManualLaws.{data_register_lem, operand, imm8_byte, byte_modulo, quick_modulo, displaced, displaced_byte, no_word}
 
 -- one word for another
-one_word : {v w : ℕ} → v ≡ w → some (literal v ∷ []) ≡ some (literal w ∷ [])
-one_word e = ap (λ w. some (literal w ∷ [])) e
+one_word : {v w : ℕ} → v ≡ w → Some (literal v ∷ []) ≡ Some (literal w ∷ [])
+one_word e = ap (λ w. Some (literal w ∷ [])) e
 
 -- a branch's mnemonic has the manual's condition
-branch_operation : (c : Branch) → operation_in mnemonics (branch_name c) ≡ some (branch_on (condition (condition_of c)))
+branch_operation : (c : Branch) → operation_in mnemonics (branch_name c) ≡ Some (branch_on (condition (condition_of c)))
 unfolding operation_in mnemonics other_mnemonics branches same bytes branch_name condition_of condition
 branch_operation BRA = refl
 branch_operation BCC = refl
@@ -32,7 +33,7 @@ branch_operation BLE = refl
 
 -- 01 encodes a listed form as the manual's words, none of them a label's address
 pub encoded : {ls : Table} {a : ℕ} {m : Text} {f : Option Text} {ps : List Text} {i : Instruction} → Written ls a m f ps i
-    → encode ls a (record { mnemonic = m; suffix = f; operands = ps }) ≡ some (map literal (manual_words i))
+    → encode ls a (record { mnemonic = m; suffix = f; operands = ps }) ≡ Some (map literal (manual_words i))
 unfolding encode_by operation_in mnemonics other_mnemonics branches same bytes bind or_else encode_operation registers_row high_row low_row from_indirect to_indirect move_rows muls_rows cmp_rows moveq_row quick_row tst_row branch_row two one one_or_more R branch_name manual_words operation_word layout join extensions extension mode register move_size size_field opmode condition
 encoded (moveq {s} {z} {n} e h) =
     rw (e, data_register_lem n h, byte_modulo z (all_some InByte (imm8_byte s) e)) (one_word (omega arith))
@@ -40,7 +41,7 @@ encoded (load {n} {m} h k) = simp operand (one_word (omega arith))
 encoded (store {n} {m} h k) = simp operand (one_word (omega arith))
 encoded (copy {n} {m} h k) = simp operand (one_word (omega arith))
 encoded (muls_data {s} {v} {n} e h) =
-    rw (e, data_register_lem n h) (ap (λ w. some (literal w ∷ literal v ∷ [])) (omega arith))
+    rw (e, data_register_lem n h) (ap (λ w. Some (literal w ∷ literal v ∷ [])) (omega arith))
 encoded (muls {n} {m} h k) = simp operand (one_word (omega arith))
 encoded (add {n} {m} h k) = simp operand (one_word (omega arith))
 encoded (sub {n} {m} h k) = simp operand (one_word (omega arith))

@@ -1,9 +1,10 @@
 -- The manual's words on the list, of 01's call and of the manual's: of each line that is read they stand there in their place. Assumes nothing.
+use Rattle.std.specs.Prelude.{Option, None, Some}
+use Rattle.std.proofs.lemmas.Option.{same_Some, none-some}
 use Prim.Native.Nat.{ℕ, suc, ◌+◌, ◌%◌, ◌<◌}
 use mathlib.Core.Path.{◌≡◌, refl, sym, ap, ◌∙◌}
 use mathlib.Core.Logic.{◌≢◌}
 use mathlib.Core.Bool.{Bool, true, false}
-use mathlib.Core.Option.{Option, none, some, some-injective, none-ne-some}
 use mathlib.Core.List.{List, [], ◌∷◌, ◌++◌, flat_map, map, append_assoc}
 use native.Mathlib.Omega.{arith}
 use borrow.Author.Tests.{leb-false}
@@ -69,13 +70,13 @@ list_holds_the_manuals base s p h j a ns l r e i m =
 abbrev Low : Label → Type 0
 Low l = l.address < address_limit
 
-find_low : (t : Table) → All Low t → (n : Text) (x : ℕ) → find n t ≡ some x → x < address_limit
+find_low : (t : Table) → All Low t → (n : Text) (x : ℕ) → find n t ≡ Some x → x < address_limit
 unfolding find
-find_low [] h n x e = absurd (none-ne-some x e)
+find_low [] h n x e = absurd (none-some x e)
 find_low (l ∷ t) h n x e = go (same n l.name) refl (find_low t h.1 n x)
   where
-    go : (y : Bool) → same n l.name ≡ y → (find n t ≡ some x → x < address_limit) → x < address_limit
-    go true f ih = let c = some-injective l.address x (rw (f, find) at e) in rw (← c) h.0
+    go : (y : Bool) → same n l.name ≡ y → (find n t ≡ Some x → x < address_limit) → x < address_limit
+    go true f ih = let c = same_Some l.address x (rw (f, find) at e) in rw (← c) h.0
     go false f ih = ih (rw (f, find) at e)
 
 recorded_low : (x : Label) (t : Table) → Low x → All Low t → All Low (recorded x t)
@@ -87,14 +88,14 @@ recorded_low x (l ∷ t) k h = go (same x.name l.name) (recorded_low x t k h.1)
     go true ih = (k, h.1)
     go false ih = (h.0, ih)
 
-all_low : (l : SourceLine) (a : ℕ) (ns : List Name) (t : Table) → a < address_limit → All Low t → (r : Table) → record_all l a ns t ≡ some r → All Low r
+all_low : (l : SourceLine) (a : ℕ) (ns : List Name) (t : Table) → a < address_limit → All Low t → (r : Table) → record_all l a ns t ≡ Some r → All Low r
 unfolding record_all
-all_low l a [] t k h r e = rw (← some-injective t r e) h
+all_low l a [] t k h r e = rw (← same_Some t r e) h
 all_low l a (n ∷ ns) t k h r e = go (has_room (find n.text t) t) refl (all_low l a ns (recorded (label_of l a n) t) k (recorded_low (label_of l a n) t k h) r)
   where
-    go : (y : Bool) → has_room (find n.text t) t ≡ y → (record_all l a ns (recorded (label_of l a n) t) ≡ some r → All Low r) → All Low r
+    go : (y : Bool) → has_room (find n.text t) t ≡ y → (record_all l a ns (recorded (label_of l a n) t) ≡ Some r → All Low r) → All Low r
     go true f ih = ih (rw (f, record_all) at e)
-    go false f ih = absurd (none-ne-some r (rw (f, record_all) at e))
+    go false f ih = absurd (none-some r (rw (f, record_all) at e))
 
 abbrev LowPass : Pass → Type 0
 LowPass p = All Low p.labels
@@ -115,29 +116,29 @@ low_addresses z base s p h l x e =
 
 -- in an accepted source no line has a fault
 no_fault_at : (t : Table) (n : ℕ) (ps : List Put) (k : Put) (qs ks : List Put) → ps ≡ qs ++ (k ∷ ks)
-    → ((r : Answer (List Place)) → faultless t n ps r ≡ r) → task_fault t k.address k.task ≡ none
+    → ((r : Answer (List Place)) → faultless t n ps r ≡ r) → task_fault t k.address k.task ≡ None
 unfolding faultless
 no_fault_at t n ps k [] ks e h = go (task_fault t k.address k.task) refl
   where
-    go : (o : Option ℕ) → task_fault t k.address k.task ≡ o → task_fault t k.address k.task ≡ none
-    go none f = f
-    go (some m) f = let u = rw (e, f, faultless) at (h (accepted [])) in clash cc
+    go : (o : Option ℕ) → task_fault t k.address k.task ≡ o → task_fault t k.address k.task ≡ None
+    go None f = f
+    go (Some m) f = let u = rw (e, f, faultless) at (h (accepted [])) in clash cc
 no_fault_at t n ps k (q ∷ qs) ks e h = go (task_fault t q.address q.task) refl (no_fault_at t (suc n) (qs ++ (k ∷ ks)) k qs ks refl)
   where
     go : (o : Option ℕ) → task_fault t q.address q.task ≡ o
-        → (((r : Answer (List Place)) → faultless t (suc n) (qs ++ (k ∷ ks)) r ≡ r) → task_fault t k.address k.task ≡ none) → task_fault t k.address k.task ≡ none
-    go none f ih = ih (λ r. rw (e, f, faultless) at (h r))
-    go (some m) f ih = let u = rw (e, f, faultless) at (h (accepted [])) in clash cc
+        → (((r : Answer (List Place)) → faultless t (suc n) (qs ++ (k ∷ ks)) r ≡ r) → task_fault t k.address k.task ≡ None) → task_fault t k.address k.task ≡ None
+    go None f ih = ih (λ r. rw (e, f, faultless) at (h r))
+    go (Some m) f ih = let u = rw (e, f, faultless) at (h (accepted [])) in clash cc
 
 -- so an instruction has its words
-has_words : {o : Option (List Content)} {f : Option ℕ} → Outcome o f → f ≡ none → (cs : List Content) × (o ≡ some cs)
+has_words : {o : Option (List Content)} {f : Option ℕ} → Outcome o f → f ≡ None → (cs : List Content) × (o ≡ Some cs)
 has_words (emits {cs}) e = (cs, refl)
 has_words no_encoding e = clash cc
 has_words out_of_range e = clash cc
 
 pub line_encoded : (base : ℕ) (s : Text) (p : Pass) (l : List Place) → pass_at_by manual_size base s ≡ accepted p → assemble_manual base s ≡ accepted l
     → {j a : ℕ} {ns : List Text} (line : Text) (i : Said) → Reached manual_size base s j a ns → IsLine s j line → (line_of line).task ≡ instruction i
-    → (cs : List Content) × (manual_encode p.labels a i ≡ some cs)
+    → (cs : List Content) × (manual_encode p.labels a i ≡ Some cs)
 unfolding WordsOrFault assemble_manual and_then task_fault
 line_encoded base s p l h g {j} {a} line i r e k =
     let go_on : (line_of line).task ≢ end = λ u. let v = sym k ∙ u in clash cc in
@@ -164,15 +165,15 @@ lists_are_manual base s p l h g j a ns line i r e k =
     let m = words_are_the_manuals p.labels a i w.0 (low_addresses manual_size base s p h) w.1 in
     stands w.0 w.1 m f (sym (plain_pass p l f).0 ∙ cut manual_size manual_encode base s p h line r e go_on)
   where
-    words : (cs : List Content) → manual_encode p.labels a i ≡ some cs → code_places_by manual_encode p.labels (record { address = a; task = (line_of line).task }) ≡ places_at a cs
+    words : (cs : List Content) → manual_encode p.labels a i ≡ Some cs → code_places_by manual_encode p.labels (record { address = a; task = (line_of line).task }) ≡ places_at a cs
     words cs c = rw (k, c)
 
-    there : (cs : List Content) → manual_encode p.labels a i ≡ some cs → (m : IsManual p.labels a i cs)
+    there : (cs : List Content) → manual_encode p.labels a i ≡ Some cs → (m : IsManual p.labels a i cs)
         → words_before manual_encode p j ++ (code_places_by manual_encode p.labels (record { address = a; task = (line_of line).task }) ++ words_after manual_encode p j)
         ≡ words_before manual_encode p j ++ (marked a (manual_words m.instruction) m.marks ++ words_after manual_encode p j)
     there cs c m = ap (λ (x : List Place). words_before manual_encode p j ++ (x ++ words_after manual_encode p j)) (words cs c ∙ rw (m.manual.words, m.manual.marks) at (places_marked a cs))
 
-    stands : (cs : List Content) → manual_encode p.labels a i ≡ some cs → IsManual p.labels a i cs → encoded_manual p ≡ accepted l
+    stands : (cs : List Content) → manual_encode p.labels a i ≡ Some cs → IsManual p.labels a i cs → encoded_manual p ≡ accepted l
         → l ≡ words_before manual_encode p j ++ (code_places_by manual_encode p.labels (record { address = a; task = (line_of line).task }) ++ words_after manual_encode p j)
         → StandsThere base s p j a i
     stands cs c m f q = record { instruction = m.instruction; marks = m.marks; written = m.written; list = rw h (f ∙ ap accepted (q ∙ there cs c m)) }

@@ -1,9 +1,9 @@
 -- The manual's call refuses exactly by its conditions, in their order, and writes what it answers. Assumes nothing.
+use Rattle.std.specs.Prelude.{Option, None, Some}
 use Prim.Native.Nat.{ℕ, zero, suc, ◌≤◌}
 use mathlib.Core.Path.{◌≡◌, refl, sym, ap, ◌∙◌}
 use mathlib.Core.Logic.{◌≢◌}
 use mathlib.Core.Bool.{true}
-use mathlib.Core.Option.{Option, none, some}
 use mathlib.Core.List.{List, [], ◌∷◌, ◌++◌}
 use native.Mathlib.Omega.{arith}
 use lib.ListN.{length, drop}
@@ -32,13 +32,13 @@ abbrev Faulty : ℕ → Type 0
 Faulty m = OneOf m (14 ∷ 15 ∷ [])
 
 -- an instruction's fault is one of the two
-one_of_two : {o : Option (List Content)} {f : Option ℕ} → Outcome o f → (m : ℕ) → f ≡ some m → Faulty m
+one_of_two : {o : Option (List Content)} {f : Option ℕ} → Outcome o f → (m : ℕ) → f ≡ Some m → Faulty m
 one_of_two emits m e = clash cc
 one_of_two no_encoding m e = let u : m ≡ 14 = cc in here u
 one_of_two out_of_range m e = let u : m ≡ 15 = cc in there (here u)
 
 -- only an instruction has one
-faulty_task : (t : Table) (a : ℕ) (k : Task) (m : ℕ) → task_fault t a k ≡ some m → (i : Instruction) × (k ≡ instruction i) × (manual_fault t a i ≡ some m)
+faulty_task : (t : Table) (a : ℕ) (k : Task) (m : ℕ) → task_fault t a k ≡ Some m → (i : Instruction) × (k ≡ instruction i) × (manual_fault t a i ≡ Some m)
 unfolding task_fault
 faulty_task t a skipped m e = clash cc
 faulty_task t a end m e = clash cc
@@ -78,9 +78,9 @@ module _ (base : ℕ) (s : Text) (x : Slices) (p : Pass) (accepts : pass_at_by m
     task : Task
     rest : List Put
     put : drop index p.puts ≡ record { address = address; task = task } ∷ rest
-    fault : task_fault p.labels address task ≡ some m
+    fault : task_fault p.labels address task ≡ Some m
 
-  at_line : (m : ℕ) {j a : ℕ} {i : Instruction} {ls : Table} → Instructs base s j a i ls → manual_fault ls a i ≡ some m → AtLine m (suc j)
+  at_line : (m : ℕ) {j a : ℕ} {i : Instruction} {ls : Table} → Instructs base s j a i ls → manual_fault ls a i ≡ Some m → AtLine m (suc j)
   unfolding task_fault
   at_line m {j} {a} {i} r f =
       let same : accepted r.pass ≡ accepted p = sym r.passed ∙ accepts in
@@ -132,7 +132,7 @@ module _ (base : ℕ) (s : Text) (x : Slices) (p : Pass) (accepts : pass_at_by m
       go (past_end {i} {l = l} r k f h) = let u = sym e ∙ still_none p.puts i j (omega arith) (ended manual_size base s p passed l r k f) in clash cc
       go (past_lines {i} r k h) = let u = sym e ∙ still_none p.puts i j h (over manual_size base s p passed r k) in clash cc
 
-  faulty_line : (j : ℕ) (k : Put) (ks : List Put) (m : ℕ) → drop j p.puts ≡ k ∷ ks → task_fault p.labels k.address k.task ≡ some m → Faulty m × C m (suc j)
+  faulty_line : (j : ℕ) (k : Put) (ks : List Put) (m : ℕ) → drop j p.puts ≡ k ∷ ks → task_fault p.labels k.address k.task ≡ Some m → Faulty m × C m (suc j)
   unfolding WordsOrFault
   faulty_line j k ks m e f =
       let l = line_of_lem j k ks e in
@@ -142,7 +142,7 @@ module _ (base : ℕ) (s : Text) (x : Slices) (p : Pass) (accepts : pass_at_by m
       let n = one_of_two (words_or_fault p.labels k.address t.0) m t.2 in
       (n, holds r n t.2)
     where
-      holds : {a : ℕ} {i : Instruction} → Instructs base s j a i p.labels → Faulty m → manual_fault p.labels a i ≡ some m → C m (suc j)
+      holds : {a : ℕ} {i : Instruction} → Instructs base s j a i p.labels → Faulty m → manual_fault p.labels a i ≡ Some m → C m (suc j)
       holds {a} {i} r (here u) g = rw u (unencoded r ((faults_exactly.fourteen p.labels a i).0 (rw u at g)))
       holds {a} {i} r (there (here u)) g = rw u (far r ((faults_exactly.fifteen p.labels a i).0 (rw u at g)))
       holds r (there (there i)) g = elim i [ ]
@@ -165,14 +165,14 @@ module _ (base : ℕ) (s : Text) (x : Slices) (p : Pass) (accepts : pass_at_by m
   walk (k ∷ ps) j r e f = go (task_fault p.labels k.address k.task) refl (walk ps (suc j) r (drop_more p.puts j k ps e))
     where
       -- a condition on this line is this task's fault
-      this : {m : ℕ} → AtLine m (suc j) → task_fault p.labels k.address k.task ≡ some m
+      this : {m : ℕ} → AtLine m (suc j) → task_fault p.labels k.address k.task ≡ Some m
       this {m} l =
           let h : l.index ≡ j = omega (arith, l.place) in
           let u = sym (rw h at l.put) ∙ e in
           let v : record { address = l.address; task = l.task } ≡ k = cc in
           rw (← v) l.fault
 
-      fine_next : task_fault p.labels k.address k.task ≡ none → Fine (suc j)
+      fine_next : task_fault p.labels k.address k.task ≡ None → Fine (suc j)
       fine_next g m q i h c = on (compared q (suc j))
         where
           on : Compared q (suc j) → ⊥
@@ -182,8 +182,8 @@ module _ (base : ℕ) (s : Text) (x : Slices) (p : Pass) (accepts : pass_at_by m
 
       go : (o : Option ℕ) → task_fault p.labels k.address k.task ≡ o → (Fine (suc j) → Runs C (by_line (14 ∷ 15 ∷ []) ∷ []) (faultless p.labels (suc (suc j)) ps (accepted r)))
           → Runs C (by_line (14 ∷ 15 ∷ []) ∷ []) (faultless p.labels (suc j) (k ∷ ps) (accepted r))
-      go none g ih = rw (g, faultless) (ih (fine_next g))
-      go (some m) g ih =
+      go None g ih = rw (g, faultless) (ih (fine_next g))
+      go (Some m) g ih =
           let h = faulty_line j k ps m e g in
           rw (g, faultless) (stop_line h.0 h.1 (λ n q i l. f n q i (omega arith)) (ahead_not h.0))
         where

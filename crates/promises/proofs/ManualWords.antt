@@ -1,8 +1,10 @@
 -- The words of the manual's call: what is written as a form has its words, what has words is written as a form, fields hold, and there are at
 -- most three. Assumes nothing.
+use Rattle.std.specs.Prelude.{Option, None, Some}
+use Rattle.std.proofs.lemmas.Option.{same_Some}
+use Rattle.rules.specs.Option.{bind, or_else}
 use Prim.Native.Nat.{ℕ, ◌+◌, ◌/◌, ◌%◌, ◌^◌, ◌≤◌, ◌<◌}
 use mathlib.Core.Path.{◌≡◌, refl, ap}
-use mathlib.Core.Option.{Option, none, some, bind, or_else, some-injective}
 use mathlib.Core.List.{List, [], ◌∷◌, map}
 use native.Mathlib.Omega.{arith}
 use lib.ListN.{length, length-map}
@@ -73,7 +75,7 @@ takes_in (number away n k) = k
 
 -- ---- no form is left out
 -- a branch's head
-pub branch_head : (c : Condition) → head_in heads (branch_named c) none ≡ some (branch_on c)
+pub branch_head : (c : Condition) → head_in heads (branch_named c) None ≡ Some (branch_on c)
 unfolding head_in heads same same_suffix bytes branch_named
 branch_head T = refl
 branch_head CC = refl
@@ -92,7 +94,7 @@ ruleset reading = (operand, d_not_long, at_a_not_long)
 abbrev pub line : Text → Option Text → List Text → Said
 line m f ps = record { mnemonic = m; suffix = f; operands = ps }
 
-jump_number_lem : {m : Text} → Jump m → (s : Text) (v : ℕ) → Numeric s → Means32 s (read v) → form (line m none (s ∷ [])) ≡ some (said (JMP (absolute v)))
+jump_number_lem : {m : Text} → Jump m → (s : Text) (v : ℕ) → Numeric s → Means32 s (read v) → form (line m None (s ∷ [])) ≡ Some (said (JMP (absolute v)))
 unfolding form head_in heads same same_suffix bytes bind form_of one jump_to number32 value_of
 jump_number_lem as_jmp s v n e =
     let test = decided_true (numeric s) n in
@@ -101,27 +103,27 @@ jump_number_lem as_jump s v n e =
     let test = decided_true (numeric s) n in
     rw (other_read s (of_kind s (numeric_text s test)), test, (readings_mean.of_32_bits s (read v)).1 e)
 
-jump_label_lem : {m : Text} → Jump m → (l : Text) → IsKind l text → ¬ Numeric l → form (line m none (l ∷ [])) ≡ some (labelled jump l)
+jump_label_lem : {m : Text} → Jump m → (l : Text) → IsKind l text → ¬ Numeric l → form (line m None (l ∷ [])) ≡ Some (labelled jump l)
 unfolding form head_in heads same same_suffix bytes bind form_of one jump_to
 jump_label_lem as_jmp l o n = rw (other_read l o, decided_false (numeric l) n)
 jump_label_lem as_jump l o n = rw (other_read l o, decided_false (numeric l) n)
 
 -- the form of an instruction that is written so
 pub data Formed (ls : Table) (a : ℕ) (i : Said) : Instruction → List ℕ → Type 0 where
-  as_said : {ins : Instruction} {ms : List ℕ} → form i ≡ some (said ins) → zeros ins ≡ ms → Formed ls a i ins ms
-  as_label : {g : Addressing} {l : Text} {x : ℕ} → form i ≡ some (labelled g l) → find l ls ≡ some x → Formed ls a i (addressed g x) (0 ∷ 2 ∷ 3 ∷ [])
-  as_taken : {g : Branching} {s : Text} {d : ℤ} {ms : List ℕ} → form i ≡ some (displaced g s) → Takes ls a (Range g) s d → zeros (branched g d) ≡ ms
+  as_said : {ins : Instruction} {ms : List ℕ} → form i ≡ Some (said ins) → zeros ins ≡ ms → Formed ls a i ins ms
+  as_label : {g : Addressing} {l : Text} {x : ℕ} → form i ≡ Some (labelled g l) → find l ls ≡ Some x → Formed ls a i (addressed g x) (0 ∷ 2 ∷ 3 ∷ [])
+  as_taken : {g : Branching} {s : Text} {d : ℤ} {ms : List ℕ} → form i ≡ Some (displaced g s) → Takes ls a (Range g) s d → zeros (branched g d) ≡ ms
       → Formed ls a i (branched g d) ms
 
 -- the same with what it is of written out
 module _ (ls : Table) (a : ℕ) (i : Said) where
-  said_so : (ins : Instruction) (ms : List ℕ) → form i ≡ some (said ins) → zeros ins ≡ ms → Formed ls a i ins ms
+  said_so : (ins : Instruction) (ms : List ℕ) → form i ≡ Some (said ins) → zeros ins ≡ ms → Formed ls a i ins ms
   said_so ins ms e k = as_said e k
 
-  at_label : (g : Addressing) (l : Text) (x : ℕ) → form i ≡ some (labelled g l) → find l ls ≡ some x → Formed ls a i (addressed g x) (0 ∷ 2 ∷ 3 ∷ [])
+  at_label : (g : Addressing) (l : Text) (x : ℕ) → form i ≡ Some (labelled g l) → find l ls ≡ Some x → Formed ls a i (addressed g x) (0 ∷ 2 ∷ 3 ∷ [])
   at_label g l x e k = as_label e k
 
-  by_taken : (g : Branching) (s : Text) (d : ℤ) (ms : List ℕ) → form i ≡ some (displaced g s) → Takes ls a (Range g) s d → zeros (branched g d) ≡ ms
+  by_taken : (g : Branching) (s : Text) (d : ℤ) (ms : List ℕ) → form i ≡ Some (displaced g s) → Takes ls a (Range g) s d → zeros (branched g d) ≡ ms
       → Formed ls a i (branched g d) ms
   by_taken g s d ms e k w = as_taken e k w
 
@@ -173,32 +175,32 @@ leads_written (branch_to c o) ls a d k = rw (no_word_after d (takes_in k)) (bran
 leads_written (loop_to h o) ls a d k = dbra h o k
 
 module _ (ls : Table) (a : ℕ) (low : Addresses32 ls) (i : Said) (cs : List Content) where
-  is_manual : (g : Form) → Written i.mnemonic i.suffix i.operands g → form_contents ls a g ≡ some cs → IsManual ls a i cs
+  is_manual : (g : Form) → Written i.mnemonic i.suffix i.operands g → form_contents ls a g ≡ Some cs → IsManual ls a i cs
   unfolding form_contents bind
   is_manual (said ins) w h =
-      rw (← some-injective (map literal (manual_words ins)) cs h) (record { instruction = ins; marks = zeros ins; written = w ls a; manual = whole_words a ins })
+      rw (← same_Some (map literal (manual_words ins)) cs h) (record { instruction = ins; marks = zeros ins; written = w ls a; manual = whole_words a ins })
   is_manual (labelled g l) w h = go (find l ls) refl h
     where
-      go : (o : Option ℕ) → find l ls ≡ o → bind o (λ x. some (with_address g x)) ≡ some cs → IsManual ls a i cs
-      go none e k = clash cc
-      go (some x) e k =
-          rw (← some-injective (with_address g x) cs k)
+      go : (o : Option ℕ) → find l ls ≡ o → bind o (λ x. Some (with_address g x)) ≡ Some cs → IsManual ls a i cs
+      go None e k = clash cc
+      go (Some x) e k =
+          rw (← same_Some (with_address g x) cs k)
           (record { instruction = addressed g x; marks = 0 ∷ 2 ∷ 3 ∷ []; written = w ls a x e; manual = address_words a g x (low l x e) })
   is_manual (displaced g s) w h = go (first_that (fits g) (displacements ls a s)) refl h
     where
-      go : (o : Option ℤ) → first_that (fits g) (displacements ls a s) ≡ o → bind o (λ d. some (map literal (manual_words (branched g d)))) ≡ some cs → IsManual ls a i cs
-      go none e k = clash cc
-      go (some d) e k =
-          rw (← some-injective (map literal (manual_words (branched g d))) cs k)
+      go : (o : Option ℤ) → first_that (fits g) (displacements ls a s) ≡ o → bind o (λ d. Some (map literal (manual_words (branched g d)))) ≡ Some cs → IsManual ls a i cs
+      go None e k = clash cc
+      go (Some d) e k =
+          rw (← same_Some (map literal (manual_words (branched g d))) cs k)
           (record { instruction = branched g d; marks = zeros (branched g d); written = leads_written w ls a d (takes ls a g s d e); manual = whole_words a (branched g d) })
 
 pub words_are_the_manuals : WordsAreTheManuals
 unfolding WordsAreTheManuals manual_encode bind
 words_are_the_manuals ls a i cs low h = go (form i) (form_written i) h
   where
-    go : (o : Option Form) → All (Written i.mnemonic i.suffix i.operands) o → bind o (form_contents ls a) ≡ some cs → IsManual ls a i cs
-    go none w k = clash cc
-    go (some g) w k = is_manual ls a low i cs g w k
+    go : (o : Option Form) → All (Written i.mnemonic i.suffix i.operands) o → bind o (form_contents ls a) ≡ Some cs → IsManual ls a i cs
+    go None w k = clash cc
+    go (Some g) w k = is_manual ls a low i cs g w k
 
 -- ---- fields hold, form by form
 word_fits : (d : ℤ) → InWord d → sixteen_bits d < 65536
@@ -271,16 +273,16 @@ written_three (branch_to c o k) = omega arith
 
 three : (i : Said) (o : Option Form) → All (Written i.mnemonic i.suffix i.operands) o → form_size o ≤ 6
 unfolding form_size as_if_there manual_words extensions addressed branched extension halves displacement_word
-three i none w = omega arith
-three i (some (said ins)) w =
+three i None w = omega arith
+three i (Some (said ins)) w =
     let e : length (zeros ins) ≡ length (manual_words ins) = length-map (manual_words ins) (λ n. 0) in
     omega (arith, written_three (w [] 0))
-three i (some (labelled (loads n) l)) w = omega arith
-three i (some (labelled (stores n) l)) w = omega arith
-three i (some (labelled (point n) l)) w = omega arith
-three i (some (labelled jump l)) w = omega arith
-three i (some (displaced (branches c) s)) w = omega arith
-three i (some (displaced (loop r) s)) w = omega arith
+three i (Some (labelled (loads n) l)) w = omega arith
+three i (Some (labelled (stores n) l)) w = omega arith
+three i (Some (labelled (point n) l)) w = omega arith
+three i (Some (labelled jump l)) w = omega arith
+three i (Some (displaced (branches c) s)) w = omega arith
+three i (Some (displaced (loop r) s)) w = omega arith
 
 pub three_words : ThreeWords
 unfolding ThreeWords manual_size

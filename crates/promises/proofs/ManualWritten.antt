@@ -1,8 +1,9 @@
 -- The forms of the manual's call: what has a form is written as one, and what is written as one has its words. Assumes nothing.
+use Rattle.std.specs.Prelude.{Option, None, Some}
+use Rattle.rules.specs.Option.{bind, or_else}
 use Prim.Native.Nat.{ℕ, ◌<◌}
 use mathlib.Core.Path.{◌≡◌, refl, ap}
 use mathlib.Core.Bool.{Bool, true, false, cond, ◌&&◌}
-use mathlib.Core.Option.{Option, none, some, bind, or_else}
 use mathlib.Core.List.{List, [], ◌∷◌, map}
 use lib.IntN.{pos}
 use Rattle.rules.specs.Text.{Text, bytes, same, after}
@@ -29,8 +30,8 @@ use Rattle.promises.proofs.ManualOperands.{Numbered, is_d, is_a, is_at_a, Hash, 
 -- ---- what a form is written as
 -- a branch, or DBRA, with its operand
 pub data Leads : Text → Option Text → List Text → Branching → Text → Type 0 where
-  branch_to : (c : Condition) {s : Text} → IsKind s text → Leads (branch_named c) none (s ∷ []) (branches c) s
-  loop_to : {n : ℕ} {s : Text} → n < 8 → IsKind s text → Leads (bytes "DBRA") none (D n ∷ s ∷ []) (loop n) s
+  branch_to : (c : Condition) {s : Text} → IsKind s text → Leads (branch_named c) None (s ∷ []) (branches c) s
+  loop_to : {n : ℕ} {s : Text} → n < 8 → IsKind s text → Leads (bytes "DBRA") None (D n ∷ s ∷ []) (loop n) s
 
 -- mark 0 on each word
 abbrev pub zeros : Instruction → List ℕ
@@ -38,16 +39,16 @@ zeros i = map (λ w. 0) (manual_words i)
 
 abbrev pub Written : Text → Option Text → List Text → Form → Type 0
 Written m f ps (said i) = (ls : Table) (a : ℕ) → WrittenHere ls a m f ps i (zeros i)
-Written m f ps (labelled g l) = (ls : Table) (a x : ℕ) → find l ls ≡ some x → WrittenHere ls a m f ps (addressed g x) (0 ∷ 2 ∷ 3 ∷ [])
+Written m f ps (labelled g l) = (ls : Table) (a x : ℕ) → find l ls ≡ Some x → WrittenHere ls a m f ps (addressed g x) (0 ∷ 2 ∷ 3 ∷ [])
 Written m f ps (displaced g s) = Leads m f ps g s
 
 -- a head's mnemonic and suffix
 abbrev Named : Head → Text → Option Text → Type 0
-Named moveq_h m f = (m ≡ bytes "MOVEQ") × (f ≡ none)
-Named nop_h m f = (m ≡ bytes "NOP") × (f ≡ none)
-Named jmp_h m f = Jump m × (f ≡ none)
-Named dbra_h m f = (m ≡ bytes "DBRA") × (f ≡ none)
-Named (branch_on c) m f = (m ≡ branch_named c) × (f ≡ none)
+Named moveq_h m f = (m ≡ bytes "MOVEQ") × (f ≡ None)
+Named nop_h m f = (m ≡ bytes "NOP") × (f ≡ None)
+Named jmp_h m f = Jump m × (f ≡ None)
+Named dbra_h m f = (m ≡ bytes "DBRA") × (f ≡ None)
+Named (branch_on c) m f = (m ≡ branch_named c) × (f ≡ None)
 Named move_w m f = (m ≡ bytes "MOVE") × (f ≡ W)
 Named add_w m f = (m ≡ bytes "ADD") × (f ≡ W)
 Named sub_w m f = (m ≡ bytes "SUB") × (f ≡ W)
@@ -67,10 +68,10 @@ Rows (r ∷ rs) = Named r.head r.name r.suffix × Rows rs
 
 same_suffix_lem : (f g : Option Text) → same_suffix f g ≡ true → f ≡ g
 unfolding same_suffix
-same_suffix_lem none none e = refl
-same_suffix_lem none (some t) e = clash cc
-same_suffix_lem (some s) none e = clash cc
-same_suffix_lem (some s) (some t) e = ap some (same_eq s t e)
+same_suffix_lem None None e = refl
+same_suffix_lem None (Some t) e = clash cc
+same_suffix_lem (Some s) None e = clash cc
+same_suffix_lem (Some s) (Some t) e = ap Some (same_eq s t e)
 
 found_named : (rs : List HeadRow) → Rows rs → (m : Text) (f : Option Text) → All (λ h. Named h m f) (head_in rs m f)
 unfolding head_in
@@ -78,7 +79,7 @@ found_named [] k m f = tt
 found_named (r ∷ rs) k m f = go (same m r.name && same_suffix f r.suffix) refl (found_named rs k.1 m f)
   where
     go : (x : Bool) → same m r.name && same_suffix f r.suffix ≡ x → All (λ h. Named h m f) (head_in rs m f)
-        → All (λ h. Named h m f) (elim x [ true ↦ some r.head | false ↦ head_in rs m f ])
+        → All (λ h. Named h m f) (elim x [ true ↦ Some r.head | false ↦ head_in rs m f ])
     go true e ih =
         let b = and_both (same m r.name) (same_suffix f r.suffix) e in
         rw (same_eq m r.name b.0, same_suffix_lem f r.suffix b.1) k.0
@@ -107,14 +108,14 @@ module _ (P : List Text → Form → Type 0) where
 module _ (P : Form → Type 0) where
   else_all : (x y : Option Form) → All P x → All P y → All P (or_else x y)
   unfolding or_else
-  else_all none y h k = k
-  else_all (some a) y h k = h
+  else_all None y h k = k
+  else_all (Some a) y h k = h
 
   -- a reader of what is Q, then what follows it
   reads : {X : Type 0} (Q : X → Type 0) (o : Option X) (f : X → Option Form) → All Q o → ((x : X) → Q x → All P (f x)) → All P (bind o f)
   unfolding bind
-  reads Q none f q h = tt
-  reads Q (some x) f q h = h x q
+  reads Q None f q h = tt
+  reads Q (Some x) f q h = h x q
 
 is_number : (s : Text) → All (λ v. Means32 s (read v)) (number32 s)
 unfolding number32 value_of
@@ -128,8 +129,8 @@ is_hash : (s : Text) → All (λ l. s ≡ behind_hash l) (after (bytes "#") s)
 is_hash s = go (after (bytes "#") s) refl
   where
     go : (o : Option Text) → after (bytes "#") s ≡ o → All (λ l. s ≡ behind_hash l) o
-    go none e = tt
-    go (some l) e = behind_hash_lem s l e
+    go None e = tt
+    go (Some l) e = behind_hash_lem s l e
 
 module _ (m : Text) (f : Option Text) where
   abbrev One : Text → Form → Type 0
@@ -146,11 +147,11 @@ module _ (m : Text) (f : Option Text) where
       reads (Two s t) (Numbered D t) (data_register t) _ (is_d t) λ k hk.
       rw (hn.0, hk.0) (h n k hn.1 hk.1)
 
-  jump_written : Jump m → f ≡ none → (s : Text) → IsKind s text → All (One s) (jump_to s)
+  jump_written : Jump m → f ≡ None → (s : Text) → IsKind s text → All (One s) (jump_to s)
   unfolding jump_to manual_words extensions extension halves addressed
   jump_written j e s k = go (numeric s)
     where
-      go : {x : Bool} → Decided (Numeric s) x → All (One s) (cond x (bind (number32 s) λ v. some (said (JMP (absolute v)))) (some (labelled jump s)))
+      go : {x : Bool} → Decided (Numeric s) x → All (One s) (cond x (bind (number32 s) λ v. Some (said (JMP (absolute v)))) (Some (labelled jump s)))
       go (yes n) = reads (One s) (λ v. Means32 s (read v)) (number32 s) _ (is_number s) (λ v h. rw e (λ ls a. jump_number j n h))
       go (no n) = rw e (λ ls a x h. jump_label j k n h)
 

@@ -1,8 +1,8 @@
 -- The moves follow the tally, from slices that hold a list of well paired marks. Assumes nothing.
+use Rattle.std.specs.Prelude.{None}
 use Prim.Native.Nat.{ℕ}
 use mathlib.Core.Path.{◌≡◌, refl, sym, ◌∙◌}
 use mathlib.Core.Bool.{false}
-use mathlib.Core.Option.{none}
 use mathlib.Core.List.{List, [], ◌∷◌}
 use lib.ListN.{length}
 use lib.IntN.{ℤ, pos, ◌+ℤ◌, +ℤ_idl}
@@ -119,7 +119,7 @@ module _ (l : List Place) (good : NoBadMark l) (sixteen : All Sixteen l) where
     follow_from_zero ds = follow l good x (pos 0) ds at_zero (reached_zero l)
 
     -- one move by a distance that is near and leaves no place outside
-    module _ (d : ℤ) (near : far d ≡ false) (ins : first_outside d 0 l ≡ none) where
+    module _ (d : ℤ) (near : far d ≡ false) (ins : first_outside d 0 l ≡ None) where
       answer_zero : tally_answer l (pos 0) d ≡ accepted (length l)
       unfolding tally_answer refuse_if refuse_at
       answer_zero = rw (near, +ℤ_idl d, ins)

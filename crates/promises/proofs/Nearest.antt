@@ -1,8 +1,8 @@
 -- W-201 holds: the search in the table finds the label that its records make the nearest. Assumes nothing.
+use Rattle.std.specs.Prelude.{Option, None, Some, option_map}
 use Prim.Native.Nat.{ℕ, ◌+◌, ◌-◌, ◌<◌, ◌≤◌}
 use mathlib.Core.Path.{◌≡◌, refl, sym, ap, ◌∙◌}
 use mathlib.Core.Bool.{Bool, true, false, ◌&&◌, ◌||◌, cond}
-use mathlib.Core.Option.{Option, none, some, map}
 use mathlib.Core.List.{[], ◌∷◌}
 use native.Mathlib.Nat.{add-zero}
 use native.Mathlib.Omega.{arith}
@@ -75,32 +75,32 @@ record Found (a : ℕ) (t : Table) (l : Label) : Type 0 where
   beats : {m : Label} → In m t → m.address ≤ a → Beats l m
 
 data Searched (a : ℕ) (t : Table) : Option Label → Type 0 where
-  nothing : ((m : Label) → In m t → a < m.address) → Searched a t none
-  found : {l : Label} → Found a t l → Searched a t (some l)
+  nothing : ((m : Label) → In m t → a < m.address) → Searched a t None
+  found : {l : Label} → Found a t l → Searched a t (Some l)
 
 -- a label that passes a, and one that does not
 passing_by : (a : ℕ) (l : Label) (t : Table) (o : Option Label) → a < l.address → Searched a t o → Searched a (l ∷ t) o
-passing_by a l t none h (nothing f) = nothing on
+passing_by a l t None h (nothing f) = nothing on
   where
     on : (m : Label) → In m (l ∷ t) → a < m.address
     on m (head e) = rw e h
     on m (tail i) = f m i
-passing_by a l t (some k) h (found f) = found (record { is = tail f.is; at_most = f.at_most; beats = on })
+passing_by a l t (Some k) h (found f) = found (record { is = tail f.is; at_most = f.at_most; beats = on })
   where
     on : {m : Label} → In m (l ∷ t) → m.address ≤ a → Beats k m
     on (head e) u = let v = rw e at u in absurd (omega arith)
     on (tail i) u = f.beats i u
 
-taking : (a : ℕ) (l : Label) (t : Table) (o : Option Label) → l.address ≤ a → Searched a t o → Searched a (l ∷ t) (some (nearer_of l o))
+taking : (a : ℕ) (l : Label) (t : Table) (o : Option Label) → l.address ≤ a → Searched a t o → Searched a (l ∷ t) (Some (nearer_of l o))
 unfolding nearer_of
-taking a l t none h (nothing f) = found (record { is = head refl; at_most = h; beats = on })
+taking a l t None h (nothing f) = found (record { is = head refl; at_most = h; beats = on })
   where
     on : {m : Label} → In m (l ∷ t) → m.address ≤ a → Beats l m
     on (head e) u = rw e (beats_self l)
     on {m} (tail i) u = let v = f m i in absurd (omega arith)
-taking a l t (some k) h (found f) = go (nearer l k) (beats_by l k (nearer l k) refl)
+taking a l t (Some k) h (found f) = go (nearer l k) (beats_by l k (nearer l k) refl)
   where
-    go : (x : Bool) → Beats (cond x l k) (cond x k l) → Searched a (l ∷ t) (some (cond x l k))
+    go : (x : Bool) → Beats (cond x l k) (cond x k l) → Searched a (l ∷ t) (Some (cond x l k))
     go true b = found (record { is = head refl; at_most = h; beats = on })
       where
         on : {m : Label} → In m (l ∷ t) → m.address ≤ a → Beats l m
@@ -117,7 +117,7 @@ unfolding nearest_in
 searched a [] = nothing (λ m. elim [ ])
 searched a (l ∷ t) = go (leb l.address a) refl (searched a t)
   where
-    go : (x : Bool) → leb l.address a ≡ x → Searched a t (nearest_in a t) → Searched a (l ∷ t) (cond x (some (nearer_of l (nearest_in a t))) (nearest_in a t))
+    go : (x : Bool) → leb l.address a ≡ x → Searched a t (nearest_in a t) → Searched a (l ∷ t) (cond x (Some (nearer_of l (nearest_in a t))) (nearest_in a t))
     go true e ih = taking a l t (nearest_in a t) (leb-true l.address a e) ih
     go false e ih = passing_by a l t (nearest_in a t) (leb-false l.address a e) ih
 
@@ -161,15 +161,15 @@ module _ (base : ℕ) (s : Text) (a : ℕ) (t : Table) (law : LastRecords base s
   -- and what is near is what it finds
   near_told : (r : Nearest) (o : Option Label) → IsNear base s a r → Searched a t o → told_nearest a o ≡ accepted r
   unfolding told_nearest
-  near_told r none h (nothing f) =
+  near_told r None h (nothing f) =
       let u = f _ (label_in h.name r.start h.line h.address h.last) in
       absurd (omega (arith, h.distance))
-  near_told r (some l) h (found f) = on ((law.exactly l).0 f.is)
+  near_told r (Some l) h (found f) = on ((law.exactly l).0 f.is)
     where
       b : Beats l (record { name = h.name; start = r.start; address = h.address; line = h.line })
       b = f.beats (label_in h.name r.start h.line h.address h.last) (omega (arith, h.distance))
 
-      on : LastRecord base s l.name l.start l.line l.address → told_nearest a (some l) ≡ accepted r
+      on : LastRecord base s l.name l.start l.line l.address → told_nearest a (Some l) ≡ accepted r
       on q =
           let e : l.address ≡ h.address = omega (arith, b.higher, h.greatest q f.at_most) in
           let g : l.start ≡ r.start = omega (arith, b.foremost (sym e), h.foremost {i = l.start} (rw e at q)) in
@@ -182,8 +182,8 @@ unfolding NearestIsNear nearest and_then told_nearest
 nearest_is_near base s a r = (to, from)
   where
     told : (p : Pass) → pass_at base s ≡ accepted p → (o : Option Label) → Searched a p.labels o → told_nearest a o ≡ accepted r → IsNear base s a r
-    told p f none (nothing h) e = clash cc
-    told p f (some l) (found h) e =
+    told p f None (nothing h) e = clash cc
+    told p f (Some l) (found h) e =
         let u : record { start = l.start; length = length l.name; distance = a - l.address } ≡ r = cc in
         rw (← u) (found_near base s a p.labels (labels_are_last base s p f) (clear base s p f) l h)
 
@@ -221,8 +221,8 @@ module _ (base : ℕ) (s : Text) (a : ℕ) where
 
   told : (t : Table) (o : Option Label) → LastRecords base s t → Searched a t o → Runs C (all 12 ∷ []) (told_nearest a o)
   unfolding told_nearest
-  told t none law (nothing f) = stop (none_near (λ n i k x r. f _ (label_in base s a t law n i k x r))) (λ q c. (to_12 q c).0)
-  told t (some l) law (found f) =
+  told t None law (nothing f) = stop (none_near (λ n i k x r. f _ (label_in base s a t law n i k x r))) (λ q c. (to_12 q c).0)
+  told t (Some l) law (found f) =
       let h = (law.exactly l).0 f.is in
       pass (λ q c. let u = (to_12 q c).1 l.name l.start l.line l.address h in omega (arith, f.at_most)) done
 
@@ -261,29 +261,29 @@ nearer_shift : (b : ℕ) (l m : Label) → nearer (shift_label b l) (shift_label
 unfolding nearer shift_label
 nearer_shift b l m = rw (ltb_shift b m.address l.address, eqb_shift b l.address m.address)
 
-nearer_of_shift : (b : ℕ) (l : Label) (o : Option Label) → nearer_of (shift_label b l) (map (shift_label b) o) ≡ shift_label b (nearer_of l o)
+nearer_of_shift : (b : ℕ) (l : Label) (o : Option Label) → nearer_of (shift_label b l) (option_map (shift_label b) o) ≡ shift_label b (nearer_of l o)
 unfolding nearer_of
-nearer_of_shift b l none = refl
-nearer_of_shift b l (some m) = rw (nearer_shift b l m) (go (nearer l m))
+nearer_of_shift b l None = refl
+nearer_of_shift b l (Some m) = rw (nearer_shift b l m) (go (nearer l m))
   where
     go : (x : Bool) → cond x (shift_label b l) (shift_label b m) ≡ shift_label b (cond x l m)
     go true = refl
     go false = refl
 
-nearest_in_shift : (b a : ℕ) (t : Table) → nearest_in (b + a) (shift_table b t) ≡ map (shift_label b) (nearest_in a t)
+nearest_in_shift : (b a : ℕ) (t : Table) → nearest_in (b + a) (shift_table b t) ≡ option_map (shift_label b) (nearest_in a t)
 unfolding nearest_in shift_label
 nearest_in_shift b a [] = refl
 nearest_in_shift b a (l ∷ t) = rw (leb_shift b l.address a, nearest_in_shift b a t) (go (leb l.address a))
   where
-    go : (x : Bool) → cond x (some (nearer_of (shift_label b l) (map (shift_label b) (nearest_in a t)))) (map (shift_label b) (nearest_in a t))
-        ≡ map (shift_label b) (cond x (some (nearer_of l (nearest_in a t))) (nearest_in a t))
-    go true = ap some (nearer_of_shift b l (nearest_in a t))
+    go : (x : Bool) → cond x (Some (nearer_of (shift_label b l) (option_map (shift_label b) (nearest_in a t)))) (option_map (shift_label b) (nearest_in a t))
+        ≡ option_map (shift_label b) (cond x (Some (nearer_of l (nearest_in a t))) (nearest_in a t))
+    go true = ap Some (nearer_of_shift b l (nearest_in a t))
     go false = refl
 
-told_shift : (b a : ℕ) (o : Option Label) → told_nearest (b + a) (map (shift_label b) o) ≡ told_nearest a o
+told_shift : (b a : ℕ) (o : Option Label) → told_nearest (b + a) (option_map (shift_label b) o) ≡ told_nearest a o
 unfolding told_nearest shift_label
-told_shift b a none = refl
-told_shift b a (some l) = let e : b + a - (b + l.address) ≡ a - l.address = omega arith in rw e
+told_shift b a None = refl
+told_shift b a (Some l) = let e : b + a - (b + l.address) ≡ a - l.address = omega arith in rw e
 
 -- the pass at b is the pass at 0, shifted
 pub pass_at_lem : (b : ℕ) (s : Text) (p : Pass) → pass_at b s ≡ accepted p → (q : Pass) × (pass_at 0 s ≡ accepted q) × (p ≡ shift_pass b q)

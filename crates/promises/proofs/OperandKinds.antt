@@ -1,9 +1,9 @@
 -- An operand's kind is what its bytes say. Assumes nothing.
+use Rattle.std.specs.Prelude.{Option, None, Some}
 use Prim.Native.Nat.{ℕ, ◌+◌, ◌-◌, ◌<◌}
 use mathlib.Core.Path.{◌≡◌, refl, sym, ◌∙◌}
 use mathlib.Core.Logic.{◌⊎◌, inl, inr}
 use mathlib.Core.Bool.{Bool, true, false, cond, ◌&&◌}
-use mathlib.Core.Option.{Option, none, some}
 use mathlib.Core.List.{[], ◌∷◌}
 use native.Mathlib.Omega.{arith}
 use lib.Dec.{eqb, leb, ltb}
@@ -58,31 +58,31 @@ marked_kind (as_at_an {n} h) = rw (digit n h, lt-ltb n 8 h)
 
 -- ---- and back
 -- a register's number is there only of its digit
-register_digit_lem : (o : Option Text) → is_some (register_digit o) ≡ true → (b : ℕ) × (o ≡ some (b ∷ [])) × Digit b
+register_digit_lem : (o : Option Text) → is_some (register_digit o) ≡ true → (b : ℕ) × (o ≡ Some (b ∷ [])) × Digit b
 unfolding register_digit is_some
-register_digit_lem none e = clash cc
-register_digit_lem (some []) e = clash cc
-register_digit_lem (some (b ∷ [])) e = (b, refl, digit_byte b (go (ltb (digit_value b) 8) refl e))
+register_digit_lem None e = clash cc
+register_digit_lem (Some []) e = clash cc
+register_digit_lem (Some (b ∷ [])) e = (b, refl, digit_byte b (go (ltb (digit_value b) 8) refl e))
   where
-    go : (x : Bool) → ltb (digit_value b) 8 ≡ x → is_some (cond x (some (digit_value b)) none) ≡ true → digit_value b < 8
+    go : (x : Bool) → ltb (digit_value b) 8 ≡ x → is_some (cond x (Some (digit_value b)) None) ≡ true → digit_value b < 8
     go true f e = ltb-true (digit_value b) 8 f
     go false f e = clash cc
-register_digit_lem (some (b ∷ c ∷ s)) e = clash cc
+register_digit_lem (Some (b ∷ c ∷ s)) e = clash cc
 
-closed_digit : (o : Option Text) → is_some (closed o) ≡ true → (b : ℕ) × (o ≡ some (b ∷ 41 ∷ [])) × Digit b
+closed_digit : (o : Option Text) → is_some (closed o) ≡ true → (b : ℕ) × (o ≡ Some (b ∷ 41 ∷ [])) × Digit b
 unfolding closed is_some
-closed_digit none e = clash cc
-closed_digit (some []) e = clash cc
-closed_digit (some (b ∷ [])) e = clash cc
-closed_digit (some (b ∷ c ∷ [])) e = go (eqb c 41) refl e
+closed_digit None e = clash cc
+closed_digit (Some []) e = clash cc
+closed_digit (Some (b ∷ [])) e = clash cc
+closed_digit (Some (b ∷ c ∷ [])) e = go (eqb c 41) refl e
   where
-    go : (x : Bool) → eqb c 41 ≡ x → is_some (cond x (register_digit (some (b ∷ []))) none) ≡ true → (d : ℕ) × (some (b ∷ c ∷ []) ≡ some (d ∷ 41 ∷ [])) × Digit d
+    go : (x : Bool) → eqb c 41 ≡ x → is_some (cond x (register_digit (Some (b ∷ []))) None) ≡ true → (d : ℕ) × (Some (b ∷ c ∷ []) ≡ Some (d ∷ 41 ∷ [])) × Digit d
     go true f e =
-        let h = register_digit_lem (some (b ∷ [])) e in
+        let h = register_digit_lem (Some (b ∷ [])) e in
         let u : b ≡ h.0 = cc h.1 in
         (h.0, (rw (← u, eqb-true c 41 f) refl), h.2)
     go false f e = clash cc
-closed_digit (some (b ∷ c ∷ d ∷ s)) e = clash cc
+closed_digit (Some (b ∷ c ∷ d ∷ s)) e = clash cc
 
 hash_marked : (s : Text) → starts (bytes "#") s ≡ true → Marked s hash
 unfolding bytes

@@ -1,8 +1,8 @@
 -- The tests by which a verdict is found decide what the reasons say of operands: kinds, numbers, reach. Assumes nothing.
+use Rattle.std.specs.Prelude.{Option, None, Some}
 use Prim.Native.Nat.{ℕ, suc, ◌+◌, ◌-◌, ◌≤◌, ◌<◌}
 use mathlib.Core.Path.{◌≡◌, refl, sym, ap₂, ◌∙◌}
 use mathlib.Core.Bool.{Bool, true, false, cond, ◌&&◌, ◌||◌, false≢true}
-use mathlib.Core.Option.{Option, none, some}
 use mathlib.Core.List.{List, [], ◌∷◌}
 use native.Mathlib.Omega.{arith}
 use lib.Dec.{ltb}
@@ -38,8 +38,8 @@ stand_decided (x ∷ xs) (s ∷ ps) = go (same_kind (kind_of s) (kind_for x)) re
 
 -- the form that has the operands' kinds, or that none has
 pub data Chosen (fs : List (List Operand)) (ps : List Text) : Option (List Operand) → Type 0 where
-  form : {f : List Operand} → In f fs → Stand f ps → Chosen fs ps (some f)
-  no_form : ((f : List Operand) → In f fs → ¬ Stand f ps) → Chosen fs ps none
+  form : {f : List Operand} → In f fs → Stand f ps → Chosen fs ps (Some f)
+  no_form : ((f : List Operand) → In f fs → ¬ Stand f ps) → Chosen fs ps None
 
 pub chosen : (fs : List (List Operand)) (ps : List Text) → Chosen fs ps (form_with fs ps)
 unfolding form_with
@@ -54,7 +54,7 @@ chosen (f ∷ fs) ps = go (stand_decided f ps) (chosen fs ps)
         on g (head e) h = n (rw e at h)
         on g (tail i) h = k g i h
 
-    go : {x : Bool} → Decided (Stand f ps) x → {o : Option (List Operand)} → Chosen fs ps o → Chosen (f ∷ fs) ps (cond x (some f) o)
+    go : {x : Bool} → Decided (Stand f ps) x → {o : Option (List Operand)} → Chosen fs ps o → Chosen (f ∷ fs) ps (cond x (Some f) o)
     go (yes h) c = form (head refl) h
     go (no n) c = later n c
 
@@ -64,7 +64,7 @@ unfolding kind_of starts bytes
 hash_kind s = refl
 
 -- what follows `#`
-pub behind_hash_lem : (s t : Text) → after (bytes "#") s ≡ some t → s ≡ behind_hash t
+pub behind_hash_lem : (s t : Text) → after (bytes "#") s ≡ Some t → s ≡ behind_hash t
 unfolding bytes
 behind_hash_lem s t e = after_text (bytes "#") s t e
 
@@ -80,11 +80,11 @@ signed s = go (starts (bytes "+") s) refl (starts (bytes "-") s) refl
     go false e true f = yes (by_minus f)
     go false e false f = no (none_of e f)
 
-pub written : (s : Text) → Signed s → written_reading s ≡ some (signed_reading 10 128 s)
+pub written : (s : Text) → Signed s → written_reading s ≡ Some (signed_reading 10 128 s)
 unfolding written_reading
 written s h = rw (decided_true (signed s) h)
 
-pub unwritten : (s : Text) → ¬ Signed s → written_reading s ≡ none
+pub unwritten : (s : Text) → ¬ Signed s → written_reading s ≡ None
 unfolding written_reading
 unwritten s h = rw (decided_false (signed s) h)
 
@@ -92,9 +92,9 @@ hex_starts : (s : Text) → is_some (hex_tail s) ≡ (starts (bytes "$") s || st
 unfolding hex_tail is_some
 hex_starts s = go (after (bytes "$") s) ∙ ap₂ ◌||◌ (after_starts (bytes "$") s) (after_starts (bytes "0x") s)
   where
-    go : (o : Option Text) → is_some {A = Text} (elim o [ none ↦ after (bytes "0x") s | some t ↦ some t ]) ≡ (is_some o || is_some (after (bytes "0x") s))
-    go none = refl
-    go (some t) = refl
+    go : (o : Option Text) → is_some {A = Text} (elim o [ None ↦ after (bytes "0x") s | Some t ↦ Some t ]) ≡ (is_some o || is_some (after (bytes "0x") s))
+    go None = refl
+    go (Some t) = refl
 
 pub numeric : (s : Text) → Decided (Numeric s) (is_some (hex_tail s) || all_digits s)
 numeric s = rw (hex_starts s) (go (starts (bytes "$") s) refl (starts (bytes "0x") s) refl (all_digits s) refl)
@@ -112,8 +112,8 @@ numeric s = rw (hex_starts s) (go (starts (bytes "$") s) refl (starts (bytes "0x
 
 -- ---- displacements
 pub data Reaches (a x : ℕ) : Option ℤ → Type 0 where
-  near : {z : ℤ} → ¬ Far a x → Reaches a x (some z)
-  out : Far a x → Reaches a x none
+  near : {z : ℤ} → ¬ Far a x → Reaches a x (Some z)
+  out : Far a x → Reaches a x None
 
 pub reaches : (a x : ℕ) → Reaches a x (reach x a)
 unfolding reach within
@@ -123,11 +123,11 @@ reaches a x = go (ltb x (a + 2)) refl
     not_far h k (behind i) = omega arith
     not_far h k (ahead i) = omega arith
 
-    back : (y : Bool) → ltb (a + 2 - suc x) 128 ≡ y → x < a + 2 → Reaches a x (cond y (some (negsuc (a + 2 - suc x))) none)
+    back : (y : Bool) → ltb (a + 2 - suc x) 128 ≡ y → x < a + 2 → Reaches a x (cond y (Some (negsuc (a + 2 - suc x))) None)
     back true e h = let k = ltb-true (a + 2 - suc x) 128 e in near (not_far (omega arith) (omega arith))
     back false e h = let k = ltb-false (a + 2 - suc x) 128 e in out (behind (omega arith))
 
-    on : (y : Bool) → ltb (x - (a + 2)) 128 ≡ y → a + 2 ≤ x → Reaches a x (cond y (some (pos (x - (a + 2)))) none)
+    on : (y : Bool) → ltb (x - (a + 2)) 128 ≡ y → a + 2 ≤ x → Reaches a x (cond y (Some (pos (x - (a + 2)))) None)
     on true e h = let k = ltb-true (x - (a + 2)) 128 e in near (not_far (omega arith) (omega arith))
     on false e h = let k = ltb-false (x - (a + 2)) 128 e in out (ahead (omega arith))
 

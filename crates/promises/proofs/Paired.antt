@@ -1,8 +1,8 @@
 -- Well paired marks are those that refusal 10 lets pass; which lists have them. Assumes nothing.
+use Rattle.std.specs.Prelude.{Option, None, Some}
 use Prim.Native.Nat.{ℕ, suc, ◌≤◌}
 use mathlib.Core.Path.{◌≡◌, refl}
 use mathlib.Core.Bool.{Bool, true, false, false≢true}
-use mathlib.Core.Option.{Option, none, some}
 use mathlib.Core.List.{List, [], ◌∷◌, map, ◌++◌}
 use native.Mathlib.Omega.{arith}
 use borrow.Author.Tests.{le-ltb, eqb-true, ne_eqb}
@@ -18,15 +18,15 @@ use Rattle.promises.proofs.Twice.{first_mark, Paired}
 
 -- refusal 10 names no place of the list
 abbrev pub NoBadMark : List Place → Type 0
-NoBadMark l = first_bad_mark 0 0 (length l) (map (λ p. p.mark) l) ≡ none
+NoBadMark l = first_bad_mark 0 0 (length l) (map (λ p. p.mark) l) ≡ None
 
 pub no_bad_mark : (l : List Place) → WellPaired l → NoBadMark l
 unfolding WellPaired
 no_bad_mark l h = go (first_bad_mark 0 0 (length l) (map (λ p. p.mark) l)) (marks_found (map (λ p. p.mark) l) (length l) (rw (length-map l (λ p. p.mark)) (omega arith)))
   where
-    go : (o : Option ℕ) → Found (BadMark (map (λ p. p.mark) l) (length l)) (length l) o → o ≡ none
-    go (some p) (found k) = absurd (h p k.inside k.holds)
-    go none (nowhere k) = refl
+    go : (o : Option ℕ) → Found (BadMark (map (λ p. p.mark) l) (length l)) (length l) o → o ≡ None
+    go (Some p) (found k) = absurd (h p k.inside k.holds)
+    go None (nowhere k) = refl
 
 -- a mark that is not bad: a 2 is followed by a 3
 not_bad : (b m a : ℕ) → bad_mark b m a ≡ false → m ≡ 2 → a ≡ 3
@@ -44,13 +44,13 @@ first_is [] = refl
 first_is (p ∷ ps) = refl
 
 -- so the scan that finds none tells that each 2 has its 3
-paired_from : (b i : ℕ) (l : List Place) → first_bad_mark b i (length l) (map (λ p. p.mark) l) ≡ none → Paired l
+paired_from : (b i : ℕ) (l : List Place) → first_bad_mark b i (length l) (map (λ p. p.mark) l) ≡ None → Paired l
 unfolding first_bad_mark
 paired_from b i [] e = tt
 paired_from b i (p ∷ ps) e = go (bad_mark b p.mark (first_in (length ps) (map (λ q. q.mark) ps))) refl (paired_from p.mark (suc i) ps)
   where
     go : (x : Bool) → bad_mark b p.mark (first_in (length ps) (map (λ q. q.mark) ps)) ≡ x
-        → (first_bad_mark p.mark (suc i) (length ps) (map (λ q. q.mark) ps) ≡ none → Paired ps) → Paired (p ∷ ps)
+        → (first_bad_mark p.mark (suc i) (length ps) (map (λ q. q.mark) ps) ≡ None → Paired ps) → Paired (p ∷ ps)
     go true f ih = let g = rw (f, first_bad_mark) at e in absurd (false≢true cc)
     go false f ih = (λ h. rw (first_is ps) at (not_bad b p.mark _ f h), ih (rw (f, first_bad_mark) at e))
 
@@ -73,7 +73,7 @@ pub plain_mark : (b m a : ℕ) → m ≤ 1 → bad_mark b m a ≡ false
 unfolding bad_mark
 plain_mark b m a h = rw (le-ltb 3 m (omega arith), ne_eqb m 2 (λ e. omega arith), ne_eqb m 3 (λ e. omega arith))
 
-grouped_from : (b i : ℕ) {l : List Place} → Grouped l → first_bad_mark b i (length l) (map (λ p. p.mark) l) ≡ none
+grouped_from : (b i : ℕ) {l : List Place} → Grouped l → first_bad_mark b i (length l) (map (λ p. p.mark) l) ≡ None
 unfolding first_bad_mark bad_mark first_in
 grouped_from b i over = refl
 grouped_from b i (single {p} {ps} e g) = rw (plain_mark b p.mark (first_in (length ps) (map (λ q. q.mark) ps)) e, first_bad_mark) (grouped_from p.mark (suc i) g)

@@ -1,13 +1,14 @@
 -- 02's W-207, the mover's part: lists with marks 0 and 1 move as before, and lists with pairs follow the tally. Assumes nothing.
+use Rattle.std.specs.Prelude.{None, Some, slice_get}
+use Rattle.std.proofs.lemmas.Option.{same_Some, none-some}
 use Prim.Native.Nat.{ℕ, zero, suc, ◌≤◌, ◌<◌}
 use mathlib.Core.Path.{◌≡◌, refl, ◌∙◌, sym, ap}
 use mathlib.Core.Bool.{false, cond}
-use mathlib.Core.Option.{none, some, some-injective, none-ne-some}
 use mathlib.Core.List.{List, [], ◌∷◌, map}
 use native.Mathlib.Omega.{arith}
 use borrow.Author.Tests.{le-ltb, lt-leb}
 use lib.Dec.{ltb, eqb}
-use lib.ListN.{length, get_or, get_elem?, length-map}
+use lib.ListN.{length, get_or, length-map}
 use lib.IntN.{ℤ, pos, nat_abs}
 use Rattle.rules.specs.Limits.{distance_limit}
 use Rattle.rules.specs.Number.{modulo}
@@ -53,13 +54,13 @@ words_before_lem d (suc n) (m ∷ ms) (w ∷ ws) h =
     rw (word_before d m w (first_in n ws) (h 0 (omega arith)), words_before_lem d n ms ws (λ j l. h (suc j) (omega arith)))
 
 -- neither scan finds a mark
-old_none : (i n : ℕ) (ms : List ℕ) → ((j : ℕ) → j < n → get_or ms j 0 ≤ 1) → first_index (λ m. ltb 1 m) i n ms ≡ none
+old_none : (i n : ℕ) (ms : List ℕ) → ((j : ℕ) → j < n → get_or ms j 0 ≤ 1) → first_index (λ m. ltb 1 m) i n ms ≡ None
 unfolding first_index
 old_none i zero ms h = refl
 old_none i (suc n) [] h = refl
 old_none i (suc n) (m ∷ ms) h = rw (le-ltb 1 m (h 0 (omega arith)), first_index) (old_none (suc i) n ms (λ j l. h (suc j) (omega arith)))
 
-new_none : (b i n : ℕ) (ms : List ℕ) → ((j : ℕ) → j < n → get_or ms j 0 ≤ 1) → first_bad_mark b i n ms ≡ none
+new_none : (b i n : ℕ) (ms : List ℕ) → ((j : ℕ) → j < n → get_or ms j 0 ≤ 1) → first_bad_mark b i n ms ≡ None
 unfolding first_bad_mark
 new_none b i zero ms h = refl
 new_none b i (suc n) [] h = refl
@@ -94,17 +95,17 @@ one_move_for_pairs l well six low x h ds ok =
     (move_accepted l good s x h total near ins, move_gives l good s x h total near ins ∙ sym (last_list_is l good s ds))
 
 -- the words of the pair at an index of a moved list
-pair_at : (d : ℤ) (l : List Place) → Paired l → (i : ℕ) (p q p' q' : Place) → get_elem? l i ≡ some p → get_elem? l (suc i) ≡ some q → p.mark ≡ 2
-    → get_elem? (tally_list d l) i ≡ some p' → get_elem? (tally_list d l) (suc i) ≡ some q'
+pair_at : (d : ℤ) (l : List Place) → Paired l → (i : ℕ) (p q p' q' : Place) → slice_get l i ≡ Some p → slice_get l (suc i) ≡ Some q → p.mark ≡ 2
+    → slice_get (tally_list d l) i ≡ Some p' → slice_get (tally_list d l) (suc i) ≡ Some q'
     → (p'.word ≡ added_high d p.word q.word) × (q'.word ≡ added_word d q.word)
 unfolding tally_list first_word first_mark moved_place moved_word
-pair_at d [] k i p q p' q' hp hq m hp' hq' = absurd (none-ne-some p hp)
-pair_at d (r ∷ []) k zero p q p' q' hp hq m hp' hq' = absurd (none-ne-some q hq)
+pair_at d [] k i p q p' q' hp hq m hp' hq' = absurd (none-some p hp)
+pair_at d (r ∷ []) k zero p q p' q' hp hq m hp' hq' = absurd (none-some q hq)
 pair_at d (r ∷ s ∷ l) k zero p q p' q' hp hq m hp' hq' =
-    let a = some-injective r p hp in
+    let a = same_Some r p hp in
     let e : r.mark ≡ 2 = ap (λ o. o.mark) a ∙ m in
     let f : s.mark ≡ 3 = k.0 e in
-    rw (← some-injective (moved_place d r s.word) p' hp', ← some-injective (moved_place d s (first_word l)) q' hq', ← a, ← some-injective s q hq, e, f)
+    rw (← same_Some (moved_place d r s.word) p' hp', ← same_Some (moved_place d s (first_word l)) q' hq', ← a, ← same_Some s q hq, e, f)
     (refl, refl)
 pair_at d (r ∷ l) k (suc i) p q p' q' hp hq m hp' hq' = pair_at d l k.1 i p q p' q' hp hq m hp' hq'
 

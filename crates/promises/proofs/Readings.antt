@@ -1,9 +1,9 @@
 -- W-204: the number reader's four answers mean what 02 says, and a line's number is in its task exactly if it is read. Assumes nothing.
+use Rattle.std.specs.Prelude.{Option, None, Some}
 use Prim.Native.Nat.{ℕ, zero, suc, ◌+◌, ◌*◌, ◌^◌, ◌≤◌, ◌<◌}
 use mathlib.Core.Path.{◌≡◌, refl, sym, ap, subst, ◌∙◌}
 use mathlib.Core.Logic.{◌≢◌}
 use mathlib.Core.Bool.{Bool, true, false, cond, ◌||◌, false≢true}
-use mathlib.Core.Option.{Option, none, some}
 use mathlib.Core.List.{[], ◌∷◌}
 use native.Mathlib.Nat.{add-mul, mul_assoc, mul_comm, pow-zero, pow-suc}
 use native.Mathlib.Omega.{arith}
@@ -60,8 +60,8 @@ digits_told radix v (b ∷ s) = go (ltb (digit_value b) radix) refl (digits_told
 
 -- ---- a type as f makes its values: it has the value v exactly if Has says so
 data Typed {A : Type 0} (Has : ℕ → A → Type 0) (v : ℕ) (o : Option A) : Type 0 where
-  has : {a : A} → Has v a → ((b : A) → Has v b → a ≡ b) → o ≡ some a → Typed Has v o
-  hasn't : ((a : A) → ¬ Has v a) → o ≡ none → Typed Has v o
+  has : {a : A} → Has v a → ((b : A) → Has v b → a ≡ b) → o ≡ Some a → Typed Has v o
+  hasn't : ((a : A) → ¬ Has v a) → o ≡ None → Typed Has v o
 
 pub filled : (b : ℕ) (s : Text) → b ∷ s ≢ []
 filled b s e = let h : suc (length s) ≡ 0 = ap length e in omega arith
@@ -122,7 +122,7 @@ module _ {A : Type 0} (f : ℕ → Option A) (Has : ℕ → A → Type 0) (typed
 
 -- ---- the types, by the sign: an unsigned one has no value behind `−`
 unsigned_as : ℕ → Bool → ℕ → Option ℕ
-unsigned_as bound true v = none
+unsigned_as bound true v = None
 unsigned_as bound false v = below bound v
 
 unsigned_typed : (bound : ℕ) (n : Bool) (v : ℕ) → Typed (Unsigned bound n) v (unsigned_as bound n v)
@@ -136,7 +136,7 @@ unsigned_typed bound false v = go (ltb v bound) refl
     outside : bound ≤ v → (w : ℕ) → ¬ Unsigned bound false v w
     outside k w (fits h) = omega arith
 
-    go : (x : Bool) → ltb v bound ≡ x → Typed (Unsigned bound false) v (cond x (some v) none)
+    go : (x : Bool) → ltb v bound ≡ x → Typed (Unsigned bound false) v (cond x (Some v) None)
     go true e = has (fits (ltb-true v bound e)) same refl
     go false e = hasn't (outside (ltb-false v bound e)) refl
 
@@ -154,7 +154,7 @@ signed_typed bound b false v = go (ltb v bound) refl
     outside : bound ≤ v → (z : ℤ) → ¬ Signed bound false v z
     outside k z (upwards h) = omega arith
 
-    go : (x : Bool) → ltb v bound ≡ x → Typed (Signed bound false) v (cond x (some (pos v)) none)
+    go : (x : Bool) → ltb v bound ≡ x → Typed (Signed bound false) v (cond x (Some (pos v)) None)
     go true e = has (upwards (ltb-true v bound e)) same refl
     go false e = hasn't (outside (ltb-false v bound e)) refl
 signed_typed bound b true zero = rw (lt-ltb 0 bound b) (has (downwards {v = 0} (omega arith)) same refl)
@@ -169,7 +169,7 @@ signed_typed bound b true (suc v) = go (ltb v bound) refl
     outside : bound ≤ v → (z : ℤ) → ¬ Signed bound true (suc v) z
     outside k z (downwards h) = omega arith
 
-    go : (x : Bool) → ltb v bound ≡ x → Typed (Signed bound true) (suc v) (cond x (some (negsuc v)) none)
+    go : (x : Bool) → ltb v bound ≡ x → Typed (Signed bound true) (suc v) (cond x (Some (negsuc v)) None)
     go true e = let h = ltb-true v bound e in has (downwards {v = suc v} (omega arith)) same refl
     go false e = hasn't (outside (ltb-false v bound e)) refl
 
@@ -274,13 +274,13 @@ prefix_of (b ∷ s) = go (eqb 36 b) refl (eqb 48 b) refl s
         on true g = record { radix = 16; rest = t; prefix = zero_x (first 48 b (c ∷ t) f ∙ ap (λ (x : Text). 48 ∷ x) (first 120 c t g)) }
         on false g = record { radix = 10; rest = b ∷ c ∷ t; prefix = no_prefix {s = b ∷ c ∷ t} (rw (e, starts)) (rw (f, g, starts)) }
 
-no_tail : (p s : Text) → starts p s ≡ false → after p s ≡ none
+no_tail : (p s : Text) → starts p s ≡ false → after p s ≡ None
 unfolding starts after
 no_tail [] s e = absurd (false≢true (sym e))
 no_tail (a ∷ p) [] e = refl
 no_tail (a ∷ p) (b ∷ s) e = go (eqb a b) refl (no_tail p s)
   where
-    go : (x : Bool) → eqb a b ≡ x → (starts p s ≡ false → after p s ≡ none) → after (a ∷ p) (b ∷ s) ≡ none
+    go : (x : Bool) → eqb a b ≡ x → (starts p s ≡ false → after p s ≡ None) → after (a ∷ p) (b ∷ s) ≡ None
     go true f ih = rw (f, after) (ih (rw (f, starts) at e))
     go false f ih = rw (f, after)
 
@@ -335,8 +335,8 @@ unfolding reading_in
 means_piece = exactly_by there back
   where
     there : (o : Option Text) → MeansPiece Means32 o (reading_in o)
-    there none = missing
-    there (some s) = present ((means_32 s (reading32 s)).0 refl)
+    there None = missing
+    there (Some s) = present ((means_32 s (reading32 s)).0 refl)
 
     back : (o : Option Text) (r : Reading ℕ) → MeansPiece Means32 o r → reading_in o ≡ r
     back o r missing = refl
@@ -357,7 +357,7 @@ module _ {A : Type 0} {f : Text → Reading A} {P : Text → Reading A → Type 
 
       back : (s : Text) (o : Option (Reading A)) → MeansImmediate P s o → immediate f s ≡ o
       back s o (no_hash e) = rw (immediate, no_tail (bytes "#") s e)
-      back s o (hash {t = t} {r = r} e m) = ap (immediate f) e ∙ ap some ((h t r).1 m)
+      back s o (hash {t = t} {r = r} e m) = ap (immediate f) e ∙ ap Some ((h t r).1 m)
 
 means_written : Exactly written_reading (MeansWritten (Means true (Signed 128) 10))
 unfolding written_reading
@@ -369,7 +369,7 @@ means_written = exactly_by (λ s. there s (starts (bytes "+") s || starts (bytes
 
     back : (s : Text) (o : Option (Reading ℤ)) → MeansWritten (Means true (Signed 128) 10) s o → written_reading s ≡ o
     back s o (no_sign_first e) = rw e
-    back s o (sign_first {r = r} e m) = rw e (ap some ((signed_exactly 10 128 (omega arith) s r).1 m))
+    back s o (sign_first {r = r} e m) = rw e (ap Some ((signed_exactly 10 128 (omega arith) s r).1 m))
 
 pub readings_mean : ReadingsMean
 readings_mean =

@@ -1,13 +1,13 @@
 -- The labels that an accepted pass comes to are the last records, one for each name recorded. Assumes nothing.
+use Rattle.std.specs.Prelude.{Some, slice_get}
 use Prim.Native.Nat.{ℕ, zero, suc, ◌+◌, ◌<◌, ◌≤◌}
 use mathlib.Core.Path.{◌≡◌, refl, sym, ap, ◌∙◌}
 use mathlib.Core.Logic.{◌↔◌, ◌⊎◌, inl, inr}
 use mathlib.Core.Bool.{Bool, true, false}
-use mathlib.Core.Option.{some}
 use mathlib.Core.List.{List, [], ◌∷◌, map}
 use native.Mathlib.Omega.{arith}
 use lib.Dec.{eqb}
-use lib.ListN.{length, get_elem?, drop}
+use lib.ListN.{length, drop}
 use Rattle.rules.specs.Text.{Text, cut_at, same}
 use Rattle.rules.specs.Line.{SourceLine, numbered, lines_of, Name, name, Task, end, line_of, size}
 use Rattle.rules.specs.Label.{Label, Table, find, label_of, record_all}
@@ -28,7 +28,7 @@ use Rattle.promises.proofs.RustText.{same_eq}
 use Rattle.promises.proofs.Kept.{same_self, Unique, Last, Keeps, keeps_by, keeps_all, mapped, map_in}
 
 -- the line after starts after its bytes and the byte 10
-start_next : (ls : List Text) (j : ℕ) (l : Text) → get_elem? ls j ≡ some l → start_after (suc j) ls ≡ suc (start_after j ls + length l)
+start_next : (ls : List Text) (j : ℕ) (l : Text) → slice_get ls j ≡ Some l → start_after (suc j) ls ≡ suc (start_after j ls + length l)
 unfolding start_after
 start_next [] j l e = clash cc
 start_next (k ∷ ls) zero l e = let u : k ≡ l = cc in rw u (omega arith)
@@ -133,7 +133,7 @@ module _ (z : Sizes) (base : ℕ) (s : Text) where
           let w : q.text ≡ l = cc in
           nameless (rw (w, end_unlabelled l f) at q.named)
 
-      on : (t' : Table) → record_all (here j i a ns l r is p) a (line_of l).names t ≡ some t' → Keeps (Early (suc j)) (suc (i + length l)) t'
+      on : (t' : Table) → record_all (here j i a ns l r is p) a (line_of l).names t ≡ Some t' → Keeps (Early (suc j)) (suc (i + length l)) t'
       on t' o =
           keeps_by _ (Early (suc j)) (i + suc (length l)) (suc (i + length l)) t' (omega arith) (forth j i a ns l r is p) (back j i a ns l r is p)
           (keeps_all (here j i a ns l r is p) a (Early j) i t t' (omega arith) (names_rise l) o h)
@@ -180,23 +180,23 @@ module _ (z : Sizes) (base : ℕ) (s : Text) where
       kept_last (rw f at (pass (cut_at 10 s) 0 0 base [] [] refl start refl keeps_none)).1
 
 -- ---- what is found in the table is what its last record says
-found_in : (n : Text) (t : Table) (x : ℕ) → find n t ≡ some x → (l : Label) × In l t × (l.name ≡ n) × (l.address ≡ x)
+found_in : (n : Text) (t : Table) (x : ℕ) → find n t ≡ Some x → (l : Label) × In l t × (l.name ≡ n) × (l.address ≡ x)
 unfolding find
 found_in n [] x e = clash cc
 found_in n (l ∷ t) x e = go (same n l.name) refl e (found_in n t x)
   where
-    go : (y : Bool) → same n l.name ≡ y → elim y [ true ↦ some l.address | false ↦ find n t ] ≡ some x
-        → (find n t ≡ some x → (m : Label) × In m t × (m.name ≡ n) × (m.address ≡ x)) → (m : Label) × In m (l ∷ t) × (m.name ≡ n) × (m.address ≡ x)
+    go : (y : Bool) → same n l.name ≡ y → elim y [ true ↦ Some l.address | false ↦ find n t ] ≡ Some x
+        → (find n t ≡ Some x → (m : Label) × In m t × (m.name ≡ n) × (m.address ≡ x)) → (m : Label) × In m (l ∷ t) × (m.name ≡ n) × (m.address ≡ x)
     go true f e ih = (l, head refl, sym (same_eq n l.name f), (let u : l.address ≡ x = cc in u))
     go false f e ih = let h = ih e in (h.0, tail h.1, h.2, h.3)
 
-in_found : {l : Label} {t : Table} → Unique t → In l t → find l.name t ≡ some l.address
+in_found : {l : Label} {t : Table} → Unique t → In l t → find l.name t ≡ Some l.address
 unfolding find
 in_found {l} u (head {y = m} e) = rw (e, find, same_self m.name)
 in_found {l} u (tail {y = m} {ys = t} i) = go (same l.name m.name) refl (in_found u.1 i)
   where
-    go : (y : Bool) → same l.name m.name ≡ y → find l.name t ≡ some l.address
-        → elim y [ true ↦ some m.address | false ↦ find l.name t ] ≡ some l.address
+    go : (y : Bool) → same l.name m.name ≡ y → find l.name t ≡ Some l.address
+        → elim y [ true ↦ Some m.address | false ↦ find l.name t ] ≡ Some l.address
     go true e ih = absurd (u.0 l i (same_eq l.name m.name e))
     go false e ih = ih
 
@@ -207,13 +207,13 @@ found_is_last z base s p a l x = (to, from)
     law : LastRecordsBy z base s p.labels
     law = labels_last z base s p a
 
-    to : find l p.labels ≡ some x → RecordedAtBy z base s l x
+    to : find l p.labels ≡ Some x → RecordedAtBy z base s l x
     to e =
         let f = found_in l p.labels x e in
         let h = (law.exactly f.0).0 f.1 in
         rw (f.2, f.3) at (recorded_at h)
 
-    from : RecordedAtBy z base s l x → find l p.labels ≡ some x
+    from : RecordedAtBy z base s l x → find l p.labels ≡ Some x
     from (recorded_at {i} {k} h) = in_found law.unique ((law.exactly (record { name = l; start = i; address = x; line = k })).1 h)
 
 -- with 01's sizes

@@ -1,11 +1,10 @@
 -- A text without `[` has none in its lines, its pieces and what is left of it trimmed; so DC's value there is a number. Assumes nothing.
+use Rattle.std.specs.Prelude.{Some, slice_get}
 use Prim.Native.Nat.{ℕ, zero, suc}
 use mathlib.Core.Path.{◌≡◌, refl, sym}
 use mathlib.Core.Bool.{Bool, true, false, ◌||◌, cond, false≢true}
-use mathlib.Core.Option.{some}
 use mathlib.Core.List.{List, [], ◌∷◌, ◌++◌}
 use lib.Dec.{eqb}
-use lib.ListN.{get_elem?}
 use borrow.Author.Tests.{eqb-true}
 use Rattle.rules.specs.Text.{Text, bytes, blank, trim_start, keep_end, trim_end, trim, on_first, cut_where, cut_at, drop_empty, pieces, join_more, joined, Cut, uncut, around, in_front, first_cut, starts, nth}
 use Rattle.rules.specs.Number.{reading32}
@@ -123,11 +122,11 @@ unfolding joined
 free_joined none_left = nil
 free_joined (one_more f g) = free_append f (free_more g)
 
-pub free_at : {ps : List Text} → AllFree ps → (j : ℕ) {l : Text} → get_elem? ps j ≡ some l → Free l
+pub free_at : {ps : List Text} → AllFree ps → (j : ℕ) {l : Text} → slice_get ps j ≡ Some l → Free l
 free_at none_left j e = clash cc
 free_at (one_more f g) zero {l} e = go e f
   where
-    go : {p : Text} → some p ≡ some l → Free p → Free l
+    go : {p : Text} → Some p ≡ Some l → Free p → Free l
     go {p} q h = let z : p ≡ l = cc in rw z at h
 free_at (one_more f g) (suc j) e = free_at g j e
 

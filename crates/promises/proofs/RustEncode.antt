@@ -1,8 +1,10 @@
 -- Each encoder of the Rust gives the words of paper 01: labels as they are found, addresses modulo 65,536. Assumes nothing.
+use Rattle.std.specs.Prelude.{Option, None, Some, option_map}
+use Rattle.std.proofs.lemmas.Option.{none-some}
+use Rattle.rules.specs.Option.{bind, or_else}
 use Prim.Native.Nat.{ℕ, suc, ◌+◌, ◌/◌, ◌%◌, ◌^◌, ◌<◌}
 use mathlib.Core.Path.{◌≡◌, refl, sym, ap, ◌∙◌}
 use mathlib.Core.Bool.{Bool, true, false, not, ◌&&◌, ◌||◌, cond, false≢true}
-use mathlib.Core.Option.{Option, none, some, bind, or_else, map, none-ne-some, some-ne-none}
 use mathlib.Core.List.{List, [], ◌∷◌}
 use native.Mathlib.Omega.{arith}
 use lib.ListN.{length, drop}
@@ -31,8 +33,8 @@ plain (address x ∷ cs) = x % 65536 ∷ plain cs
 plain (long_address x ∷ cs) = x / 65536 % 65536 ∷ x % 65536 ∷ plain cs
 
 abbrev pub ext_words : Option ℕ → List ℕ
-ext_words none = []
-ext_words (some e) = e ∷ []
+ext_words None = []
+ext_words (Some e) = e ∷ []
 
 abbrev pub code_words : Code → List ℕ
 code_words c = c.0 ∷ ext_words c.1
@@ -42,14 +44,14 @@ one_word c = c ∷ []
 
 -- an answer of the Rust and one of the rules have the same words
 pub record Same {A : Type 0} (f : A → List ℕ) (x : Option A) (y : Option (List Content)) : Type 0 where
-  pub words : map f x ≡ map plain y
+  pub words : option_map f x ≡ option_map plain y
 
 module _ {A : Type 0} {f : A → List ℕ} where
-  nothing : Same f none none
+  nothing : Same f None None
   nothing = record { words = refl }
 
-  hit : {a : A} {cs : List Content} → f a ≡ plain cs → Same f (some a) (some cs)
-  hit e = record { words = ap some e }
+  hit : {a : A} {cs : List Content} → f a ≡ plain cs → Same f (Some a) (Some cs)
+  hit e = record { words = ap Some e }
 
   -- the same option taken on, whose value is known to be so
   on : {X : Type 0} (P : X → Type 0) {o p : Option X} {g : X → Option A} {h : X → Option (List Content)} → o ≡ p → All P p
@@ -58,40 +60,40 @@ module _ {A : Type 0} {f : A → List ℕ} where
   on {X} P {o} {p} {g} {h} e a k = rw e (go p a)
     where
       go : (p : Option X) → All P p → Same f (bind p g) (bind p h)
-      go none a = nothing
-      go (some x) a = k x a
+      go None a = nothing
+      go (Some x) a = k x a
 
   or_else_lem : {x x' : Option A} {y y' : Option (List Content)} → Same f x y → Same f x' y' → Same f (or_else x x') (or_else y y')
   unfolding or_else
   or_else_lem {x} {x'} {y} {y'} e e' = go x y e
     where
       go : (x : Option A) (y : Option (List Content)) → Same f x y → Same f (or_else x x') (or_else y y')
-      go none none e = e'
-      go none (some c) e = absurd (none-ne-some (plain c) e.words)
-      go (some a) none e = absurd (some-ne-none (f a) e.words)
-      go (some a) (some c) e = e
+      go None None e = e'
+      go None (Some c) e = absurd (none-some (plain c) e.words)
+      go (Some a) None e = absurd (none-some (f a) (sym e.words))
+      go (Some a) (Some c) e = e
 
   -- a last row that gives nothing
-  last : {x : Option A} {y : Option (List Content)} → Same f x y → Same f (or_else x none) y
+  last : {x : Option A} {y : Option (List Content)} → Same f x y → Same f (or_else x None) y
   unfolding or_else
   last {x} {y} e = go x e
     where
-      go : (x : Option A) → Same f x y → Same f (or_else x none) y
-      go none e = e
-      go (some a) e = e
+      go : (x : Option A) → Same f x y → Same f (or_else x None) y
+      go None e = e
+      go (Some a) e = e
 
   -- two options taken in the other order
   swap : {X Y : Type 0} (o : Option X) (p : Option Y) (g : X → Y → Option A) {y : Option (List Content)}
       → Same f (bind o (λ a. bind p (g a))) y → Same f (bind p (λ b. bind o (λ a. g a b))) y
   unfolding bind
-  swap none none g e = e
-  swap none (some b) g e = e
-  swap (some a) none g e = e
-  swap (some a) (some b) g e = e
+  swap None None g e = e
+  swap None (Some b) g e = e
+  swap (Some a) None g e = e
+  swap (Some a) (Some b) g e = e
 
   -- the counts of operands
   count_two : (F : List Text → Option A) (h : Text → Text → Option (List Content)) → ((s t : Text) → Same f (F (s ∷ t ∷ [])) (h s t))
-      → (ps : List Text) → Same f (cond (not (eqb (length ps) 2)) none (F ps)) (two h ps)
+      → (ps : List Text) → Same f (cond (not (eqb (length ps) 2)) None (F ps)) (two h ps)
   unfolding two
   count_two F h k [] = nothing
   count_two F h k (s ∷ []) = nothing
@@ -99,26 +101,26 @@ module _ {A : Type 0} {f : A → List ℕ} where
   count_two F h k (s ∷ t ∷ u ∷ ps) = rw (ne_eqb (suc (suc (suc (length ps)))) 2 (λ e. omega arith)) nothing
 
   count_one : (F : List Text → Option A) (h : Text → Option (List Content)) → ((s : Text) → Same f (F (s ∷ [])) (h s))
-      → (ps : List Text) → Same f (cond (not (eqb (length ps) 1)) none (F ps)) (one h ps)
+      → (ps : List Text) → Same f (cond (not (eqb (length ps) 1)) None (F ps)) (one h ps)
   unfolding one
   count_one F h k [] = nothing
   count_one F h k (s ∷ []) = k s
   count_one F h k (s ∷ t ∷ ps) = rw (ne_eqb (suc (suc (length ps))) 1 (λ e. omega arith)) nothing
 
   count_more : (F : List Text → Option A) (h : Text → Option (List Content)) → ((s : Text) (ps : List Text) → Same f (F (s ∷ ps)) (h s))
-      → (ps : List Text) → Same f (cond (is_empty ps) none (F ps)) (one_or_more h ps)
+      → (ps : List Text) → Same f (cond (is_empty ps) None (F ps)) (one_or_more h ps)
   unfolding one_or_more is_empty
   count_more F h k [] = nothing
   count_more F h k (s ∷ ps) = k s ps
 
 -- an opcode; a code alone, with a value, with a label's address
-opcode : {c w : ℕ} → c ≡ w → Same one_word (some c) (some (literal w ∷ []))
+opcode : {c w : ℕ} → c ≡ w → Same one_word (Some c) (Some (literal w ∷ []))
 opcode e = hit (ap one_word e)
 
-alone : {c w : ℕ} → c ≡ w → Same code_words (some (c, none)) (some (literal w ∷ []))
+alone : {c w : ℕ} → c ≡ w → Same code_words (Some (c, None)) (Some (literal w ∷ []))
 alone e = hit (ap one_word e)
 
-valued : {c w v : ℕ} → c ≡ w → Same code_words (some (c, some v)) (some (literal w ∷ literal v ∷ []))
+valued : {c w v : ℕ} → c ≡ w → Same code_words (Some (c, Some v)) (Some (literal w ∷ literal v ∷ []))
 valued {v = v} e = hit (ap (λ (x : ℕ). x ∷ v ∷ []) e)
 
 -- a data register and an immediate, taken on
@@ -131,37 +133,37 @@ module _ {A : Type 0} {f : A → List ℕ} (s : Text) where
   value_on k = on (λ v. Unit {0}) (imm16_is s) (any (imm16 s)) (λ v u. k v)
     where
       any : (o : Option ℕ) → All (λ v. Unit {0}) o
-      any none = tt
-      any (some v) = tt
+      any None = tt
+      any (Some v) = tt
 
   quick_on : {g : ℤ → Option A} {h : ℤ → Option (List Content)} → ((z : ℤ) → Small z → Same f (g z) (h z)) → Same f (bind (parse_immediate s) g) (bind (imm8 s) h)
   quick_on k = on Small (imm8_is s) (imm8_small s) k
 
 -- `#` is no register
-hash_none : (s : Text) → starts_with s (bytes "#") ≡ true → data_register s ≡ none
+hash_none : (s : Text) → starts_with s (bytes "#") ≡ true → data_register s ≡ None
 unfolding data_register register_digit bytes
 hash_none s e = rw (data_register, after_is (68 ∷ []) s, clash 35 68 [] [] s refl e)
 
-bind_none : {X Y : Type 0} {o : Option X} (k : X → Option Y) → o ≡ none → bind o k ≡ none
+bind_none : {X Y : Type 0} {o : Option X} (k : X → Option Y) → o ≡ None → bind o k ≡ None
 unfolding bind
 bind_none k e = rw e
 
 -- rows by `#`: the one or the other of the rules' rows gives nothing
 module _ (s : Text) where
-  either : {x x' : Option Code} {y y' : Option (List Content)} → (starts_with s (bytes "#") ≡ true → y' ≡ none) → (starts_with s (bytes "#") ≡ false → y ≡ none)
+  either : {x x' : Option Code} {y y' : Option (List Content)} → (starts_with s (bytes "#") ≡ true → y' ≡ None) → (starts_with s (bytes "#") ≡ false → y ≡ None)
       → Same code_words x y → Same code_words x' y' → Same code_words (cond (starts_with s (bytes "#")) x x') (or_else y y')
   unfolding or_else
   either {x} {x'} {y} {y'} p q e e' = go (starts_with s (bytes "#")) refl
     where
-      only : (y : Option (List Content)) → Same code_words x y → Same code_words x (or_else y none)
-      only none e = e
-      only (some c) e = e
+      only : (y : Option (List Content)) → Same code_words x y → Same code_words x (or_else y None)
+      only None e = e
+      only (Some c) e = e
 
       go : (b : Bool) → starts_with s (bytes "#") ≡ b → Same code_words (cond b x x') (or_else y y')
       go true b = rw (p b) (only y e)
       go false b = rw (q b) e'
 
-  hashed : {x : Option Code} {y : Option (List Content)} → (starts_with s (bytes "#") ≡ false → y ≡ none) → Same code_words x y
+  hashed : {x : Option Code} {y : Option (List Content)} → (starts_with s (bytes "#") ≡ false → y ≡ None) → Same code_words x y
       → Same code_words (when (starts_with s (bytes "#")) x) y
   hashed {x} {y} q e = go (starts_with s (bytes "#")) refl
     where
@@ -178,32 +180,32 @@ pull false o k h e = e
 -- ---- the rows that several encoders have
 -- two registers; g makes an answer of one word
 registers_same : {A : Type 0} {f : A → List ℕ} (g : ℕ → A) → ((c : ℕ) → f (g c) ≡ one_word c) → (w : ℕ) → w / 512 % 8 ≡ 0 → w % 8 ≡ 0 → (s u : Text)
-    → Same f (bind (parse_data_register s) (λ n. bind (parse_data_register u) (λ m. some (g (w or (as_u16 m << 9) or as_u16 n))))) (registers_row w s u)
+    → Same f (bind (parse_data_register s) (λ n. bind (parse_data_register u) (λ m. Some (g (w or (as_u16 m << 9) or as_u16 n))))) (registers_row w s u)
 unfolding registers_row
 registers_same g p w d e s u = data_on s (λ n h. data_on u (λ m k. hit (p _ ∙ ap one_word (registers w n m h k d e))))
 
 -- an immediate and a register in bits 9 to 11, taken in the other order
 high_same : (w : ℕ) → w / 512 % 8 ≡ 0 → (s u : Text)
-    → Same code_words (bind (parse_data_register u) (λ n. bind (parse_immediate_u16 s) (λ v. some (w or (as_u16 n << 9), some v)))) (high_row w s u)
+    → Same code_words (bind (parse_data_register u) (λ n. bind (parse_immediate_u16 s) (λ v. Some (w or (as_u16 n << 9), Some v)))) (high_row w s u)
 unfolding high_row
 high_same w d s u =
-    swap (parse_immediate_u16 s) (parse_data_register u) (λ v n. some (w or (as_u16 n << 9), some v)) (value_on s (λ v. data_on u (λ n k. valued (at_high w n k d))))
+    swap (parse_immediate_u16 s) (parse_data_register u) (λ v n. Some (w or (as_u16 n << 9), Some v)) (value_on s (λ v. data_on u (λ n k. valued (at_high w n k d))))
 
 -- a signed byte's low three bits in bits 9 to 11, and a register
 quick_same : (w : ℕ) → w / 512 % 8 ≡ 0 → w % 8 ≡ 0 → (s u : Text)
     → Same one_word
     (bind (parse_immediate s) (λ z. bind (parse_data_register u) (λ n.
-    let c = i8_as_u16 z in some (w or (cond (eqb c 8) 0 (c and 7) << 9) or as_u16 n))))
+    let c = i8_as_u16 z in Some (w or (cond (eqb c 8) 0 (c and 7) << 9) or as_u16 n))))
     (quick_row w s u)
 unfolding quick_row
 quick_same w d e s u = quick_on s (λ z k. data_on u (λ n h. opcode (quick_word w n z h k d e)))
 
 -- without a `#` no row of an immediate is taken, with one no row of two registers
-no_high : (w : ℕ) (s u : Text) → starts_with s (bytes "#") ≡ false → high_row w s u ≡ none
+no_high : (w : ℕ) (s u : Text) → starts_with s (bytes "#") ≡ false → high_row w s u ≡ None
 unfolding high_row
 no_high w s u e = bind_none _ (imm16_none s e)
 
-no_registers : (w : ℕ) (s u : Text) → starts_with s (bytes "#") ≡ true → registers_row w s u ≡ none
+no_registers : (w : ℕ) (s u : Text) → starts_with s (bytes "#") ≡ true → registers_row w s u ≡ None
 unfolding registers_row
 no_registers w s u e = bind_none _ (hash_none s e)
 
@@ -243,7 +245,7 @@ module _ (x : AssemblyInstruction) where
         (no_registers 0xB040 s u)
         (λ e. bind_none _ (imm16_none s e))
         (value_on s (λ v. data_on u (λ n h. valued (at_low 0x0C80 n h refl))))
-        (registers_same (λ c. (c, none)) (λ c. refl) 0xB040 refl refl s u))
+        (registers_same (λ c. (c, None)) (λ c. refl) 0xB040 refl refl s u))
 
     muls_same : (ps : List Text) → Same code_words (encode_muls_with_ext (inst ps)) (encode_operation t x.address muls ps)
     unfolding encode_muls_with_ext encode_operation muls_rows
@@ -251,12 +253,12 @@ module _ (x : AssemblyInstruction) where
         (no_registers 0xC1C0 s u)
         (no_high 0xC1FC s u)
         (high_same 0xC1FC refl s u)
-        (swap (parse_data_register s) (parse_data_register u) (λ n m. some (0xC1C0 or (as_u16 m << 9) or as_u16 n, none))
-        (registers_same (λ c. (c, none)) (λ c. refl) 0xC1C0 refl refl s u)))))
+        (swap (parse_data_register s) (parse_data_register u) (λ n m. Some (0xC1C0 or (as_u16 m << 9) or as_u16 n, None))
+        (registers_same (λ c. (c, None)) (λ c. refl) 0xC1C0 refl refl s u)))))
 
   -- those that look labels up
   module _ {m : HashMap} {t : Table} (g : Agrees m t) where
-    label_on : (s : Text) {c w : ℕ} → c ≡ w → Same code_words (bind (look_up m s) (λ x. some (c, some (as_u16 x)))) (with_label t w s)
+    label_on : (s : Text) {c w : ℕ} → c ≡ w → Same code_words (bind (look_up m s) (λ x. Some (c, Some (as_u16 x)))) (with_label t w s)
     unfolding with_label
     label_on s e = on (λ x. x < 2 ^ 30) (g.finds s) (g.low s) (λ x h. hit (ap (λ (y : ℕ). y ∷ x % 65536 ∷ []) e))
 
@@ -266,7 +268,7 @@ module _ (x : AssemblyInstruction) where
         (hashed s (no_high 0x21FC s u) (high_same 0x21FC refl s u))
         (or_else_lem (on Register (indirect_is s) (indirect_below s) (λ n h. data_on u (λ k l. alone (registers 0x2010 n k h l refl refl))))
         (or_else_lem (data_on s (λ n h. on Register (indirect_is u) (indirect_below u) (λ k l. alone (registers 0x2080 n k h l refl refl))))
-        (or_else_lem (registers_same (λ c. (c, none)) (λ c. refl) 0x3000 refl refl s u)
+        (or_else_lem (registers_same (λ c. (c, None)) (λ c. refl) 0x3000 refl refl s u)
         (or_else_lem (data_on u (λ n h. label_on s (at_high 0x2078 n h refl)))
         (last (data_on s (λ n h. label_on u (at_low 0x23C0 n h refl)))))))))
 
@@ -277,7 +279,7 @@ module _ (x : AssemblyInstruction) where
         go : (s u : Text) (x : Bool) → starts_with s (35 ∷ []) ≡ x
             → Same code_words
             (when (starts_with s (35 ∷ []))
-            (bind (parse_address_register u) (λ n. bind (look_up m (drop 1 s)) (λ x. some (0x207C or (as_u16 n << 9), some (as_u16 x))))))
+            (bind (parse_address_register u) (λ n. bind (look_up m (drop 1 s)) (λ x. Some (0x207C or (as_u16 n << 9), Some (as_u16 x))))))
             (bind (after (35 ∷ []) s) (λ l. bind (address_register u) (λ n. with_label t (0x207C + R n) l)))
         go s u true e = rw (after_is (35 ∷ []) s, e) (on Register (address_is u) (address_below u) (λ n h. label_on (drop 1 s) (at_high 0x207C n h refl)))
         go s u false e = rw (after_is (35 ∷ []) s, e) nothing
@@ -286,7 +288,7 @@ module _ (x : AssemblyInstruction) where
     unfolding encode_jump encode_operation jump_row
     jump_same = count_one _ _ (λ s. rw (jumps_is g s) (go (jumps t s)))
       where
-        go : (x : Bool) → Same one_word (cond x (some 0x4EF8) none) (cond x (some (literal 0x4EF8 ∷ [])) none)
+        go : (x : Bool) → Same one_word (cond x (Some 0x4EF8) None) (cond x (Some (literal 0x4EF8 ∷ [])) None)
         go true = opcode refl
         go false = nothing
 
@@ -316,12 +318,12 @@ Misses n (r ∷ rs) = (equals n r.pattern ≡ false) × Misses n rs
 equal : (s t : Text) → equals s t ≡ true → s ≡ t
 equal s t e = same_eq s t (sym (equals_is s t) ∙ e)
 
-match_same : (y : Text → Option (List Content)) (n : Text) {rs : List (Arm Code)} → Arms y rs → (Misses n rs → y n ≡ none) → Same code_words (match n rs) (y n)
+match_same : (y : Text → Option (List Content)) (n : Text) {rs : List (Arm Code)} → Arms y rs → (Misses n rs → y n ≡ None) → Same code_words (match n rs) (y n)
 unfolding match Misses
 match_same y n done k = rw (k tt) nothing
 match_same y n (◌then_arm◌ {r = r} {rs = rs} w ws) k = go (equals n r.pattern) refl (match_same y n ws)
   where
-    go : (x : Bool) → equals n r.pattern ≡ x → ((Misses n rs → y n ≡ none) → Same code_words (match n rs) (y n)) → Same code_words (match n (r ∷ rs)) (y n)
+    go : (x : Bool) → equals n r.pattern ≡ x → ((Misses n rs → y n ≡ None) → Same code_words (match n rs) (y n)) → Same code_words (match n (r ∷ rs)) (y n)
     go true e ih = rw (e, match, equal n r.pattern e) w
     go false e ih = rw (e, match) (ih (λ ms. k (e, ms)))
 
@@ -339,13 +341,13 @@ unfolding Misses has
 missed n [] ms = refl
 missed n (r ∷ rs) ms = rw ms.0 (missed n rs ms.1)
 
-missing : (n : Text) (rs : List (Arm Code)) → Misses n rs → (ns : List Mnemonic) → covered ns rs ≡ true → operation_in ns n ≡ none
+missing : (n : Text) (rs : List (Arm Code)) → Misses n rs → (ns : List Mnemonic) → covered ns rs ≡ true → operation_in ns n ≡ None
 unfolding operation_in covered
 missing n rs ms [] c = refl
 missing n rs ms (x ∷ ns) c = go (equals n x.name) refl (has x.name rs) refl (missing n rs ms ns)
   where
-    go : (y : Bool) → equals n x.name ≡ y → (z : Bool) → has x.name rs ≡ z → (covered ns rs ≡ true → operation_in ns n ≡ none)
-        → operation_in (x ∷ ns) n ≡ none
+    go : (y : Bool) → equals n x.name ≡ y → (z : Bool) → has x.name rs ≡ z → (covered ns rs ≡ true → operation_in ns n ≡ None)
+        → operation_in (x ∷ ns) n ≡ None
     go true e z f ih = absurd (false≢true (sym (missed n rs ms) ∙ ap (λ (q : Text). has q rs) (equal n x.name e) ∙ covers z f))
       where
         covers : (z : Bool) → has x.name rs ≡ z → has x.name rs ≡ true
@@ -358,8 +360,8 @@ no_ext_same : {x : Option ℕ} {y : Option (List Content)} → Same one_word x y
 no_ext_same {x} {y} e = go x e
   where
     go : (x : Option ℕ) → Same one_word x y → Same code_words (no_ext x) y
-    go none e = record { words = e.words }
-    go (some c) e = record { words = e.words }
+    go None e = record { words = e.words }
+    go (Some c) e = record { words = e.words }
 
 -- an instruction's words
 module _ (a : ℕ) (low : a < 2 ^ 30) (i : Said) {m : HashMap} {t : Table} (g : Agrees m t) where

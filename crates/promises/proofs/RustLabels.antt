@@ -1,8 +1,8 @@
 -- The labels of a line go into the rules' table exactly where the Rust's map has room for them by its keys. Assumes nothing.
+use Rattle.std.specs.Prelude.{Option, None, Some}
 use Prim.Native.Nat.{ℕ, suc, ◌^◌, ◌≤◌, ◌<◌}
 use mathlib.Core.Path.{◌≡◌, refl, sym, ◌∙◌}
 use mathlib.Core.Bool.{Bool, true, false, cond}
-use mathlib.Core.Option.{Option, none, some}
 use mathlib.Core.List.{List, [], ◌∷◌}
 use native.Mathlib.Omega.{arith}
 use lib.ListN.{length}
@@ -25,8 +25,8 @@ keys_insert m k v = refl
 
 some_is : (o : Option ℕ) → rust_is_some o ≡ is_some o
 unfolding rust_is_some is_some
-some_is none = refl
-some_is (some v) = refl
+some_is None = refl
+some_is (Some v) = refl
 
 no_fewer : (x : Bool) (n : ℕ) → n ≤ cond x n (suc n)
 no_fewer true n = omega arith
@@ -50,8 +50,8 @@ pub record Level (m : HashMap) (t : Table) : Type 0 where
 
 -- the labels of a line: one too many, or all in both
 pub data Inserted (m : HashMap) : Option Table → Type 0 where
-  overflow : max_labels < keys m → Inserted m none
-  fits : {t : Table} → Level m t → Inserted m (some t)
+  overflow : max_labels < keys m → Inserted m None
+  fits : {t : Table} → Level m t → Inserted m (Some t)
 
 count_insert : (m : HashMap) (t : Table) (x : Label) → Agrees m t → keys m ≡ length t → keys (insert m x.name x.address) ≡ length (recorded x t)
 count_insert m t x g c =

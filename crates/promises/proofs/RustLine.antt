@@ -1,8 +1,9 @@
 -- A line: the body of the Rust's loop does what paper 01 reads in the line. Assumes nothing.
+use Rattle.std.specs.Prelude.{Option, None, Some}
+use Rattle.rules.specs.Option.{bind}
 use Prim.Native.Nat.{ℕ, suc, ◌+◌, ◌-◌}
 use mathlib.Core.Path.{◌≡◌, refl, ap, ◌∙◌, fun_ext}
 use mathlib.Core.Bool.{Bool, true, false, not, ◌&&◌, ◌||◌, cond, and-true}
-use mathlib.Core.Option.{Option, none, some, bind}
 use mathlib.Core.List.{List, [], ◌∷◌, map, ◌++◌}
 use native.Mathlib.Omega.{arith}
 use lib.ListN.{length, drop, get_or}
@@ -37,8 +38,8 @@ last_is s t (u ∷ ps) = last_is t u ps
 
 l_is : (o : Option Text) → rust_is_l o ≡ is_l o
 unfolding rust_is_l is_l
-l_is none = refl
-l_is (some p) = equals_is p (bytes "L")
+l_is None = refl
+l_is (Some p) = equals_is p (bytes "L")
 
 none_of : (x y z : Bool) → (not x && not y && not z) ≡ not (x || y || z)
 none_of true y z = refl
@@ -165,8 +166,8 @@ size_of s = simp (uppercase_is, contains_is)
 
 number_in_is : (o : Option Text) → bind o number32 ≡ number_in o
 unfolding bind number_in reading_in value_of
-number_in_is none = refl
-number_in_is (some p) = refl
+number_in_is None = refl
+number_in_is (Some p) = refl
 
 value_of_lem : (s d : Text) → Free d → directive_value (to_uppercase s) d ≡ data_value (uppers s) d
 unfolding directive_value data_value number_in
@@ -184,13 +185,13 @@ value_of_lem s d f =
 -- the tasks that a number decides
 sized_is : (n : ℕ) (o : Option ℕ) (st : State) → continue (let s₂ = push_value o st in set_address (add_u32 s₂.current_address n) s₂) ≡ perform_task (sized n o) st
 unfolding perform_task sized
-sized_is n none st = refl
-sized_is n (some v) st = refl
+sized_is n None st = refl
+sized_is n (Some v) st = refl
 
 org_is : (o : Option ℕ) (st : State) → continue (handle_org o st) ≡ perform_task (org_task o) st
 unfolding perform_task org_task
-org_is none st = refl
-org_is (some v) st = refl
+org_is None st = refl
+org_is (Some v) st = refl
 
 org_number : (s : Text) → parse_org_directive s ≡ number_in (nth 1 (pieces s))
 unfolding parse_org_directive

@@ -1,8 +1,9 @@
 -- Numbers in text and machine numbers: the Rust's readers are those of paper 01, on all bytes. Assumes nothing.
+use Rattle.std.specs.Prelude.{Option, None, Some}
+use Rattle.rules.specs.Option.{bind}
 use Prim.Native.Nat.{ℕ, zero, suc, ◌+◌, ◌-◌, ◌*◌, ◌^◌, ◌≤◌, ◌<◌}
 use mathlib.Core.Path.{◌≡◌, refl, sym, ◌∙◌, ap}
 use mathlib.Core.Bool.{Bool, true, false, ◌&&◌, ◌||◌, cond, and-true, false≢true}
-use mathlib.Core.Option.{Option, none, some, bind}
 use mathlib.Core.List.{[], ◌∷◌}
 use native.Mathlib.Omega.{arith}
 use native.Mathlib.Nat.{mod-eq_of_lt}
@@ -21,16 +22,16 @@ use Rattle.promises.proofs.RustText.{eqb_comm, after_is}
 
 -- digits: where Rust's letters go on to Z, the rules stop at F, and no radix here reaches so far
 Read : ℕ → Option ℕ → ℕ → Type 0
-Read radix o v = bind o (λ d. when (ltb d radix) (some d)) ≡ cond (ltb v radix) (some v) none
+Read radix o v = bind o (λ d. when (ltb d radix) (Some d)) ≡ cond (ltb v radix) (Some v) None
 
 module _ (b lo mid hi off radix : ℕ) (x : Option ℕ) (y : ℕ) where
   block : mid ≤ hi → radix ≤ 16 → (mid < b → b ≤ hi → (16 ≤ b - off) × (16 ≤ y)) → Read radix x y
-      → Read radix (cond (leb lo b && leb b hi) (some (b - off)) x) (cond (leb lo b && leb b mid) (b - off) y)
+      → Read radix (cond (leb lo b && leb b hi) (Some (b - off)) x) (cond (leb lo b && leb b mid) (b - off) y)
   unfolding Read bind
   block k r gap h = go (leb lo b) refl (leb b mid) refl (leb b hi) refl
     where
       go : (l : Bool) → leb lo b ≡ l → (m : Bool) → leb b mid ≡ m → (u : Bool) → leb b hi ≡ u
-          → Read radix (cond (leb lo b && leb b hi) (some (b - off)) x) (cond (leb lo b && leb b mid) (b - off) y)
+          → Read radix (cond (leb lo b && leb b hi) (Some (b - off)) x) (cond (leb lo b && leb b mid) (b - off) y)
       go false e m f u g = rw e h
       go true e true f true g = rw (e, f, g)
       go true e true f false g = absurd (let p : b ≤ mid = leb-true b mid f in let q : hi < b = leb-false b hi g in let z : ⊥ = omega arith in z)
@@ -39,12 +40,12 @@ module _ (b lo mid hi off radix : ℕ) (x : Option ℕ) (y : ℕ) where
           rw (e, f, g, le-ltb (b - off) radix (omega arith), le-ltb y radix (omega arith))
       go true e false f false g = rw (e, f, g) h
 
-pub digit_is : (b radix : ℕ) → radix ≤ 16 → to_digit b radix ≡ cond (ltb (digit_value b) radix) (some (digit_value b)) none
+pub digit_is : (b radix : ℕ) → radix ≤ 16 → to_digit b radix ≡ cond (ltb (digit_value b) radix) (Some (digit_value b)) None
 unfolding to_digit digit is_ascii_digit digit_value Read bind
 digit_is b radix r =
     block b 48 57 57 48 radix _ _ (omega arith) r (λ p q. (omega arith, omega arith))
     (block b 65 70 90 55 radix _ _ (omega arith) r (λ p q. (omega arith, gap p q))
-    (block b 97 102 122 87 radix none 255 (omega arith) r (λ p q. (omega arith, omega arith)) (rw (le-ltb 255 radix (omega arith)))))
+    (block b 97 102 122 87 radix None 255 (omega arith) r (λ p q. (omega arith, omega arith)) (rw (le-ltb 255 radix (omega arith)))))
   where
     gap : 70 < b → b ≤ 90 → 16 ≤ cond (leb 97 b && leb b 102) (b - 87) 255
     gap p q = rw (lt-leb 97 b (omega arith)) (omega arith)
@@ -78,20 +79,20 @@ number_is bits radix s r = rw (plus_is s, some_is radix (without 43 s) r, ranged
 lt_128 : (n : ℕ) → leb n 127 ≡ ltb n 128
 lt_128 n = sym (leb-suc-suc n 127)
 
-range_is : (z : ℤ) → when (range_contains (negsuc 127) (pos 127) z) (some z) ≡ within 128 z
+range_is : (z : ℤ) → when (range_contains (negsuc 127) (pos 127) z) (Some z) ≡ within 128 z
 unfolding within
 range_is (pos n) = rw (lt_128 n)
 range_is (negsuc n) = rw (and-true (leb n 127), lt_128 n)
 
 negative_is : (o : Option ℕ) → i8_range (negated o) ≡ bind o (λ v. within 128 (neg_ℤ (pos v)))
 unfolding i8_range negated bind
-negative_is none = refl
-negative_is (some v) = range_is (neg_ℤ (pos v))
+negative_is None = refl
+negative_is (Some v) = range_is (neg_ℤ (pos v))
 
 positive_is : (o : Option ℕ) → i8_range (unnegated o) ≡ bind o (λ v. within 128 (pos v))
 unfolding i8_range unnegated bind
-positive_is none = refl
-positive_is (some v) = range_is (pos v)
+positive_is None = refl
+positive_is (Some v) = range_is (pos v)
 
 pub signed_is : (radix : ℕ) (s : Text) → radix ≤ 16 → i8_from_str_radix s radix ≡ signed radix 128 s
 unfolding i8_from_str_radix signed signed_reading starts_with bytes some_digits without value_of bind
@@ -192,7 +193,7 @@ module _ (s : Text) where
       go false e = rw (e, immediate, after_is (bytes "#") s, e)
 
   -- without `#` there is none
-  pub imm16_none : starts_with s (bytes "#") ≡ false → imm16 s ≡ none
+  pub imm16_none : starts_with s (bytes "#") ≡ false → imm16 s ≡ None
   unfolding imm16 immediate bind
   imm16_none e = rw (immediate, after_is (bytes "#") s, e)
 
@@ -217,17 +218,17 @@ pub cast_is : (n k : ℕ) → k * 2 < 2 ^ n → as_signed n k ≡ pos k
 unfolding as_signed
 cast_is n k h = rw (lt-ltb (k * 2) (2 ^ n) h)
 
-pub displaced_is : (z : ℤ) → when (range_contains (negsuc 127) (pos 127) z) (some (as_i8 z)) ≡ within 128 z
+pub displaced_is : (z : ℤ) → when (range_contains (negsuc 127) (pos 127) z) (Some (as_i8 z)) ≡ within 128 z
 unfolding within
 displaced_is (pos n) = rw (lt_128 n) (go (ltb n 128) refl)
   where
-    go : (x : Bool) → ltb n 128 ≡ x → cond x (some (as_i8 (pos n))) none ≡ cond x (some (pos n)) none
-    go true e = ap some (through 8 (pos n) (omega (arith, ltb-true n 128 e)))
+    go : (x : Bool) → ltb n 128 ≡ x → cond x (Some (as_i8 (pos n))) None ≡ cond x (Some (pos n)) None
+    go true e = ap Some (through 8 (pos n) (omega (arith, ltb-true n 128 e)))
     go false e = refl
 displaced_is (negsuc n) = rw (and-true (leb n 127), lt_128 n) (go (ltb n 128) refl)
   where
-    go : (x : Bool) → ltb n 128 ≡ x → cond x (some (as_i8 (negsuc n))) none ≡ cond x (some (negsuc n)) none
-    go true e = ap some (through 8 (negsuc n) (omega (arith, ltb-true n 128 e)))
+    go : (x : Bool) → ltb n 128 ≡ x → cond x (Some (as_i8 (negsuc n))) None ≡ cond x (Some (negsuc n)) None
+    go true e = ap Some (through 8 (negsuc n) (omega (arith, ltb-true n 128 e)))
     go false e = refl
 
 -- the difference of two addresses

@@ -1,8 +1,9 @@
 -- Operands: registers, displacements and jump addresses of the Rust are those of paper 01. Assumes nothing.
+use Rattle.std.specs.Prelude.{Option, None, Some}
+use Rattle.rules.specs.Option.{bind, or_else}
 use Prim.Native.Nat.{ℕ, suc, ◌+◌, ◌-◌, ◌^◌, ◌≤◌, ◌<◌}
 use mathlib.Core.Path.{◌≡◌, refl, sym, ◌∙◌}
 use mathlib.Core.Bool.{Bool, true, false, ◌&&◌, ◌||◌, cond, and-true, false≢true}
-use mathlib.Core.Option.{Option, none, some, bind, or_else}
 use mathlib.Core.List.{[], ◌∷◌}
 use native.Mathlib.Omega.{arith}
 use native.Mathlib.Nat.{mod-eq_of_lt}
@@ -45,9 +46,9 @@ ten b = first (leb 48 b) refl (leb b 57) refl
 
 -- the second byte of Dn or An
 digit_of : ℕ → Option ℕ
-digit_of b = when (is_ascii_digit b) (bind (to_digit b 10) (λ d. when (leb (as_u8 d) 7) (some (as_u8 d))))
+digit_of b = when (is_ascii_digit b) (bind (to_digit b 10) (λ d. when (leb (as_u8 d) 7) (Some (as_u8 d))))
 
-digit_of_is : (b : ℕ) → digit_of b ≡ cond (ltb (digit_value b) 8) (some (digit_value b)) none
+digit_of_is : (b : ℕ) → digit_of b ≡ cond (ltb (digit_value b) 8) (Some (digit_value b)) None
 unfolding digit_of bind
 digit_of_is b = rw (← ten b, digit_is b 10 (omega arith)) (go (ltb (digit_value b) 10) refl)
   where
@@ -55,7 +56,7 @@ digit_of_is b = rw (← ten b, digit_is b 10 (omega arith)) (go (ltb (digit_valu
     v = digit_value b
 
     go : (x : Bool) → ltb v 10 ≡ x
-        → when (ltb v 10) (bind (cond (ltb v 10) (some v) none) (λ d. when (leb (as_u8 d) 7) (some (as_u8 d)))) ≡ cond (ltb v 8) (some v) none
+        → when (ltb v 10) (bind (cond (ltb v 10) (Some v) None) (λ d. when (leb (as_u8 d) 7) (Some (as_u8 d)))) ≡ cond (ltb v 8) (Some v) None
     go true e = let h : v < 10 = ltb-true v 10 e in rw (e, mod-eq_of_lt {n = v} {m = 2 ^ 8} (omega arith), ← leb-suc-suc v 7)
     go false e = let h : 10 ≤ v = ltb-false v 10 e in rw (e, le-ltb v 8 (omega arith))
 
@@ -78,7 +79,7 @@ module _ (c : ℕ) where
       go false e = rw (after_is (c ∷ []) (a ∷ b ∷ []), e)
   register_of_is (a ∷ b ∷ d ∷ s) = rw (ne_eqb (suc (suc (suc (length s)))) 2 (λ h. omega arith)) (go (eqb c a) refl)
     where
-      go : (x : Bool) → eqb c a ≡ x → none ≡ register_digit (after (c ∷ []) (a ∷ b ∷ d ∷ s))
+      go : (x : Bool) → eqb c a ≡ x → None ≡ register_digit (after (c ∷ []) (a ∷ b ∷ d ∷ s))
       go true e = rw (after_is (c ∷ []) (a ∷ b ∷ d ∷ s), e)
       go false e = rw (after_is (c ∷ []) (a ∷ b ∷ d ∷ s), e)
 
@@ -91,15 +92,15 @@ unfolding parse_address_register address_register register_of digit_of bytes
 address_is s = register_of_is 65 s
 
 -- (An): what stands between the brackets is a register of two bytes
-when_none : (x : Bool) → ◌≡◌ {A = Option ℕ} (when x none) none
+when_none : (x : Bool) → ◌≡◌ {A = Option ℕ} (when x None) None
 when_none true = refl
 when_none false = refl
 
-long_none : (s : Text) → (length s ≡ 2 → ⊥) → parse_address_register s ≡ none
+long_none : (s : Text) → (length s ≡ 2 → ⊥) → parse_address_register s ≡ None
 unfolding parse_address_register
 long_none s h = rw (ne_eqb (length s) 2 h)
 
-closed_none : (x : Bool) (t : Text) → closed (some t) ≡ none → closed (cond x (some t) none) ≡ none
+closed_none : (x : Bool) (t : Text) → closed (Some t) ≡ None → closed (cond x (Some t) None) ≡ None
 unfolding closed
 closed_none true t e = e
 closed_none false t e = refl
@@ -109,7 +110,7 @@ unfolding slice
 inner_length s = rw (length-drop 1 (take (length s - 1) s), length-take (length s - 1) s) (omega arith)
 
 -- a text that is not of four bytes is no (An)
-not_four : (s : Text) → (length s ≡ 4 → ⊥) → closed (some (drop 2 s)) ≡ none → parse_indirect_register s ≡ indirect s
+not_four : (s : Text) → (length s ≡ 4 → ⊥) → closed (Some (drop 2 s)) ≡ None → parse_indirect_register s ≡ indirect s
 unfolding parse_indirect_register indirect bytes
 not_four s h c =
     rw (
@@ -129,7 +130,7 @@ indirect_is (a ∷ b ∷ c ∷ d ∷ e ∷ s) = not_four (a ∷ b ∷ c ∷ d �
 indirect_is (a ∷ b ∷ c ∷ d ∷ []) = rw (address_is (b ∷ c ∷ []), after_is (40 ∷ 65 ∷ []) (a ∷ b ∷ c ∷ d ∷ [])) (go (eqb 40 a) refl (eqb 65 b) refl)
   where
     go : (x : Bool) → eqb 40 a ≡ x → (y : Bool) → eqb 65 b ≡ y
-        → when (eqb 40 a && true && (eqb 41 d && true)) (address_register (b ∷ c ∷ [])) ≡ closed (cond (eqb 40 a && (eqb 65 b && true)) (some (c ∷ d ∷ [])) none)
+        → when (eqb 40 a && true && (eqb 41 d && true)) (address_register (b ∷ c ∷ [])) ≡ closed (cond (eqb 40 a && (eqb 65 b && true)) (Some (c ∷ d ∷ [])) None)
     go true e true f = rw (e, f, and-true (eqb 41 d), eqb_comm 41 d, address_register, after_is (65 ∷ []) (b ∷ c ∷ []), f)
     go true e false f = rw (e, f, address_register, after_is (65 ∷ []) (b ∷ c ∷ []), f) (when_none (eqb 41 d && true))
     go false e y f = rw e
@@ -140,14 +141,14 @@ Register n = n < 8
 
 digit_below : (o : Option Text) → All Register (register_digit o)
 unfolding register_digit
-digit_below none = tt
-digit_below (some []) = tt
-digit_below (some (b ∷ [])) = go (ltb (digit_value b) 8) refl
+digit_below None = tt
+digit_below (Some []) = tt
+digit_below (Some (b ∷ [])) = go (ltb (digit_value b) 8) refl
   where
-    go : (x : Bool) → ltb (digit_value b) 8 ≡ x → All Register (cond x (some (digit_value b)) none)
+    go : (x : Bool) → ltb (digit_value b) 8 ≡ x → All Register (cond x (Some (digit_value b)) None)
     go true e = ltb-true (digit_value b) 8 e
     go false e = tt
-digit_below (some (b ∷ c ∷ s)) = tt
+digit_below (Some (b ∷ c ∷ s)) = tt
 
 pub data_below : (s : Text) → All Register (data_register s)
 unfolding data_register
@@ -162,23 +163,23 @@ unfolding indirect closed
 indirect_below s = go (after (bytes "(A") s)
   where
     go : (o : Option Text) → All Register (closed o)
-    go none = tt
-    go (some []) = tt
-    go (some (b ∷ [])) = tt
-    go (some (b ∷ c ∷ [])) = on (eqb c 41)
+    go None = tt
+    go (Some []) = tt
+    go (Some (b ∷ [])) = tt
+    go (Some (b ∷ c ∷ [])) = on (eqb c 41)
       where
-        on : (x : Bool) → All Register (cond x (register_digit (some (b ∷ []))) none)
-        on true = digit_below (some (b ∷ []))
+        on : (x : Bool) → All Register (cond x (register_digit (Some (b ∷ []))) None)
+        on true = digit_below (Some (b ∷ []))
         on false = tt
-    go (some (b ∷ c ∷ d ∷ s)) = tt
+    go (Some (b ∷ c ∷ d ∷ s)) = tt
 
 -- a jump's operand: by a prefix, of digits only, or a label
-hex_tail_is : (s : Text) → hex_tail s ≡ cond (starts_with s (bytes "$")) (some (drop 1 s)) (cond (starts_with s (bytes "0x")) (some (drop 2 s)) none)
+hex_tail_is : (s : Text) → hex_tail s ≡ cond (starts_with s (bytes "$")) (Some (drop 1 s)) (cond (starts_with s (bytes "0x")) (Some (drop 2 s)) None)
 unfolding hex_tail bytes
 hex_tail_is s = go (starts_with s (36 ∷ [])) refl
   where
     go : (x : Bool) → starts_with s (36 ∷ []) ≡ x
-        → hex_tail s ≡ cond (starts_with s (36 ∷ [])) (some (drop 1 s)) (cond (starts_with s (48 ∷ 120 ∷ [])) (some (drop 2 s)) none)
+        → hex_tail s ≡ cond (starts_with s (36 ∷ [])) (Some (drop 1 s)) (cond (starts_with s (48 ∷ 120 ∷ [])) (Some (drop 2 s)) None)
     go true e = rw (hex_tail, after_is (36 ∷ []) s, e)
     go false e = rw (hex_tail, after_is (36 ∷ []) s, e) (after_is (48 ∷ 120 ∷ []) s)
 
@@ -189,8 +190,8 @@ digits_all (b ∷ s) = rw (ten b, digits_all s)
 
 some_is : {A : Type 0} (o : Option A) → rust_is_some o ≡ is_some o
 unfolding rust_is_some is_some
-some_is none = refl
-some_is (some a) = refl
+some_is None = refl
+some_is (Some a) = refl
 
 -- the map of the Rust and the table of the rules have the same labels, and these lie in reach of signed 32 bits
 pub record Agrees (m : HashMap) (t : Table) : Type 0 where
@@ -207,11 +208,11 @@ module _ {m : HashMap} {t : Table} (g : Agrees m t) where
           → or_else
           (bind o (λ x.
           let d = sub_i32 (sub_i32 (as_signed 32 x) (as_signed 32 a)) (pos 2) in
-          when (range_contains (negsuc 127) (pos 127) d) (some (as_i8 d))))
+          when (range_contains (negsuc 127) (pos 127) d) (Some (as_i8 d))))
           (written_signed s)
           ≡ or_else (bind o (λ x. within 128 (sub_ℕ x (a + 2)))) (written_signed s)
-      go none k = refl
-      go (some x) k = rw (distance_is x a k h, displaced_is (sub_ℕ x (a + 2)))
+      go None k = refl
+      go (Some x) k = rw (distance_is x a k h, displaced_is (sub_ℕ x (a + 2)))
 
   pub jumps_is : (s : Text) → rust_is_some (parse_immediate_address m s) ≡ jumps t s
   unfolding jumps parse_immediate_address number16 reading16 is_some bind
@@ -230,13 +231,13 @@ module _ {m : HashMap} {t : Table} (g : Agrees m t) where
       (go _ _ _ (starts_with s (bytes "$")) (starts_with s (bytes "0x")) (all_digits s) (find s t))
     where
       go : (p q r : Option ℕ) (x y z : Bool) (o : Option ℕ)
-          → is_some (cond x p (cond y q (cond z r (bind o (λ a. some (as_u16 a))))))
-          ≡ cond (is_some (cond x (some (drop 1 s)) (cond y (some (drop 2 s)) none)) || z) (is_some (cond x p (cond y q r))) (is_some o)
+          → is_some (cond x p (cond y q (cond z r (bind o (λ a. Some (as_u16 a))))))
+          ≡ cond (is_some (cond x (Some (drop 1 s)) (cond y (Some (drop 2 s)) None)) || z) (is_some (cond x p (cond y q r))) (is_some o)
       go p q r true y z o = refl
       go p q r false true z o = refl
       go p q r false false true o = refl
-      go p q r false false false none = refl
-      go p q r false false false (some a) = refl
+      go p q r false false false None = refl
+      go p q r false false false (Some a) = refl
 
 pub displacement_small : (t : Table) (a : ℕ) (s : Text) → All Small (displacement t a s)
 unfolding displacement reach bind or_else
@@ -246,9 +247,9 @@ displacement_small t a s = go (find s t)
     written = written_all Small (λ z h. h) s
 
     or : (o p : Option ℤ) → All Small o → All Small p → All Small (or_else o p)
-    or none p h k = k
-    or (some z) p h k = h
+    or None p h k = k
+    or (Some z) p h k = h
 
     go : (o : Option ℕ) → All Small (or_else (bind o (λ x. within 128 (sub_ℕ x (a + 2)))) (written_signed s))
-    go none = written
-    go (some x) = or (within 128 (sub_ℕ x (a + 2))) (written_signed s) (within_small (sub_ℕ x (a + 2))) written
+    go None = written
+    go (Some x) = or (within 128 (sub_ℕ x (a + 2))) (written_signed s) (within_small (sub_ℕ x (a + 2))) written

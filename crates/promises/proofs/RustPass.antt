@@ -1,9 +1,10 @@
 -- The first pass: where it is accepted, the Rust's loop ends with the same labels, and with what the lines ask. Assumes nothing.
+use Rattle.std.specs.Prelude.{None, Some}
+use Rattle.std.proofs.lemmas.Option.{none-some, same_Some}
 use Prim.Native.Nat.{ℕ, ◌+◌, ◌^◌, ◌≤◌, ◌<◌}
 use mathlib.Core.Path.{◌≡◌, refl, sym, ◌∙◌}
 use mathlib.Core.Logic.{◌≢◌}
 use mathlib.Core.Bool.{Bool, true, false, cond, false≢true}
-use mathlib.Core.Option.{none, some, none-ne-some, some-injective}
 use mathlib.Core.List.{List, [], ◌∷◌, ◌++◌, map, flat_map, append-nil, append_assoc}
 use native.Mathlib.Omega.{arith}
 use native.Mathlib.Nat.{mod-eq_of_lt, zero-add}
@@ -25,18 +26,18 @@ use Rattle.promises.proofs.RustLine.{body_is}
 use Rattle.promises.proofs.RustBrackets.{Free, AllFree, one_more}
 
 -- the label recorded last is found
-find_recorded : (q : Text) (x : Label) (t : Table) → find q (recorded x t) ≡ cond (same q x.name) (some x.address) (find q t)
+find_recorded : (q : Text) (x : Label) (t : Table) → find q (recorded x t) ≡ cond (same q x.name) (Some x.address) (find q t)
 unfolding find recorded
 find_recorded q x [] = go (same q x.name) refl
   where
-    go : (y : Bool) → same q x.name ≡ y → find q (x ∷ []) ≡ cond (same q x.name) (some x.address) none
+    go : (y : Bool) → same q x.name ≡ y → find q (x ∷ []) ≡ cond (same q x.name) (Some x.address) None
     go true e = rw (find, e)
     go false e = rw (find, e)
 find_recorded q x (l ∷ t) = go (same q x.name) refl (same x.name l.name) refl (same q l.name) refl (find_recorded q x t)
   where
     go : (y : Bool) → same q x.name ≡ y → (z : Bool) → same x.name l.name ≡ z → (w : Bool) → same q l.name ≡ w
-        → find q (recorded x t) ≡ cond (same q x.name) (some x.address) (find q t)
-        → find q (recorded x (l ∷ t)) ≡ cond (same q x.name) (some x.address) (find q (l ∷ t))
+        → find q (recorded x t) ≡ cond (same q x.name) (Some x.address) (find q t)
+        → find q (recorded x (l ∷ t)) ≡ cond (same q x.name) (Some x.address) (find q (l ∷ t))
     go true e true f w g ih = rw (recorded, f, find, e)
     go true e false f true g ih = absurd (false≢true (sym f ∙ rw (same_eq q x.name e) at g))
     go true e false f false g ih = rw (recorded, f, find, g, e) (rw e at ih)
@@ -59,9 +60,9 @@ insert_agrees {m} {t} x h g = record { finds = λ q. go q (same q x.name) refl; 
 
 -- the labels of a line, recorded
 record_all_agrees : (l : SourceLine) (a : ℕ) → a < 2 ^ 30 → (ns : List Name) (t t' : Table) (s : State) → s.current_address ≡ a → Agrees s.labels t
-    → record_all l a ns t ≡ some t' → Agrees (insert_all ns s).labels t'
+    → record_all l a ns t ≡ Some t' → Agrees (insert_all ns s).labels t'
 unfolding record_all insert_all insert_label
-record_all_agrees l a h [] t t' s c g e = rw (← some-injective t t' e) g
+record_all_agrees l a h [] t t' s c g e = rw (← same_Some t t' e) g
 record_all_agrees l a h (n ∷ ns) t t' s c g e =
     go (has_room (find n.text t) t) refl (record_all_agrees l a h ns (recorded x t) t' (insert_label n.text s) c (rw c (insert_agrees x h g)))
   where
@@ -69,10 +70,10 @@ record_all_agrees l a h (n ∷ ns) t t' s c g e =
     x = label_of l a n
 
     go : (y : Bool) → has_room (find n.text t) t ≡ y
-        → (record_all l a ns (recorded x t) ≡ some t' → Agrees (insert_all ns (insert_label n.text s)).labels t')
+        → (record_all l a ns (recorded x t) ≡ Some t' → Agrees (insert_all ns (insert_label n.text s)).labels t')
         → Agrees (insert_all ns (insert_label n.text s)).labels t'
     go true f ih = ih (rw (record_all, f) at e)
-    go false f ih = absurd (none-ne-some t' (rw (record_all, f) at e))
+    go false f ih = absurd (none-some t' (rw (record_all, f) at e))
 
 -- labels leave the rest of a state alone
 record Carried (s s' : State) : Type 0 where
@@ -148,7 +149,7 @@ module _ (a : ℕ) (low : a < 2 ^ 30) (s : State) (c : s.current_address ≡ a) 
       }
   task_performed (value n v) e h =
       record {
-        state = set_address (add_u32 s.current_address n) (push_value (some v) s);
+        state = set_address (add_u32 s.current_address n) (push_value (Some v) s);
         flows = refl;
         current = sum_is n h.1;
         labels = refl;

@@ -1,12 +1,12 @@
 -- At base 0 the rules refuse by the first line at which the Rust's own state is past a limit, or by none. Assumes nothing.
+use Rattle.std.specs.Prelude.{Option, None, Some, slice_get}
 use Prim.Native.Nat.{ℕ, suc, ◌+◌, ◌≤◌, ◌<◌}
 use mathlib.Core.Path.{◌≡◌, refl, ap, ◌∙◌}
 use mathlib.Core.Logic.{◌≢◌}
 use mathlib.Core.Bool.{false}
-use mathlib.Core.Option.{Option, none, some}
 use mathlib.Core.List.{List, [], ◌∷◌, map}
 use native.Mathlib.Omega.{arith}
-use lib.ListN.{length, get_or, get_elem?, drop}
+use lib.ListN.{length, get_or, drop}
 use borrow.Author.Tests.{ltb-false}
 use Rattle.rules.specs.Limits.{max_source, max_lines, max_labels, address_limit}
 use Rattle.rules.specs.Text.{Text, cut_at}
@@ -41,7 +41,7 @@ module _ (s : Text) (free : AllFree (split 10 s)) where
   C = RustCondition s
 
   abbrev IsLine : ℕ → Text → Type 0
-  IsLine j l = get_elem? (split 10 s) j ≡ some l
+  IsLine j l = slice_get (split 10 s) j ≡ Some l
 
   -- the loop's state after j lines is one
   loop_once : {j : ℕ} {st su : State} → Looped s j st → Looped s j su → st ≡ su
@@ -129,19 +129,19 @@ module _ (s : Text) (free : AllFree (split 10 s)) where
     unfolding perform perform_task
     breaks k = body_is l (free_at free j is) st ∙ rw k
 
-    level_after : (d : Performed (line_of l) a st) (t' : Table) → record_all here a (line_of l).names t ≡ some t' → Level d.state.labels t'
+    level_after : (d : Performed (line_of l) a st) (t' : Table) → record_all here a (line_of l).names t ≡ Some t' → Level d.state.labels t'
     level_after d t' o = go t' (rw o at (labels_of d))
       where
-        go : (u : Table) → Inserted d.state.labels (some u) → Level d.state.labels u
+        go : (u : Table) → Inserted d.state.labels (Some u) → Level d.state.labels u
         go u (fits v) = v
 
-    too_many : (d : Performed (line_of l) a st) → record_all here a (line_of l).names t ≡ none → max_labels < keys d.state.labels
+    too_many : (d : Performed (line_of l) a st) → record_all here a (line_of l).names t ≡ None → max_labels < keys d.state.labels
     too_many d o = go (rw o at (labels_of d))
       where
-        go : Inserted d.state.labels none → max_labels < keys d.state.labels
+        go : Inserted d.state.labels None → max_labels < keys d.state.labels
         go (overflow h) = h
 
-    few : (d : Performed (line_of l) a st) (t' : Table) → record_all here a (line_of l).names t ≡ some t' → ¬ C 6 (suc j)
+    few : (d : Performed (line_of l) a st) (t' : Table) → record_all here a (line_of l).names t ≡ Some t' → ¬ C 6 (suc j)
     few d t' o v = let u = level_after d t' o in omega (arith, labels_at (looped_on d) v, u.count, u.room)
 
     line : (ls : List Text) → Fine C j
@@ -243,7 +243,7 @@ not_above a b h = go (compared a b)
     go (more k) = omega arith
     go (equal k) = omega arith
 
-none_high : (s : Text) (o : Option ℕ) → Found (λ i. 127 < get_or s i 0) (length s) o → o ≡ none → (i : ℕ) → i < length s → get_or s i 0 < 128
+none_high : (s : Text) (o : Option ℕ) → Found (λ i. 127 < get_or s i 0) (length s) o → o ≡ None → (i : ℕ) → i < length s → get_or s i 0 < 128
 none_high s o (found h) e i k = clash cc
 none_high s o (nowhere h) e i k = let g = not_above 127 (get_or s i 0) (h i k) in omega arith
 

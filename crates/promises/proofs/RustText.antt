@@ -1,8 +1,9 @@
 -- Rust's functions on text are those of paper 01, on all bytes. Assumes nothing.
+use Rattle.std.specs.Prelude.{Option, None, Some}
+use Rattle.rules.specs.Option.{bind}
 use Prim.Native.Nat.{ℕ, zero, suc}
 use mathlib.Core.Path.{◌≡◌, refl, sym, ◌∙◌, ap}
 use mathlib.Core.Bool.{Bool, true, false, not, ◌&&◌, ◌||◌, cond, false≢true}
-use mathlib.Core.Option.{Option, none, some, bind}
 use mathlib.Core.List.{List, [], ◌∷◌, ◌++◌, reverse, reverse-cons, reverse-append}
 use lib.ListN.{length, drop}
 use lib.Dec.{leb, ltb, eqb}
@@ -195,14 +196,14 @@ contains_one c (b ∷ s) = rw (eqb_comm c b) (go (eqb b c) refl (contains_one c 
     go false e ih = rw (e, first_cut) (ih ∙ more (first_cut c s))
 
 -- what follows a text that a text starts with
-pub after_is : (p s : Text) → after p s ≡ cond (starts_with s p) (some (drop (length p) s)) none
+pub after_is : (p s : Text) → after p s ≡ cond (starts_with s p) (Some (drop (length p) s)) None
 unfolding after starts_with
 after_is [] s = refl
 after_is (a ∷ p) [] = refl
 after_is (a ∷ p) (b ∷ s) = go (eqb a b) refl (after_is p s)
   where
-    go : (x : Bool) → eqb a b ≡ x → after p s ≡ cond (starts_with s p) (some (drop (length p) s)) none
-        → after (a ∷ p) (b ∷ s) ≡ cond (starts_with (b ∷ s) (a ∷ p)) (some (drop (length p) s)) none
+    go : (x : Bool) → eqb a b ≡ x → after p s ≡ cond (starts_with s p) (Some (drop (length p) s)) None
+        → after (a ∷ p) (b ∷ s) ≡ cond (starts_with (b ∷ s) (a ∷ p)) (Some (drop (length p) s)) None
     go true e ih = rw (e, after, starts_with) ih
     go false e ih = rw (e, after, starts_with)
 
@@ -258,13 +259,13 @@ get_is (p ∷ ps) zero = refl
 get_is (p ∷ ps) (suc n) = get_is ps n
 
 module _ {A : Type 0} (f : Text → Option A) where
-  pub second_is : (ps : List Text) → cond (ltb (length ps) 2) none (f (at ps 1)) ≡ bind (nth 1 ps) f
+  pub second_is : (ps : List Text) → cond (ltb (length ps) 2) None (f (at ps 1)) ≡ bind (nth 1 ps) f
   unfolding nth bind
   second_is [] = refl
   second_is (p ∷ []) = refl
   second_is (p ∷ q ∷ ps) = rw (le-ltb (suc (suc (length ps))) 2 (omega arith))
 
-  pub second_trimmed : {ps : List Text} → AllSolid ps → cond (leb 2 (length ps)) (f (Rust.trim (at ps 1))) none ≡ bind (nth 1 ps) f
+  pub second_trimmed : {ps : List Text} → AllSolid ps → cond (leb 2 (length ps)) (f (Rust.trim (at ps 1))) None ≡ bind (nth 1 ps) f
   unfolding nth bind
   second_trimmed nil = refl
   second_trimmed (cons r nil) = refl

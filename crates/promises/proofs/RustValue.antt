@@ -1,8 +1,8 @@
 -- A value that a line of data has is below 2^32, and no line takes more than 4 bytes, by paper 01's reading of a line. Assumes nothing.
+use Rattle.std.specs.Prelude.{Option, None, Some}
 use Prim.Native.Nat.{ℕ, ◌^◌, ◌≤◌, ◌<◌}
 use mathlib.Core.Path.{◌≡◌, refl}
 use mathlib.Core.Bool.{Bool, true, false, ◌||◌, cond}
-use mathlib.Core.Option.{Option, none, some}
 use mathlib.Core.List.{List, [], ◌∷◌}
 use native.Mathlib.Omega.{arith}
 use Rattle.rules.specs.Text.{Text, bytes, uppers, pieces, starts, contains, nth, last_text}
@@ -58,25 +58,25 @@ unfolding data_value value_reading_in value_of
 data_value_lem u d = go (contains (bytes "DC.") u)
   where
     piece : (o : Option Text) → All Value (value_of (value_reading_in o))
-    piece none = tt
-    piece (some p) = value_all p
+    piece None = tt
+    piece (Some p) = value_all p
 
-    go : (x : Bool) → All Value (cond x (value_of (value_reading_in (nth 1 (pieces d)))) none)
+    go : (x : Bool) → All Value (cond x (value_of (value_reading_in (nth 1 (pieces d)))) None)
     go true = piece (nth 1 (pieces d))
     go false = tt
 
 sized_low : (n : ℕ) (o : Option ℕ) → n ≤ 4 → All Value o → TaskLow (sized n o)
 unfolding sized
-sized_low n none h k = h
-sized_low n (some v) h k = (k, h)
+sized_low n None h k = h
+sized_low n (Some v) h k = (k, h)
 
 -- of each shape of a line, and so of every line
 shape_low : {r : Line} → Shape r → TaskLow r.task
 unfolding org_task data_task
 shape_low skips = tt
 shape_low ends = tt
-shape_low (moves none) = tt
-shape_low (moves (some v)) = tt
+shape_low (moves None) = tt
+shape_low (moves (Some v)) = tt
 shape_low (names ns) = tt
 shape_low (codes ns i) = tt
 shape_low (holds ns s d) = sized_low (data_size (uppers s)) (data_value (uppers s) d) (data_size_lem (uppers s)) (data_value_lem (uppers s) d)

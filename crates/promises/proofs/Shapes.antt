@@ -1,8 +1,8 @@
 -- The shapes of a line: every line that the six steps read has one of them. Assumes nothing.
+use Rattle.std.specs.Prelude.{Option, None, Some}
 use Prim.Native.Nat.{ℕ, ◌+◌}
 use mathlib.Core.Path.{◌≡◌, refl}
 use mathlib.Core.Bool.{Bool, true, false, cond}
-use mathlib.Core.Option.{Option, none, some}
 use mathlib.Core.List.{List, [], ◌∷◌, ◌++◌}
 use lib.Dec.{eqb}
 use lib.ListN.{length}
@@ -82,8 +82,8 @@ unlabelled (codes ns i) e = clash cc
 unlabelled (holds ns s d) e = go (data_value (uppers s) d) e
   where
     go : (o : Option ℕ) → sized (data_size (uppers s)) o ≡ end → ns ≡ []
-    go none f = clash cc
-    go (some v) f = clash cc
+    go None f = clash cc
+    go (Some v) f = clash cc
 
 pub end_unlabelled : (s : Text) → (line_of s).task ≡ end → (line_of s).names ≡ []
 end_unlabelled s e = unlabelled (shape s) e

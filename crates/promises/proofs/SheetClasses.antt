@@ -1,15 +1,15 @@
 -- W-214: the class of each line of an accepted source, which is the one that its text and the list say, and how many there are of each.
 -- Assumes nothing.
+use Rattle.std.specs.Prelude.{Some, slice_get}
 use Prim.Native.Nat.{ℕ, zero, suc, ◌+◌, ◌-◌, ◌<◌, ◌≤◌}
 use mathlib.Core.Path.{◌≡◌, refl, sym, ap, ◌∙◌}
 use mathlib.Core.Logic.{◌≢◌}
 use mathlib.Core.Bool.{Bool, true, false, cond}
-use mathlib.Core.Option.{some}
 use mathlib.Core.List.{List, [], ◌∷◌, ◌++◌, map}
 use native.Mathlib.Omega.{arith}
 use borrow.Author.Tests.{eqb-true, eqb-false}
 use lib.Dec.{eqb}
-use lib.ListN.{length, get_elem?, drop, replicate, length-append, length-map, length-drop, length-replicate}
+use lib.ListN.{length, drop, replicate, length-append, length-map, length-drop, length-replicate}
 use Rattle.rules.specs.Text.{Text, trim, cut_at}
 use Rattle.rules.specs.Line.{SourceLine, lines_of, numbered, Task, skipped, end, org, no_org, label_only, instruction, value, space, line_of, size}
 use Rattle.rules.specs.Label.{Table}
@@ -98,20 +98,20 @@ as_many_lines n i [] = refl
 as_many_lines n i (l ∷ ls) = ap suc (as_many_lines (suc n) (suc (i + length l)) ls)
 
 -- ---- lists by index
-at_front : {A B : Type 0} (f : A → B) (xs : List A) (ys : List B) (j : ℕ) (x : A) (rest : List A) → drop j xs ≡ x ∷ rest → get_elem? (map f xs ++ ys) j ≡ some (f x)
+at_front : {A B : Type 0} (f : A → B) (xs : List A) (ys : List B) (j : ℕ) (x : A) (rest : List A) → drop j xs ≡ x ∷ rest → slice_get (map f xs ++ ys) j ≡ Some (f x)
 at_front f [] ys zero x rest e = clash cc
 at_front f [] ys (suc j) x rest e = clash cc
-at_front f (y ∷ xs) ys zero x rest e = let u : y ≡ x = cc in ap (λ z. some (f z)) u
+at_front f (y ∷ xs) ys zero x rest e = let u : y ≡ x = cc in ap (λ z. Some (f z)) u
 at_front f (y ∷ xs) ys (suc j) x rest e = at_front f xs ys j x rest e
 
-at_back : {A B : Type 0} (f : A → B) (xs : List A) (n j : ℕ) (y : B) → length xs ≤ j → j < length xs + n → get_elem? (map f xs ++ replicate n y) j ≡ some y
+at_back : {A B : Type 0} (f : A → B) (xs : List A) (n j : ℕ) (y : B) → length xs ≤ j → j < length xs + n → slice_get (map f xs ++ replicate n y) j ≡ Some y
 at_back f [] zero j y h k = absurd (omega arith)
 at_back f [] (suc n) zero y h k = refl
 at_back f [] (suc n) (suc j) y h k = at_back f [] n j y (omega arith) (omega arith)
 at_back f (x ∷ xs) n zero y h k = absurd (omega arith)
 at_back f (x ∷ xs) n (suc j) y h k = at_back f xs n j y (omega arith) (omega arith)
 
-index_below : {A : Type 0} (xs : List A) (j : ℕ) (x : A) → get_elem? xs j ≡ some x → j < length xs
+index_below : {A : Type 0} (xs : List A) (j : ℕ) (x : A) → slice_get xs j ≡ Some x → j < length xs
 index_below [] j x e = clash cc
 index_below (y ∷ xs) zero x e = omega arith
 index_below (y ∷ xs) (suc j) x e = let h = index_below xs j x e in omega arith
@@ -134,7 +134,7 @@ module _ (s : Text) (p : Pass) (accepts : pass_at 0 s ≡ accepted p) where
 
   -- a line that is read, not END
   module _ {j a : ℕ} {ns : List Text} (l : Text) (r : Reached size 0 s j a ns) (e : IsLine s j l) (f : (line_of l).task ≢ end) where
-    class_read : get_elem? (classes s p) j ≡ some (class_of ls a (line_of l).task)
+    class_read : slice_get (classes s p) j ≡ Some (class_of ls a (line_of l).task)
     unfolding classes read_classes
     class_read = at_front (λ (u : Put). class_of ls u.address u.task) p.puts _ j (record { address = a; task = (line_of l).task }) (drop (suc j) p.puts) (Asked.asked size 0 s p passed l r e f)
 
@@ -217,7 +217,7 @@ module _ (s : Text) (p : Pass) (accepts : pass_at 0 s ≡ accepted p) where
       go k g (said_code q h d) = let u : sort_of end ≡ 5 = rw g at q in clash cc
 
   module _ {i a : ℕ} {ns : List Text} (l : Text) (r : Reached size 0 s i a ns) (e : IsLine s i l) (f : (line_of l).task ≡ end) (j : ℕ) (h : i ≤ j) where
-    class_ended : j < line_count s → get_elem? (classes s p) j ≡ some ending
+    class_ended : j < line_count s → slice_get (classes s p) j ≡ Some ending
     unfolding classes read_classes
     class_ended m =
         let u = simp length-drop at (ap length (Asked.ended size 0 s p passed l r e f)) in
@@ -235,25 +235,25 @@ module _ (s : Text) (p : Pass) (accepts : pass_at 0 s ≡ accepted p) where
   in_below (read n g k) = line_below g
 
   -- every line
-  pub class_at : (j : ℕ) → j < line_count s → (c : Class) × (get_elem? (classes s p) j ≡ some c) × InClass s p j c
+  pub class_at : (j : ℕ) → j < line_count s → (c : Class) × (slice_get (classes s p) j ≡ Some c) × InClass s p j c
   class_at j m = go (lined size 0 s j)
     where
-      go : Lined size 0 s j → (c : Class) × (get_elem? (classes s p) j ≡ some c) × InClass s p j c
+      go : Lined size 0 s j → (c : Class) × (slice_get (classes s p) j ≡ Some c) × InClass s p j c
       go (asks {l = l} r e f) = (_, class_read l r e f, read_class l r e f)
       go (ends {l = l} r e f) = (ending, class_ended l r e f j (omega arith) m, ended e (end_begins l f) (omega arith) m)
       go (past_end {l = l} r e f h) = (ending, class_ended l r e f j (omega arith) m, ended e (end_begins l f) (omega arith) m)
       go (past_lines r e h) = let u = simp length-drop at (ap length e) in absurd (omega (arith, (counted s).0))
 
-  pub is_class_at : (j : ℕ) (c : Class) → InClass s p j c → get_elem? (classes s p) j ≡ some c
+  pub is_class_at : (j : ℕ) (c : Class) → InClass s p j c → slice_get (classes s p) j ≡ Some c
   is_class_at j c k = go (lined size 0 s j)
     where
-      go : Lined size 0 s j → get_elem? (classes s p) j ≡ some c
-      go (asks {l = l} r e f) = class_read l r e f ∙ ap some (read_is l r e f k)
-      go (ends {l = l} r e f) = class_ended l r e f j (omega arith) (in_below k) ∙ ap some (ended_is l r e f j (omega arith) k)
-      go (past_end {l = l} r e f h) = class_ended l r e f j (omega arith) (in_below k) ∙ ap some (ended_is l r e f j (omega arith) k)
+      go : Lined size 0 s j → slice_get (classes s p) j ≡ Some c
+      go (asks {l = l} r e f) = class_read l r e f ∙ ap Some (read_is l r e f k)
+      go (ends {l = l} r e f) = class_ended l r e f j (omega arith) (in_below k) ∙ ap Some (ended_is l r e f j (omega arith) k)
+      go (past_end {l = l} r e f h) = class_ended l r e f j (omega arith) (in_below k) ∙ ap Some (ended_is l r e f j (omega arith) k)
       go (past_lines r e h) = let u = simp length-drop at (ap length e) in absurd (omega (arith, (counted s).0, in_below k))
 
-  pub each_class : (j : ℕ) (c : Class) → get_elem? (classes s p) j ≡ some c → InClass s p j c
+  pub each_class : (j : ℕ) (c : Class) → slice_get (classes s p) j ≡ Some c → InClass s p j c
   each_class j c e =
       let h = class_at j (omega (arith, all_classes, index_below (classes s p) j c e)) in
       let g = sym h.1 ∙ e in

@@ -1,9 +1,9 @@
 -- W-214: what the text of a line says of its class is what 01's steps read in it, and the other way round. Assumes nothing.
+use Rattle.std.specs.Prelude.{Option, None, Some}
 use Prim.Native.Nat.{ℕ}
 use mathlib.Core.Path.{◌≡◌, refl, sym, ap, ◌∙◌}
 use mathlib.Core.Logic.{◌≢◌}
 use mathlib.Core.Bool.{Bool, true, false, cond, ◌||◌}
-use mathlib.Core.Option.{Option, none, some}
 use mathlib.Core.List.{List, [], ◌∷◌, ◌++◌}
 use native.Mathlib.Omega.{arith}
 use borrow.Author.Tests.{eqb-true, eqb-false, eq-eqb, ne_eqb}
@@ -91,16 +91,16 @@ sort_of (instruction i) = 5
 
 org_sort : (o : Option ℕ) → sort_of (org_task o) ≡ 2
 unfolding sort_of org_task
-org_sort none = refl
-org_sort (some v) = refl
+org_sort None = refl
+org_sort (Some v) = refl
 
 data_sort : (s d : Text) → sort_of (data_task s d) ≡ 4
 unfolding sort_of data_task sized
 data_sort s d = go (data_value (uppers s) d)
   where
     go : (o : Option ℕ) → sort_of (sized (data_size (uppers s)) o) ≡ 4
-    go none = refl
-    go (some v) = refl
+    go None = refl
+    go (Some v) = refl
 
 pieces_sort : (ns : List Name) (i : ℕ) (s : Text) (ps : List Text) → sort_of (data_pieces ns i s ps).task ≡ 4
 unfolding data_pieces

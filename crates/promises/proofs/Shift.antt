@@ -1,8 +1,8 @@
 -- The first pass under a shift: an accepted pass from base b is the pass from base 0, each address b higher. Assumes nothing.
+use Rattle.std.specs.Prelude.{Option, None, Some, option_map}
 use Prim.Native.Nat.{ℕ, ◌+◌}
 use mathlib.Core.Path.{◌≡◌, refl, ap}
 use mathlib.Core.Bool.{Bool, true, false, false≢true}
-use mathlib.Core.Option.{Option, none, some, map}
 use mathlib.Core.List.{List, [], ◌∷◌}
 use native.Mathlib.Nat.{add_assoc, zero-add}
 use native.Mathlib.Omega.{arith}
@@ -24,13 +24,13 @@ shift_step b full = full
 shift_step b (next a t) = next (b + a) (shift_table b t)
 
 -- a label is found b higher
-pub find_shift : (b : ℕ) (n : Text) (t : Table) → find n (shift_table b t) ≡ map (λ a. b + a) (find n t)
+pub find_shift : (b : ℕ) (n : Text) (t : Table) → find n (shift_table b t) ≡ option_map (λ a. b + a) (find n t)
 unfolding find shift_label
 find_shift b n [] = refl
 find_shift b n (l ∷ t) = go (same n l.name) refl (find_shift b n t)
   where
-    go : (x : Bool) → same n l.name ≡ x → find n (shift_table b t) ≡ map (λ a. b + a) (find n t)
-        → find n (shift_table b (l ∷ t)) ≡ map (λ a. b + a) (find n (l ∷ t))
+    go : (x : Bool) → same n l.name ≡ x → find n (shift_table b t) ≡ option_map (λ a. b + a) (find n t)
+        → find n (shift_table b (l ∷ t)) ≡ option_map (λ a. b + a) (find n (l ∷ t))
     go true e ih = rw (e, find)
     go false e ih = rw (e, find) ih
 
@@ -46,13 +46,13 @@ recorded_shift b x (l ∷ t) = go (same x.name l.name) refl (recorded_shift b x 
     go false e ih = rw (e, recorded) (ap (λ r. shift_label b l ∷ r) ih)
 
 -- there is room where there was
-has_room_shift : (b : ℕ) (o : Option ℕ) (t : Table) → has_room (map (λ a. b + a) o) (shift_table b t) ≡ has_room o t
+has_room_shift : (b : ℕ) (o : Option ℕ) (t : Table) → has_room (option_map (λ a. b + a) o) (shift_table b t) ≡ has_room o t
 unfolding has_room
-has_room_shift b none t = rw length-map
-has_room_shift b (some a) t = refl
+has_room_shift b None t = rw length-map
+has_room_shift b (Some a) t = refl
 
 -- a line's labels are recorded b higher, and there are too many where there were
-record_all_shift : (b : ℕ) (l : SourceLine) (a : ℕ) (ns : List Name) (t : Table) → record_all l (b + a) ns (shift_table b t) ≡ map (shift_table b) (record_all l a ns t)
+record_all_shift : (b : ℕ) (l : SourceLine) (a : ℕ) (ns : List Name) (t : Table) → record_all l (b + a) ns (shift_table b t) ≡ option_map (shift_table b) (record_all l a ns t)
 unfolding record_all shift_label
 record_all_shift b l a [] t = refl
 record_all_shift b l a (n ∷ ns) t = go (has_room (find n.text t) t) refl (record_all_shift b l a ns _)
@@ -61,8 +61,8 @@ record_all_shift b l a (n ∷ ns) t = go (has_room (find n.text t) t) refl (reco
     x = label_of l a n
 
     go : (y : Bool) → has_room (find n.text t) t ≡ y
-        → record_all l (b + a) ns (shift_table b (recorded x t)) ≡ map (shift_table b) (record_all l a ns (recorded x t))
-        → record_all l (b + a) (n ∷ ns) (shift_table b t) ≡ map (shift_table b) (record_all l a (n ∷ ns) t)
+        → record_all l (b + a) ns (shift_table b (recorded x t)) ≡ option_map (shift_table b) (record_all l a ns (recorded x t))
+        → record_all l (b + a) (n ∷ ns) (shift_table b t) ≡ option_map (shift_table b) (record_all l a (n ∷ ns) t)
     go true e ih = rw (find_shift b n.text t, has_room_shift b (find n.text t) t, e, recorded_shift b x t, record_all) ih
     go false e ih = rw (find_shift b n.text t, has_room_shift b (find n.text t) t, e, record_all)
 
@@ -78,10 +78,10 @@ address_shift z b a (instruction i) = add_assoc b a (z i)
 address_shift z b a (value n v) = add_assoc b a n
 address_shift z b a (space n) = add_assoc b a n
 
-leaving_shift : (b a : ℕ) (o : Option Table) → leaving (b + a) (map (shift_table b) o) ≡ shift_step b (leaving a o)
+leaving_shift : (b a : ℕ) (o : Option Table) → leaving (b + a) (option_map (shift_table b) o) ≡ shift_step b (leaving a o)
 unfolding leaving shift_step
-leaving_shift b a none = refl
-leaving_shift b a (some t) = refl
+leaving_shift b a None = refl
+leaving_shift b a (Some t) = refl
 
 -- a line does b higher what it does from base 0
 step_shift : (z : Sizes) (b a : ℕ) (t : Table) (l : SourceLine) (r : Line) → step_by z b (b + a) (shift_table b t) l r ≡ shift_step b (step_by z 0 a t l r)

@@ -1,9 +1,9 @@
 -- The labels in the order in which they start: the same labels, and no other list of them is in that order. Assumes nothing.
+use Rattle.std.specs.Prelude.{Some}
 use Prim.Native.Nat.{ℕ, zero, suc, ◌<◌}
 use mathlib.Core.Path.{◌≡◌, refl, sym, ap, ◌∙◌}
 use mathlib.Core.Logic.{◌≢◌, ◌⊎◌, inl, inr}
 use mathlib.Core.Bool.{Bool, true, false, cond}
-use mathlib.Core.Option.{some}
 use mathlib.Core.List.{List, [], ◌∷◌}
 use native.Mathlib.Omega.{arith}
 use borrow.Author.Tests.{ltb-true, ltb-false}
@@ -146,7 +146,7 @@ entry_in (y ∷ l) zero {x} e = let f : x ≡ y = cc in head f
 entry_in (y ∷ l) (suc i) e = tail (entry_in l i e)
 
 pub in_entry : {x : Label} {l : List Label} → In x l → (i : ℕ) × IsEntry l i x
-in_entry (head e) = (zero, ap some (sym e))
+in_entry (head e) = (zero, ap Some (sym e))
 in_entry (tail i) = let h = in_entry i in (suc h.0, h.1)
 
 pub ascends_at : {l : List Label} → Ascending l → (i j : ℕ) {x y : Label} → IsEntry l i x → IsEntry l j y → i < j → x.start < y.start

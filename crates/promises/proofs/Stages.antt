@@ -1,9 +1,9 @@
 -- Checks made one after another: an answer that runs through a list of stages refuses exactly by the first condition that holds,
 -- over any stages and any conditions by number and place. Assumes nothing.
+use Rattle.std.specs.Prelude.{Option, None, Some}
 use Prim.Native.Nat.{ℕ, ◌<◌}
 use mathlib.Core.Path.{◌≡◌, refl}
 use mathlib.Core.Bool.{Bool, true, false, not, ◌&&◌, ◌||◌}
-use mathlib.Core.Option.{Option, none, some}
 use mathlib.Core.List.{List, [], ◌∷◌, ◌++◌}
 use native.Mathlib.Omega.{arith}
 use borrow.Author.Tests.{eqb-true, eqb-false}
@@ -232,8 +232,8 @@ module _ (C : ℕ → ℕ → Type 0) where
   pub refuse_at_lem : {A : Type 0} {ss : List Stage} (P : ℕ → Type 0) (n c : ℕ) (o : Option ℕ) (r : Answer A) → Found P c o
       → ((p : ℕ) → Lowest P c p → C n p) → ((q : ℕ) → C n q → Lowest P c q) → Runs C ss r → Runs C (all n ∷ ss) (refuse_at o n r)
   unfolding refuse_at
-  refuse_at_lem P n c (some p) r (found h) v w g = stop (v p h) (λ q k. lowest_once P c q p (w q k) h)
-  refuse_at_lem P n c none r (nowhere h) v w g = pass (λ q k. let l = w q k in h q l.inside l.holds) g
+  refuse_at_lem P n c (Some p) r (found h) v w g = stop (v p h) (λ q k. lowest_once P c q p (w q k) h)
+  refuse_at_lem P n c None r (nowhere h) v w g = pass (λ q k. let l = w q k in h q l.inside l.holds) g
 
   -- what follows an accepted answer
   pub and_then_lem : {A B : Type 0} {ss : List Stage} (ss' : List Stage) (r : Answer A) (f : A → Answer B) → Runs C ss r

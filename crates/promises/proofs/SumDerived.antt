@@ -1,10 +1,10 @@
 -- W-211: what derives is read. A sum, a product or an atom in front of a text is read up to what is behind it, where parentheses may be
 -- opened as deep as it nests; so a text derives one expression at most. Assumes nothing.
+use Rattle.std.specs.Prelude.{Some}
 use Prim.Native.Nat.{ℕ, zero, suc, ◌≤◌, max}
 use mathlib.Core.Path.{◌≡◌, refl, ◌∙◌}
 use mathlib.Core.Logic.{◌≢◌}
 use mathlib.Core.Bool.{Bool, true, false}
-use mathlib.Core.Option.{some}
 use mathlib.Core.List.{[], ◌∷◌, ◌++◌, append_assoc}
 use native.Mathlib.Omega.{arith}
 use lib.Dec.{eqb}
@@ -103,11 +103,11 @@ mutual
       ∙ rw (append_assoc s (41 ∷ []) r, sum_complete x n (omega arith) (41 ∷ r) (other refl refl), chain_stop is_sign (product_of n) a 41 r refl))
 
 -- ---- the whole text
-sum_ended : {s : Text} {a : Expression} → Sum s a → (n : ℕ) → depth a ≤ n → ended (sum_of n (s ++ (93 ∷ []))) ≡ some a
+sum_ended : {s : Text} {a : Expression} → Sum s a → (n : ℕ) → depth a ≤ n → ended (sum_of n (s ++ (93 ∷ []))) ≡ Some a
 unfolding ended is_operator is_times is_sign
 sum_ended {a = a} x n h = rw (sum_complete x n h (93 ∷ []) (other refl refl), chain_stop is_sign (product_of n) a 93 [] refl)
 
-pub bracketed_complete : {t : Text} {a : Expression} → Derives t a → depth a ≤ 16 → bracketed t ≡ some a
+pub bracketed_complete : {t : Text} {a : Expression} → Derives t a → depth a ≤ 16 → bracketed t ≡ Some a
 unfolding bracketed bytes
 bracketed_complete d h = rw d.brackets (sum_ended d.derived 16 h)
 
@@ -115,9 +115,9 @@ bracketed_complete d h = rw d.brackets (sum_ended d.derived 16 h)
 same_inner : (s u : Text) → s ++ (93 ∷ []) ≡ u ++ (93 ∷ []) → {a b : Expression} → Sum s a → Sum u b → a ≡ b
 same_inner s u e {a} {b} x y =
     let n = max (depth a) (depth b) in
-    let p : ended (sum_of n (s ++ (93 ∷ []))) ≡ some a = sum_ended x n (omega arith) in
-    let q : ended (sum_of n (u ++ (93 ∷ []))) ≡ some b = sum_ended y n (omega arith) in
-    let w : ended (sum_of n (s ++ (93 ∷ []))) ≡ some b = rw e q in
+    let p : ended (sum_of n (s ++ (93 ∷ []))) ≡ Some a = sum_ended x n (omega arith) in
+    let q : ended (sum_of n (u ++ (93 ∷ []))) ≡ Some b = sum_ended y n (omega arith) in
+    let w : ended (sum_of n (s ++ (93 ∷ []))) ≡ Some b = rw e q in
     cc
 
 pub one_expression : (t : Text) (a b : Expression) → Derives t a → Derives t b → a ≡ b

@@ -1,10 +1,10 @@
 -- W-211: a number without a sign is read exactly if it is one or more good digits after its prefix, and no byte of it is an operator;
 -- and a number in front of a text is the bytes before the first operator. Assumes nothing.
+use Rattle.std.specs.Prelude.{None, Some}
 use Prim.Native.Nat.{ℕ, suc, ◌+◌, ◌*◌, ◌≤◌, ◌<◌}
 use mathlib.Core.Path.{◌≡◌, refl, sym, ap, ◌∙◌}
 use mathlib.Core.Logic.{◌≢◌}
 use mathlib.Core.Bool.{Bool, true, false, ◌||◌, cond, false≢true}
-use mathlib.Core.Option.{none, some}
 use mathlib.Core.List.{List, [], ◌∷◌, ◌++◌}
 use native.Mathlib.Omega.{arith}
 use lib.Dec.{eqb, ltb}
@@ -26,7 +26,7 @@ pub record Good (radix : ℕ) (d : Text) (v : ℕ) : Type 0 where
   pub no_bad : ¬ BadDigit radix d
   pub is : v ≡ worth radix d
 
-just_below : (v : ℕ) → below (suc v) v ≡ some v
+just_below : (v : ℕ) → below (suc v) v ≡ Some v
 unfolding below
 just_below v = rw (lt-ltb v (suc v) (omega arith))
 
@@ -58,7 +58,7 @@ module _ (radix : ℕ) (d : Text) where
   only_read v (failed f) e = cc
   only_read v (read w) e = go (ltb w (suc v)) refl e
     where
-      go : (y : Bool) → ltb w (suc v) ≡ y → ◌≡◌ {A = Reading ℕ} (elim (cond y (some w) none) [ none ↦ failed out_of_range | some a ↦ read a ]) (read v) → read w ≡ read v
+      go : (y : Bool) → ltb w (suc v) ≡ y → ◌≡◌ {A = Reading ℕ} (elim (cond y (Some w) None) [ None ↦ failed out_of_range | Some a ↦ read a ]) (read v) → read w ≡ read v
       go true q e = e
       go false q e = cc
 
@@ -73,13 +73,13 @@ module _ (radix : ℕ) (d : Text) where
       }))
 
 -- ---- prefixes
-no_tail : (p s : Text) → starts p s ≡ false → after p s ≡ none
+no_tail : (p s : Text) → starts p s ≡ false → after p s ≡ None
 unfolding starts after
 no_tail [] s e = absurd (false≢true (sym e))
 no_tail (a ∷ p) [] e = refl
 no_tail (a ∷ p) (b ∷ s) e = go (eqb a b) refl (no_tail p s)
   where
-    go : (x : Bool) → eqb a b ≡ x → (starts p s ≡ false → after p s ≡ none) → after (a ∷ p) (b ∷ s) ≡ none
+    go : (x : Bool) → eqb a b ≡ x → (starts p s ≡ false → after p s ≡ None) → after (a ∷ p) (b ∷ s) ≡ None
     go true f ih = rw (f, after) (ih (rw (f, starts) at e))
     go false f ih = rw (f, after)
 

@@ -1,9 +1,9 @@
 -- W-211: what is read derives. The text in front of what is left is a sum, a product or an atom, no deeper than parentheses may be
 -- opened. Assumes nothing.
+use Rattle.std.specs.Prelude.{None, Some}
 use Prim.Native.Nat.{ℕ, zero, suc, ◌≤◌}
 use mathlib.Core.Path.{◌≡◌, refl, ap}
 use mathlib.Core.Bool.{Bool, true, false, ◌||◌, cond, false≢true}
-use mathlib.Core.Option.{none, some}
 use mathlib.Core.List.{[], ◌∷◌, ◌++◌, append_assoc}
 use native.Mathlib.Omega.{arith}
 use lib.Dec.{eqb}
@@ -131,13 +131,13 @@ atom_sound (suc n) (b ∷ s) = go (eqb b 40) refl (atom_sound n)
     go false e ih = number_sound (suc n) (b ∷ s)
 
 -- ---- the whole text
-ended_sound : (s : Text) (x : Parse) → Reads (Deep Sum 16) s x → (a : Expression) → ended x ≡ some a → Deep Derives 16 (91 ∷ s) a
+ended_sound : (s : Text) (x : Parse) → Reads (Deep Sum 16) s x → (a : Expression) → ended x ≡ Some a → Deep Derives 16 (91 ∷ s) a
 unfolding ended bytes
 ended_sound s malformed h a e = clash cc
 ended_sound s (parsed b []) h a e = clash cc
 ended_sound s (parsed b (c ∷ [])) h a e = go (eqb c 93) refl e
   where
-    go : (y : Bool) → eqb c 93 ≡ y → cond y (some b) none ≡ some a → Deep Derives 16 (91 ∷ s) a
+    go : (y : Bool) → eqb c 93 ≡ y → cond y (Some b) None ≡ Some a → Deep Derives 16 (91 ∷ s) a
     go true y q =
         let p : b ≡ a = cc in
         rw (← p) (record {
@@ -147,11 +147,11 @@ ended_sound s (parsed b (c ∷ [])) h a e = go (eqb c 93) refl e
     go false y q = clash cc
 ended_sound s (parsed b (c ∷ d ∷ r)) h a e = clash cc
 
-pub bracketed_sound : (t : Text) (a : Expression) → bracketed t ≡ some a → Deep Derives 16 t a
+pub bracketed_sound : (t : Text) (a : Expression) → bracketed t ≡ Some a → Deep Derives 16 t a
 unfolding bracketed
 bracketed_sound [] a e = clash cc
 bracketed_sound (b ∷ s) a e = go (eqb b 91) refl e
   where
-    go : (y : Bool) → eqb b 91 ≡ y → cond y (ended (sum_of 16 s)) none ≡ some a → Deep Derives 16 (b ∷ s) a
+    go : (y : Bool) → eqb b 91 ≡ y → cond y (ended (sum_of 16 s)) None ≡ Some a → Deep Derives 16 (b ∷ s) a
     go true y q = rw (eqb-true b 91 y) (ended_sound s (sum_of 16 s) (sum_sound 16 (atom_sound 16) s) a q)
     go false y q = clash cc

@@ -1,9 +1,9 @@
 -- W-211: a text reads as a value, as out of range or as a bad digit exactly as the grammar and whole numbers say; and the examples.
 -- Assumes nothing.
+use Rattle.std.specs.Prelude.{Option, None, Some}
 use Prim.Native.Nat.{ℕ, zero, suc, ◌+◌, ◌-◌, ◌*◌, ◌^◌, ◌<◌, ◌≤◌}
 use mathlib.Core.Path.{◌≡◌, refl, sym, ap, subst, ◌∙◌}
 use mathlib.Core.Bool.{Bool, true, false, cond}
-use mathlib.Core.Option.{Option, none, some}
 use native.Mathlib.Omega.{arith}
 use lib.Dec.{leb, ltb}
 use lib.IntN.{ℤ, pos, negsuc, sub_ℕ, ◌-ℤ◌}
@@ -23,15 +23,15 @@ use Rattle.promises.proofs.SumDerived.{bracketed_complete, one_expression}
 -- ---- the steps, and whole numbers
 -- what the steps say of an expression is true in whole numbers
 data Told (a : Expression) : Option ℕ → Type 0 where
-  inside : {v : ℕ} → InRange a → whole_value a ≡ pos v → v < 2 ^ 32 → Told a (some v)
-  outside : ¬ InRange a → Told a none
+  inside : {v : ℕ} → InRange a → whole_value a ≡ pos v → v < 2 ^ 32 → Told a (Some v)
+  outside : ¬ InRange a → Told a None
 
 pos_is : {m n : ℕ} → pos m ≡ pos n → m ≡ n
 pos_is e = cc
 
 -- an expression whose value is k, and which is in range if that fits
 module _ (a : Expression) (k : ℕ) (e : whole_value a ≡ pos k) (there : Fits (whole_value a) → InRange a) (back : InRange a → Fits (whole_value a)) where
-  low_told : k < 2 ^ 32 → Told a (some k)
+  low_told : k < 2 ^ 32 → Told a (Some k)
   low_told h = inside (there (record { amount = k; is = e; low = h })) e h
 
   not_in : 2 ^ 32 ≤ k → ¬ InRange a
@@ -41,7 +41,7 @@ module _ (a : Expression) (k : ℕ) (e : whole_value a ≡ pos k) (there : Fits 
   unfolding below
   below_told = go (ltb k (2 ^ 32)) refl
     where
-      go : (y : Bool) → ltb k (2 ^ 32) ≡ y → Told a (cond y (some k) none)
+      go : (y : Bool) → ltb k (2 ^ 32) ≡ y → Told a (cond y (Some k) None)
       go true q = low_told (ltb-true k (2 ^ 32) q)
       go false q = outside (not_in (ltb-false k (2 ^ 32) q))
 
@@ -63,7 +63,7 @@ module _ (a : Expression) (v w : ℕ) (e : whole_value a ≡ pos v -ℤ pos w) (
   unfolding difference_step
   subtracted_told = go (leb w v) refl
     where
-      go : (y : Bool) → leb w v ≡ y → Told a (cond y (some (v - w)) none)
+      go : (y : Bool) → leb w v ≡ y → Told a (cond y (Some (v - w)) None)
       go true q = low_told a (v - w) (above (leb-true w v q)) there back (omega arith)
       go false q = outside (λ r. not_negative (under (leb-false w v q)) (back r))
 
@@ -118,8 +118,8 @@ unfolding sum_reading evaluated
 means t = go (bracketed t) refl
   where
     go : (o : Option Expression) → bracketed t ≡ o → MeansSum t (evaluated o)
-    go none e = no_sum (λ a d h. let q = bracketed_complete d h in clash cc)
-    go (some a) e = let k = bracketed_sound t a e in told_means k.derives k.deep (worth_told a)
+    go None e = no_sum (λ a d h. let q = bracketed_complete d h in clash cc)
+    go (Some a) e = let k = bracketed_sound t a e in told_means k.derives k.deep (worth_told a)
 
 only : (t : Text) (r : Reading ℕ) → MeansSum t r → sum_reading t ≡ r
 unfolding sum_reading evaluated
@@ -128,8 +128,8 @@ only t r (leaves_range {a} d h n) = rw (bracketed_complete d h) (ranged_outside 
 only t r (no_sum n) = go (bracketed t) refl
   where
     go : (o : Option Expression) → bracketed t ≡ o → evaluated o ≡ failed bad_digit
-    go none e = refl
-    go (some a) e = let k = bracketed_sound t a e in absurd (n a k.derives k.deep)
+    go None e = refl
+    go (Some a) e = let k = bracketed_sound t a e in absurd (n a k.derives k.deep)
 
 -- ---- DC's value
 value_means : (t : Text) → MeansValue t (value_reading t)
@@ -147,8 +147,8 @@ value_only t r (no_bracket_first e m) = rw e ((readings_mean.of_32_bits t r).1 m
 
 piece_means : (o : Option Text) → MeansPiece MeansValue o (value_reading_in o)
 unfolding value_reading_in
-piece_means none = missing
-piece_means (some t) = present (value_means t)
+piece_means None = missing
+piece_means (Some t) = present (value_means t)
 
 piece_only : (o : Option Text) (r : Reading ℕ) → MeansPiece MeansValue o r → value_reading_in o ≡ r
 unfolding value_reading_in
@@ -174,8 +174,8 @@ sum_low t v e = go (bracketed t) e
     told (outside n) q = clash cc
 
     go : (o : Option Expression) → evaluated o ≡ read v → v < 2 ^ 32
-    go none q = clash cc
-    go (some a) q = told (worth_told a) q
+    go None q = clash cc
+    go (Some a) q = told (worth_told a) q
 
 -- ---- the examples
 pub sum_examples : SumExamples

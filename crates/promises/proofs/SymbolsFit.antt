@@ -1,12 +1,12 @@
 -- The bounds of W-202's list: how many labels there are, where they lie, and how long their names are together. Assumes nothing.
+use Rattle.std.specs.Prelude.{Some, slice_get}
 use Prim.Native.Nat.{ℕ, zero, suc, ◌+◌, ◌<◌, ◌≤◌}
 use mathlib.Core.Path.{◌≡◌, refl}
 use mathlib.Core.Bool.{Bool, true, false}
-use mathlib.Core.Option.{some}
 use mathlib.Core.List.{List, [], ◌∷◌}
 use native.Mathlib.Omega.{arith}
 use borrow.Author.Tests.{ltb-false}
-use lib.ListN.{length, get_elem?}
+use lib.ListN.{length}
 use Rattle.rules.specs.Limits.{max_lines, max_labels, address_limit}
 use Rattle.rules.specs.Text.{Text, cut_at}
 use Rattle.rules.specs.Line.{SourceLine, lines_of, Name, line_of, size}
@@ -29,13 +29,13 @@ use Rattle.promises.proofs.Sorted.{Ascending, ended, ahead, Sorted}
 use Rattle.promises.proofs.Symbols.{in_order_lem}
 
 -- ---- how many labels there are
-room_all : (l : SourceLine) (a : ℕ) (ns : List Name) (t t' : Table) → length t ≤ max_labels → record_all l a ns t ≡ some t' → length t' ≤ max_labels
+room_all : (l : SourceLine) (a : ℕ) (ns : List Name) (t t' : Table) → length t ≤ max_labels → record_all l a ns t ≡ Some t' → length t' ≤ max_labels
 unfolding record_all
 room_all l a [] t t' h e = let f : t ≡ t' = cc in rw (← f) h
 room_all l a (n ∷ ns) t t' h e = go (has_room (find n.text t) t) refl (room_all l a ns (recorded (label_of l a n) t) t')
   where
     go : (y : Bool) → has_room (find n.text t) t ≡ y
-        → (length (recorded (label_of l a n) t) ≤ max_labels → record_all l a ns (recorded (label_of l a n) t) ≡ some t' → length t' ≤ max_labels) → length t' ≤ max_labels
+        → (length (recorded (label_of l a n) t) ≤ max_labels → record_all l a ns (recorded (label_of l a n) t) ≡ Some t' → length t' ≤ max_labels) → length t' ≤ max_labels
     go true f ih = ih (recorded_room (label_of l a n) t (find n.text t) refl h f) (rw (record_all, f) at e)
     go false f ih = let g = rw (record_all, f) at e in clash cc
 
@@ -50,7 +50,7 @@ few_labels base a t (l ∷ ls) h =
     (λ t' k o v. holds_then Few Few (first_pass_by size base _ t' ls) (putting a (line_of l.text).task) (few_labels base (address_after size base a (line_of l.text).task) t' ls (room_all l a _ t t' h o)) (λ p q. q))
 
 -- ---- where they lie
-index_below : (ls : List Text) (j : ℕ) (l : Text) → get_elem? ls j ≡ some l → j < length ls
+index_below : (ls : List Text) (j : ℕ) (l : Text) → slice_get ls j ≡ Some l → j < length ls
 index_below [] j l e = clash cc
 index_below (k ∷ ls) zero l e = omega arith
 index_below (k ∷ ls) (suc j) l e = let h = index_below ls j l e in omega arith

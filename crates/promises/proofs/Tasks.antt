@@ -1,9 +1,9 @@
 -- What a task is to the passes, and what a line does to the first pass: one law for each fact. Assumes nothing.
+use Rattle.std.specs.Prelude.{Option, None, Some}
 use Prim.Native.Nat.{ℕ, ◌<◌, ◌≤◌}
 use mathlib.Core.Path.{◌≡◌, refl}
 use mathlib.Core.Logic.{◌≢◌}
 use mathlib.Core.Bool.{Bool, true, false}
-use mathlib.Core.Option.{Option, none, some}
 use mathlib.Core.List.{List, [], ◌∷◌}
 use borrow.Author.Tests.{ltb-true, ltb-false}
 use lib.Dec.{ltb}
@@ -69,9 +69,9 @@ module _ (z : Sizes) (base a : ℕ) (t : Table) (l : SourceLine) (ls : List Sour
   recording = record_all l a (line_of l.text).names t
 
   pub pass_line : (task ≡ end → P (accepted (record { labels = t; puts = [] })))
-      → (task ≢ end → recording ≡ none → P (refused 6 l.number))
-      → ((t' : Table) → task ≢ end → recording ≡ some t' → address_limit ≤ address_after z base a task → P (refused 5 l.number))
-      → ((t' : Table) → task ≢ end → recording ≡ some t' → address_after z base a task < address_limit
+      → (task ≢ end → recording ≡ None → P (refused 6 l.number))
+      → ((t' : Table) → task ≢ end → recording ≡ Some t' → address_limit ≤ address_after z base a task → P (refused 5 l.number))
+      → ((t' : Table) → task ≢ end → recording ≡ Some t' → address_after z base a task < address_limit
       → P (and_then (first_pass_by z base (address_after z base a task) t' ls) (putting a task)))
       → P (first_pass_by z base a t (l ∷ ls))
   unfolding first_pass_by step_by leaving
@@ -80,6 +80,6 @@ module _ (z : Sizes) (base a : ℕ) (t : Table) (l : SourceLine) (ls : List Sour
       go : (x : Bool) → is_end task ≡ x → (o : Option Table) → recording ≡ o → (y : Bool) → ltb (address_after z base a task) address_limit ≡ y
           → P (first_pass_by z base a t (l ∷ ls))
       go true e o f y g = rw (first_pass_by, step_by, e) (halts (is_end_lem task e))
-      go false e none f y g = rw (first_pass_by, step_by, e, f) (fills (not_end task e) f)
-      go false e (some t') f true g = rw (first_pass_by, step_by, e, f, g) (goes t' (not_end task e) f (ltb-true _ address_limit g))
-      go false e (some t') f false g = rw (first_pass_by, step_by, e, f, g) (leaves t' (not_end task e) f (ltb-false _ address_limit g))
+      go false e None f y g = rw (first_pass_by, step_by, e, f) (fills (not_end task e) f)
+      go false e (Some t') f true g = rw (first_pass_by, step_by, e, f, g) (goes t' (not_end task e) f (ltb-true _ address_limit g))
+      go false e (Some t') f false g = rw (first_pass_by, step_by, e, f, g) (leaves t' (not_end task e) f (ltb-false _ address_limit g))

@@ -1,9 +1,9 @@
 -- A list moved by t and then by d is the list moved by t + d, where the first move stays inside. Assumes nothing.
+use Rattle.std.specs.Prelude.{None, Some}
 use Prim.Native.Nat.{ℕ, suc, ◌+◌, ◌≤◌, ◌<◌}
 use mathlib.Core.Path.{◌≡◌, refl, sym, ap}
 use mathlib.Core.Logic.{◌≢◌}
 use mathlib.Core.Bool.{Bool, true, false, cond, false≢true}
-use mathlib.Core.Option.{none, some}
 use mathlib.Core.List.{List, [], ◌∷◌, map, ◌++◌}
 use native.Mathlib.Nat.{add-zero}
 use native.Mathlib.Omega.{arith}
@@ -91,19 +91,19 @@ pub outside_twice : (t d : ℤ) (i : ℕ) (l : List Place) → All (Reached t) l
 unfolding first_outside tally_list moved_place
 outside_twice t d i [] h = refl
 outside_twice t d i (p ∷ ps) h =
-    λ k. elim (outside (address_twice p.address t d h.0 k)) [ true ↦ some i | false ↦ outside_twice t d (suc i) ps h.1 k ]
+    λ k. elim (outside (address_twice p.address t d h.0 k)) [ true ↦ Some i | false ↦ outside_twice t d (suc i) ps h.1 k ]
 
 -- no place is outside exactly where each is inside
-pub none_inside : (t : ℤ) (i : ℕ) (l : List Place) → first_outside t i l ≡ none → Inside t l
+pub none_inside : (t : ℤ) (i : ℕ) (l : List Place) → first_outside t i l ≡ None → Inside t l
 unfolding first_outside
 none_inside t i [] e = tt
 none_inside t i (p ∷ ps) e = go (outside (pos p.address +ℤ t)) refl (none_inside t (suc i) ps)
   where
-    go : (x : Bool) → outside (pos p.address +ℤ t) ≡ x → (first_outside t (suc i) ps ≡ none → Inside t ps) → Inside t (p ∷ ps)
+    go : (x : Bool) → outside (pos p.address +ℤ t) ≡ x → (first_outside t (suc i) ps ≡ None → Inside t ps) → Inside t (p ∷ ps)
     go true f ih = let g = rw (f, first_outside) at e in absurd (false≢true cc)
     go false f ih = (f, ih (rw (f, first_outside) at e))
 
-pub inside_none : (t : ℤ) (i : ℕ) (l : List Place) → Inside t l → first_outside t i l ≡ none
+pub inside_none : (t : ℤ) (i : ℕ) (l : List Place) → Inside t l → first_outside t i l ≡ None
 unfolding first_outside
 inside_none t i [] h = refl
 inside_none t i (p ∷ ps) h = rw (h.0, first_outside) (inside_none t (suc i) ps h.1)

@@ -1,8 +1,9 @@
 -- W-205 of an instruction: the verdict on it is right, and no other is. Assumes nothing.
+use Rattle.std.specs.Prelude.{Option, None, Some}
+use Rattle.rules.specs.Option.{or_else}
 use Prim.Native.Nat.{ℕ, ◌<◌, ◌≤◌}
 use mathlib.Core.Path.{◌≡◌, refl, sym, ap, ◌∙◌}
 use mathlib.Core.Bool.{Bool, true, false, cond, ◌&&◌, false≢true, or-true}
-use mathlib.Core.Option.{Option, none, some, or_else}
 use mathlib.Core.List.{List}
 use native.Mathlib.Omega.{arith}
 use lib.ListN.{length}
@@ -24,7 +25,7 @@ use Rattle.promises.proofs.Reasons.{blames_in, rows, row, sound, number_fault, l
 
 -- ---- an operand of the right kind with nothing wrong makes the word
 module _ (ls : Table) (a : ℕ) where
-  faultless : (x : Operand) (s : Text) → kind_of s ≡ kind_for x → fault ls a x s ≡ none → meets ls a x s ≡ true
+  faultless : (x : Operand) (s : Text) → kind_of s ≡ kind_for x → fault ls a x s ≡ None → meets ls a x s ≡ true
   unfolding kind_for
   faultless i8 s k e = solid_i8 ls a s ∙ rw (k, kind_itself hash, e)
   faultless u16 s k e = solid_u16 ls a s ∙ rw (k, kind_itself hash, e)
@@ -36,15 +37,15 @@ module _ (ls : Table) (a : ℕ) where
   faultless jump_target s k e = jump_place ls a s ∙ ap clear e
   faultless branch_target s k e = branch_place ls a s ∙ rw (e, or-true)
 
-  form_met : {f : List Operand} {ps : List Text} → Stand f ps → fault_in ls a f ps ≡ none → met ls a f ps ≡ true
+  form_met : {f : List Operand} {ps : List Text} → Stand f ps → fault_in ls a f ps ≡ None → met ls a f ps ≡ true
   unfolding met fault_in or_else
   form_met all_stand e = refl
   form_met (stands {x} {xs} {s} {ps} k h) e = go (fault ls a x s) refl e (form_met h)
     where
-      go : (o : Option Reason) → fault ls a x s ≡ o → or_else o (fault_in ls a xs ps) ≡ none → (fault_in ls a xs ps ≡ none → met ls a xs ps ≡ true)
+      go : (o : Option Reason) → fault ls a x s ≡ o → or_else o (fault_in ls a xs ps) ≡ None → (fault_in ls a xs ps ≡ None → met ls a xs ps ≡ true)
           → (meets ls a x s && met ls a xs ps) ≡ true
-      go none f e ih = rw (faultless x s (kind_is k) f) (ih e)
-      go (some r) f e ih = clash cc
+      go None f e ih = rw (faultless x s (kind_is k) f) (ih e)
+      go (Some r) f e ih = clash cc
 
   one_met_lem : {f : List Operand} {fs : List (List Operand)} (ps : List Text) → In f fs → met ls a f ps ≡ true → one_met ls a fs ps ≡ true
   unfolding one_met
@@ -66,21 +67,21 @@ faulty_rank (numeral n) = omega arith
 faulty_rank (unrecorded n k) = omega arith
 faulty_rank (far n k f) = omega arith
 
-module _ (ls : Table) (a : ℕ) (At : Text → ℕ → Type 0) (at : (l : Text) (x : ℕ) → find l ls ≡ some x → At l x)
-    (is_at : (l : Text) (x : ℕ) → At l x → find l ls ≡ some x) (o : Operation) (ps : List Text) where
+module _ (ls : Table) (a : ℕ) (At : Text → ℕ → Type 0) (at : (l : Text) (x : ℕ) → find l ls ≡ Some x → At l x)
+    (is_at : (l : Text) (x : ℕ) → At l x → find l ls ≡ Some x) (o : Operation) (ps : List Text) where
   abbrev words : Bool
   words = is_some (encode_operation ls a o ps)
 
-  not_found : (l : Text) → ((x : ℕ) → ¬ At l x) → find l ls ≡ none
+  not_found : (l : Text) → ((x : ℕ) → ¬ At l x) → find l ls ≡ None
   not_found l k = go (find l ls) refl
     where
-      go : (y : Option ℕ) → find l ls ≡ y → y ≡ none
-      go none e = refl
-      go (some x) e = absurd (k x (at l x e))
+      go : (y : Option ℕ) → find l ls ≡ y → y ≡ None
+      go None e = refl
+      go (Some x) e = absurd (k x (at l x e))
 
   -- of operands that have a form's kinds, any reason is what is wrong in its places
-  only : {g : List Operand} → form_with (forms_of o).forms ps ≡ some g → Counts (forms_of o).count (length ps) → In g (forms_of o).forms → Stand g ps
-      → {q : Reason} → Faulty At a o ps q → fault_in ls a g ps ≡ some q
+  only : {g : List Operand} → form_with (forms_of o).forms ps ≡ Some g → Counts (forms_of o).count (length ps) → In g (forms_of o).forms → Stand g ps
+      → {q : Reason} → Faulty At a o ps q → fault_in ls a g ps ≡ Some q
   only e c i h (count n) = absurd (n c)
   only {g} e c i h (kinds n) = absurd (n g i h)
   only e c i h (numeral n) = number_fault ls a n e
@@ -100,17 +101,17 @@ module _ (ls : Table) (a : ℕ) (At : Text → ℕ → Type 0) (at : (l : Text) 
   unfolding why_kinds rank unless
   by_kinds w c m = go (form_with (forms_of o).forms ps) refl (chosen (forms_of o).forms ps)
     where
-      fault_of : (g : List Operand) → form_with (forms_of o).forms ps ≡ some g → In g (forms_of o).forms → Stand g ps → (y : Option Reason) → fault_in ls a g ps ≡ y
+      fault_of : (g : List Operand) → form_with (forms_of o).forms ps ≡ Some g → In g (forms_of o).forms → Stand g ps → (y : Option Reason) → fault_in ls a g ps ≡ y
           → Judged ls a At o ps (unless y)
-      fault_of g e i h none f = absurd (false≢true (sym m ∙ one_met_lem ls a ps i (form_met ls a h f)))
-      fault_of g e i h (some r) f =
+      fault_of g e i h None f = absurd (false≢true (sym m ∙ one_met_lem ls a ps i (form_met ls a h f)))
+      fault_of g e i h (Some r) f =
           lacks w (sound ls a At at is_at (row i (rows o)) h (blames_in ls a g ps r f))
           (λ q l n. let u = only e c i h n in let v : q ≡ r = cc in let k : rank q ≡ rank r = ap rank v in omega arith)
 
       go : (y : Option (List Operand)) → form_with (forms_of o).forms ps ≡ y → Chosen (forms_of o).forms ps y
-          → Judged ls a At o ps (elim y [ none ↦ because wrong_kinds | some f ↦ unless (fault_in ls a f ps) ])
-      go none e (no_form k) = lacks w (kinds k) (before_kinds c)
-      go (some g) e (form i h) = fault_of g e i h (fault_in ls a g ps) refl
+          → Judged ls a At o ps (elim y [ None ↦ because wrong_kinds | Some f ↦ unless (fault_in ls a f ps) ])
+      go None e (no_form k) = lacks w (kinds k) (before_kinds c)
+      go (Some g) e (form i h) = fault_of g e i h (fault_in ls a g ps) refl
 
   pub judged : Judged ls a At o ps (why_operation ls a o ps)
   unfolding why_operation why_forms rank
@@ -150,7 +151,7 @@ module _ (ls : Table) (a : ℕ) (At : Text → ℕ → Type 0) (at : (l : Text) 
   first_told {r} w f k = go (counts (forms_of o).count (length ps)) (forms_agree ls a o ps)
     where
       by_form : {y : Option (List Operand)} → form_with (forms_of o).forms ps ≡ y → Counts (forms_of o).count (length ps) → Chosen (forms_of o).forms ps y
-          → elim y [ none ↦ because wrong_kinds | some g ↦ unless (fault_in ls a g ps) ] ≡ because r
+          → elim y [ None ↦ because wrong_kinds | Some g ↦ unless (fault_in ls a g ps) ] ≡ because r
       by_form e c (no_form n) = ap because (sym (first_kinds c n f k))
       by_form e c (form i h) = ap unless (only e c i h f)
 

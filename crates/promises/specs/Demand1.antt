@@ -1,9 +1,7 @@
 -- Demand 1 on paper 01's definitions: which calls are refused, with which number and place, and what a call writes.
 -- The eleven conditions are said from 01's text, and 10 from 02's W-207, apart from the tests by which the definitions decide them; 7 speaks of the
 -- list that the definitions give, 5 and 6 of what they read in a line (at base 0 Demand2Rust says both of the Rust's states). Assumes nothing.
-use Rattle.std.specs.Prelude.{ℕ, suc, ◌+◌, ◌*◌, ◌^◌, ◌<◌, ◌≤◌, ◌≡◌, ◌≢◌, Bool, false, ◌||◌, cond, List, [], ◌∷◌, map, length, get_or, drop, eqb, ℤ, pos, negsuc, ◌+ℤ◌, nat_abs}
-use Rattle.std.proofs.Math.Option.{some}
-use Rattle.std.proofs.Math.ListN.{get_elem?}
+use Rattle.std.specs.Prelude.{ℕ, suc, ◌+◌, ◌*◌, ◌^◌, ◌<◌, ◌≤◌, ◌≡◌, ◌≢◌, Bool, false, ◌||◌, cond, List, [], ◌∷◌, map, length, get_or, drop, eqb, ℤ, pos, negsuc, ◌+ℤ◌, nat_abs, Some, slice_get}
 use Rattle.rules.specs.Limits.{max_source, max_lines, max_labels, address_limit, last_address, distance_limit}
 use Rattle.rules.specs.Text.{Text, cut_at, same}
 use Rattle.rules.specs.Line.{Task, skipped, end, org, no_org, label_only, instruction, value, space, Line, line_of, size}
@@ -26,7 +24,7 @@ line_count (b ∷ s) = cond (eqb 10 b) (suc (line_count s)) (line_count s)
 
 -- the line after the first j ones is l
 abbrev pub IsLine : Text → ℕ → Text → Type 0
-IsLine s j l = get_elem? (cut_at 10 s) j ≡ some l
+IsLine s j l = slice_get (cut_at 10 s) j ≡ Some l
 
 -- the address after a line that is read at address a
 unfoldable pub next_address : Sizes → ℕ → ℕ → Task → ℕ

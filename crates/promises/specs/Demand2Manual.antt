@@ -1,7 +1,6 @@
 -- Demand 2, the manual: "In the forms that 01 lists as those of the M68000 Programmer's Reference Manual, each word
 -- is proved to be the manual's". The forms as lines are written, and the statement about lines. Assumes nothing.
-use Rattle.std.specs.Prelude.{ℕ, suc, ◌+◌, ◌≤◌, ◌<◌, ◌^◌, ◌≡◌, ◌≢◌, take, drop, ℤ, pos, negsuc, ◌+ℤ◌}
-use Rattle.std.proofs.Math.Option.{Option, none, some}
+use Rattle.std.specs.Prelude.{ℕ, suc, ◌+◌, ◌≤◌, ◌<◌, ◌^◌, ◌≡◌, ◌≢◌, take, drop, ℤ, pos, negsuc, ◌+ℤ◌, Option, None, Some}
 use mathlib.Core.List.{List, [], ◌∷◌, ◌++◌, flat_map}
 use Rattle.rules.specs.Text.{Text, bytes}
 use Rattle.rules.specs.Number.{imm8, imm16}
@@ -22,10 +21,10 @@ at_a n = 40 ∷ 65 ∷ (48 + n) ∷ 41 ∷ []
 
 -- the suffixes
 abbrev pub L : Option Text
-L = some (bytes "L")
+L = Some (bytes "L")
 
 abbrev pub W : Option Text
-W = some (bytes "W")
+W = Some (bytes "W")
 
 -- the branches that 01 lists, with their conditions and mnemonics: BPL and BMI are not among them
 pub data Branch : Type 0 where
@@ -56,39 +55,39 @@ branch_name BLE = bytes "BLE"
 -- s is a label in reach of the instruction at a: z leads from the program counter, a + 2, to its address
 pub record InReach (ls : Table) (a : ℕ) (s : Text) (z : ℤ) : Type 0 where
   pub target : ℕ
-  pub found : find s ls ≡ some target
+  pub found : find s ls ≡ Some target
   pub leads : pos (a + 2) +ℤ z ≡ pos target
   pub near : InByte z
 
 -- a branch's operand and its displacement: a label in reach or, where it names none, a signed number
 pub data Displaced (ls : Table) (a : ℕ) (s : Text) (z : ℤ) : Type 0 where
   label : InReach ls a s z → Displaced ls a s z
-  signed_number : ((y : ℤ) → InReach ls a s y → ⊥) → written_signed s ≡ some z → Displaced ls a s z
+  signed_number : ((y : ℤ) → InReach ls a s y → ⊥) → written_signed s ≡ Some z → Displaced ls a s z
 
 -- the listed forms: mnemonic, suffix and operands that are, at address a with the labels ls, an instruction of the manual. W-208: "The set
 -- of branches proved equal to the manual loses the byte −1 as it already lacks 0."
 pub data Written (ls : Table) (a : ℕ) : Text → Option Text → List Text → Instruction → Type 0 where
-  moveq : {s : Text} {z : ℤ} {n : ℕ} → imm8 s ≡ some z → n < 8
-      → Written ls a (bytes "MOVEQ") none (s ∷ D n ∷ []) (MOVEQ z n)
+  moveq : {s : Text} {z : ℤ} {n : ℕ} → imm8 s ≡ Some z → n < 8
+      → Written ls a (bytes "MOVEQ") None (s ∷ D n ∷ []) (MOVEQ z n)
   load : {n m : ℕ} → n < 8 → m < 8
       → Written ls a (bytes "MOVE") L (at_a n ∷ D m ∷ []) (MOVE long (indirect n) (direct m))
   store : {n m : ℕ} → n < 8 → m < 8
       → Written ls a (bytes "MOVE") L (D n ∷ at_a m ∷ []) (MOVE long (direct n) (indirect m))
   copy : {n m : ℕ} → n < 8 → m < 8 → Written ls a (bytes "MOVE") W (D n ∷ D m ∷ []) (MOVE word (direct n) (direct m))
-  muls_data : {s : Text} {v n : ℕ} → imm16 s ≡ some v → n < 8
+  muls_data : {s : Text} {v n : ℕ} → imm16 s ≡ Some v → n < 8
       → Written ls a (bytes "MULS") W (s ∷ D n ∷ []) (MULS (immediate v) n)
   muls : {n m : ℕ} → n < 8 → m < 8 → Written ls a (bytes "MULS") W (D n ∷ D m ∷ []) (MULS (direct n) m)
   add : {n m : ℕ} → n < 8 → m < 8 → Written ls a (bytes "ADD") W (D n ∷ D m ∷ []) (ADD word (direct n) m)
   sub : {n m : ℕ} → n < 8 → m < 8 → Written ls a (bytes "SUB") W (D n ∷ D m ∷ []) (SUB word (direct n) m)
   cmp : {n m : ℕ} → n < 8 → m < 8 → Written ls a (bytes "CMP") W (D n ∷ D m ∷ []) (CMP word (direct n) m)
   tst : {n : ℕ} → n < 8 → Written ls a (bytes "TST") L (D n ∷ []) (TST long (direct n))
-  subq : {s : Text} {k n : ℕ} → imm8 s ≡ some (pos k) → 1 ≤ k → k ≤ 8 → n < 8
+  subq : {s : Text} {k n : ℕ} → imm8 s ≡ Some (pos k) → 1 ≤ k → k ≤ 8 → n < 8
       → Written ls a (bytes "SUBQ") L (s ∷ D n ∷ []) (SUBQ long k (direct n))
-  asl : {s : Text} {k n : ℕ} → imm8 s ≡ some (pos k) → 1 ≤ k → k ≤ 8 → n < 8
+  asl : {s : Text} {k n : ℕ} → imm8 s ≡ Some (pos k) → 1 ≤ k → k ≤ 8 → n < 8
       → Written ls a (bytes "ASL") L (s ∷ D n ∷ []) (ASL long k n)
-  nop : Written ls a (bytes "NOP") none [] NOP
+  nop : Written ls a (bytes "NOP") None [] NOP
   branch : (c : Branch) {s : Text} {z : ℤ} → Displaced ls a s z → z ≢ pos 0 → z ≢ negsuc 0
-      → Written ls a (branch_name c) none (s ∷ []) (Bcc (condition_of c) z)
+      → Written ls a (branch_name c) None (s ∷ []) (Bcc (condition_of c) z)
 
 -- the line l, at address a with the labels ls, is an instruction of the manual
 pub record LineSays (ls : Table) (a : ℕ) (l : Text) (i : Instruction) : Type 0 where

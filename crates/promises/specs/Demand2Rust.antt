@@ -1,9 +1,7 @@
 -- Demand 2, the Rust: "for all ASCII sources within 01's limits every list is .. at base 0 that of the Rust `assemble`". The limits
 -- are those of the source and of the Rust's own states, so that which sources are accepted does not rest on the rules. Since W-211 the
 -- comparison is over sources without `[`. Assumes nothing.
-use Rattle.std.specs.Prelude.{ℕ, suc, ◌≤◌, ◌<◌, ◌≡◌, Bool, false, ◌||◌, cond, List, [], ◌∷◌, map, eqb, length, get_or}
-use Rattle.std.proofs.Math.Option.{none, some}
-use Rattle.std.proofs.Math.ListN.{get_elem?}
+use Rattle.std.specs.Prelude.{ℕ, suc, ◌≤◌, ◌<◌, ◌≡◌, Bool, false, ◌||◌, cond, List, [], ◌∷◌, map, eqb, length, get_or, None, Some, slice_get}
 use Rattle.rules.specs.Limits.{max_source, max_lines, max_labels, address_limit}
 use Rattle.rules.specs.Text.{Text}
 use Rattle.rules.specs.Line.{Name, Instruction as Said, Task, skipped, end, org, no_org, label_only, instruction, value, space, Line, line_of, size}
@@ -27,12 +25,12 @@ inst_at a i = record { address = a; mnemonic = i.mnemonic; operands = i.operands
 unfoldable pub perform_task : Task → State → Flow
 perform_task skipped s = continue s
 perform_task end s = break s
-perform_task (org v) s = continue (handle_org (some v) s)
-perform_task no_org s = continue (handle_org none s)
+perform_task (org v) s = continue (handle_org (Some v) s)
+perform_task no_org s = continue (handle_org None s)
 perform_task label_only s = continue s
 perform_task (instruction i) s = continue (handle_instruction (inst_at s.current_address i) s)
-perform_task (value n v) s = let s₂ = push_value (some v) s in continue (set_address (add_u32 s₂.current_address n) s₂)
-perform_task (space n) s = let s₂ = push_value none s in continue (set_address (add_u32 s₂.current_address n) s₂)
+perform_task (value n v) s = let s₂ = push_value (Some v) s in continue (set_address (add_u32 s₂.current_address n) s₂)
+perform_task (space n) s = let s₂ = push_value None s in continue (set_address (add_u32 s₂.current_address n) s₂)
 
 unfoldable pub insert_all : List Name → State → State
 insert_all [] s = s
@@ -52,7 +50,7 @@ initial = record { labels = []; instructions = []; data_values = []; current_add
 -- the loop has gone through the first j lines of s, none of which broke it off, and its state is st
 pub data Looped (s : Text) : ℕ → State → Type 0 where
   begun : Looped s 0 initial
-  further : {j : ℕ} {l : Text} {st st' : State} → Looped s j st → get_elem? (split 10 s) j ≡ some l → body l st ≡ continue st' → Looped s (suc j) st'
+  further : {j : ℕ} {l : Text} {st st' : State} → Looped s j st → slice_get (split 10 s) j ≡ Some l → body l st ≡ continue st' → Looped s (suc j) st'
 
 -- how many keys a map has
 unfoldable pub keys : HashMap → ℕ

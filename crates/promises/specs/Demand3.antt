@@ -1,7 +1,5 @@
 -- Demand 3, sentence by sentence, over an assembling call: paper 01's, and that of whatever size z and encoder e are lawful. Assumes nothing.
-use Rattle.std.specs.Prelude.{ℕ, ◌<◌, ◌≡◌, ◌≢◌, ◌↔◌, List, [], ◌∷◌, map, length, ℤ, pos, ◌+ℤ◌, ◌-ℤ◌, nat_abs}
-use Rattle.std.proofs.Math.Option.{some}
-use Rattle.std.proofs.Math.ListN.{get_elem?}
+use Rattle.std.specs.Prelude.{ℕ, ◌<◌, ◌≡◌, ◌≢◌, ◌↔◌, List, [], ◌∷◌, map, length, ℤ, pos, ◌+ℤ◌, ◌-ℤ◌, nat_abs, Some, slice_get}
 use Rattle.rules.specs.Limits.{distance_limit}
 use Rattle.rules.specs.Text.{Text}
 use Rattle.rules.specs.Number.{modulo}
@@ -33,7 +31,7 @@ abbrev pub WordsDifferFor : Call → Type 0
 WordsDifferFor call =
     (s : Text) (b c : ℕ) (lb lc : List Place) → call b s ≡ accepted lb → call c s ≡ accepted lc
     → modulo 65536 (pos c -ℤ pos b) ≢ 0
-    → (i : ℕ) (p q : Place) → get_elem? lb i ≡ some p → get_elem? lc i ≡ some q
+    → (i : ℕ) (p q : Place) → slice_get lb i ≡ Some p → slice_get lc i ≡ Some q
     → (p.mark ≡ q.mark) × ((p.word ≢ q.word) ↔ (p.mark ≡ 1))
 
 -- 02's W-207: "words differ only at marked places"; with mark 1, and in a pair's low word, exactly when d is not a multiple of 65,536
@@ -45,7 +43,7 @@ pub record Differ (d : ℤ) (p q : Place) : Type 0 where
 abbrev pub MarkedWordsDifferFor : Call → Type 0
 MarkedWordsDifferFor call =
     (s : Text) (b c : ℕ) (lb lc : List Place) → call b s ≡ accepted lb → call c s ≡ accepted lc
-    → (i : ℕ) (p q : Place) → get_elem? lb i ≡ some p → get_elem? lc i ≡ some q → Differ (pos c -ℤ pos b) p q
+    → (i : ℕ) (p q : Place) → slice_get lb i ≡ Some p → slice_get lc i ≡ Some q → Differ (pos c -ℤ pos b) p q
 
 -- a mark says which words move, at one base too: of a call by the sizes z, with labels and lines d higher its second pass gives the list that
 -- the tally has at d

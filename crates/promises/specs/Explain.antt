@@ -1,8 +1,6 @@
 -- W-205, "The line with no word": what each reason says of a line, its address and the recorded labels, from 02's words and apart from
 -- how it is decided; which verdict on a line is right; the call's refusals; and that 01's rows and the table of forms agree. Assumes nothing.
-use Rattle.std.specs.Prelude.{ℕ, suc, ◌+◌, ◌≤◌, ◌<◌, ◌≡◌, ◌↔◌, ◌≢◌, true, List, [], ◌∷◌, ◌++◌, length, take, drop}
-use Rattle.std.proofs.Math.Option.{some}
-use Rattle.std.proofs.Math.ListN.{get_elem?}
+use Rattle.std.specs.Prelude.{ℕ, suc, ◌+◌, ◌≤◌, ◌<◌, ◌≡◌, ◌↔◌, ◌≢◌, true, List, [], ◌∷◌, ◌++◌, length, take, drop, Some, slice_get}
 use Rattle.rules.specs.Text.{Text, bytes, starts}
 use Rattle.rules.specs.Number.{Failure, failed, signed_reading, reading16, reading8}
 use Rattle.rules.specs.Line.{Instruction, Task, end, instruction, line_of, size}
@@ -124,7 +122,7 @@ pub data Holds (names : List Mnemonic) (At : Text → ℕ → Type 0) (a : ℕ) 
   other : ((i : Instruction) → k ≢ instruction i) → Holds names At a k not_instruction
   -- "unknown mnemonic": none in use
   unknown : {i : Instruction} → k ≡ instruction i → ((n : Mnemonic) → In n names → i.mnemonic ≢ n.name) → Holds names At a k unknown_mnemonic
-  operands : {i : Instruction} {o : Operation} {r : Reason} → k ≡ instruction i → operation_in names i.mnemonic ≡ some o
+  operands : {i : Instruction} {o : Operation} {r : Reason} → k ≡ instruction i → operation_in names i.mnemonic ≡ Some o
       → Faulty At a o i.operands r → Holds names At a k r
 
 -- ---- words
@@ -200,7 +198,7 @@ ExplainRefusesExactly =
 pub record ExplainsAll : Type 0 where
   pub refuses : (names : List Mnemonic) (base : ℕ) (s : Text) → RefusesExactly passing (PassCondition size base s) (explain_all_by names base s)
   pub each : (names : List Mnemonic) (base : ℕ) (s : Text) (vs : List Verdict) → explain_all_by names base s ≡ accepted vs
-      → (j : ℕ) (v : Verdict) → (get_elem? vs j ≡ some v) ↔ (explain_by names base s (suc j) ≡ accepted v)
+      → (j : ℕ) (v : Verdict) → (slice_get vs j ≡ Some v) ↔ (explain_by names base s (suc j) ≡ accepted v)
 
 -- a source that is accepted at b, and so at 0, has the same verdicts there
 unfoldable pub ExplainsAtEveryBase : Type 0
@@ -210,7 +208,7 @@ ExplainsAtEveryBase = (names : List Mnemonic) (b : ℕ) (s : Text) (p : Pass) �
 -- an operand stands in a form's place: by its kind, or as a recorded label where other text may stand
 pub data StandsIn (ls : Table) (x : Operand) (s : Text) : Type 0 where
   by_kind : IsKind s (kind_for x) → StandsIn ls x s
-  by_name : {y : ℕ} → kind_for x ≡ text → find s ls ≡ some y → StandsIn ls x s
+  by_name : {y : ℕ} → kind_for x ≡ text → find s ls ≡ Some y → StandsIn ls x s
 
 -- and the operands so in all places of a form
 pub data AllStandIn (ls : Table) : List Operand → List Text → Type 0 where
@@ -227,4 +225,4 @@ pub record FitsAForm (ls : Table) (o : Operation) (ps : List Text) : Type 0 wher
 -- words come only for a form's kinds, or for a label that is named like another kind
 unfoldable pub WordsFitForms : Type 0
 WordsFitForms =
-    (ls : Table) (a : ℕ) (o : Operation) (ps : List Text) (cs : List Content) → encode_operation ls a o ps ≡ some cs → FitsAForm ls o ps
+    (ls : Table) (a : ℕ) (o : Operation) (ps : List Text) (cs : List Content) → encode_operation ls a o ps ≡ Some cs → FitsAForm ls o ps

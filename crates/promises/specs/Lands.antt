@@ -1,7 +1,6 @@
 -- 02's W-209, "Branches land": where the displacements of branches lead, in 01's lists, in those of the manual's call, and in every list
 -- that moves make of them. Said of the list, the line and the label's last record, apart from how a word is found. Assumes nothing.
-use Rattle.std.specs.Prelude.{ℕ, ◌+◌, ◌/◌, ◌%◌, ◌<◌, ◌≡◌, List, [], ◌∷◌, ◌++◌, length, take, drop, ℤ, pos, negsuc, ◌+ℤ◌}
-use Rattle.std.proofs.Math.Option.{some, none}
+use Rattle.std.specs.Prelude.{ℕ, ◌+◌, ◌/◌, ◌%◌, ◌<◌, ◌≡◌, List, [], ◌∷◌, ◌++◌, length, take, drop, ℤ, pos, negsuc, ◌+ℤ◌, Some, None}
 use Rattle.rules.specs.Text.{Text, bytes}
 use Rattle.rules.specs.Line.{Instruction, instruction, line_of, size}
 use Rattle.rules.specs.Encode.{Mnemonic, branch, operation_in, encode_by, encode}
@@ -51,7 +50,7 @@ pub record Eleven (R : ℤ → Type 0) (i : Instruction) (o : Text) (d : ℤ) : 
 pub record Branches (names : List Mnemonic) (i : Instruction) (o : Text) (d : ℤ) : Type 0 where
   pub condition : ℕ
   pub small : condition < 16
-  pub named : operation_in names i.mnemonic ≡ some (branch condition)
+  pub named : operation_in names i.mnemonic ≡ Some (branch condition)
   pub others : List Text
   pub operands : i.operands ≡ o ∷ others
   pub near : InByte d
@@ -108,13 +107,13 @@ abbrev pub back : Condition → Text
 back c = bytes "X:" ++ (branch_named c ++ bytes " X")
 
 abbrev pub back_said : Condition → Instruction
-back_said c = record { mnemonic = branch_named c; suffix = none; operands = bytes "X" ∷ [] }
+back_said c = record { mnemonic = branch_named c; suffix = None; operands = bytes "X" ∷ [] }
 
 abbrev pub loop : Text
 loop = bytes "X:DBRA D0,X"
 
 abbrev pub loop_said : Instruction
-loop_said = record { mnemonic = bytes "DBRA"; suffix = none; operands = bytes "D0" ∷ bytes "X" ∷ [] }
+loop_said = record { mnemonic = bytes "DBRA"; suffix = None; operands = bytes "D0" ∷ bytes "X" ∷ [] }
 
 -- a source is accepted by a call
 abbrev pub Accepts : Call → Text → Type 0

@@ -1,6 +1,5 @@
 -- 02's W-207, the manual's own words: an instruction's size, how many words there are, and that size and words are lawful. Assumes nothing.
-use Rattle.std.specs.Prelude.{ℕ, ◌*◌, ◌≤◌, ◌≡◌, List, length}
-use Rattle.std.proofs.Math.Option.{none, some}
+use Rattle.std.specs.Prelude.{ℕ, ◌*◌, ◌≤◌, ◌≡◌, List, length, None, Some}
 use Rattle.rules.specs.Limits.{max_lines}
 use Rattle.rules.specs.Text.{Text, cut_at}
 use Rattle.rules.specs.Line.{Instruction}
@@ -15,8 +14,8 @@ use Rattle.promises.specs.Lawful.{Lawful}
 -- "Each instruction's size is the length of its words, taken as if every label were recorded and every displacement fitted, and 0 if no
 -- form fits then": whatever the labels and the address, in bytes; and 0 if with none of them there are words
 pub record SizeIsLength : Type 0 where
-  pub words : (ls : Table) (a : ℕ) (i : Instruction) (cs : List Content) → manual_encode ls a i ≡ some cs → manual_size i ≡ 2 * length (places_at a cs)
-  pub nothing : (i : Instruction) → ((ls : Table) (a : ℕ) → manual_encode ls a i ≡ none) → manual_size i ≡ 0
+  pub words : (ls : Table) (a : ℕ) (i : Instruction) (cs : List Content) → manual_encode ls a i ≡ Some cs → manual_size i ≡ 2 * length (places_at a cs)
+  pub nothing : (i : Instruction) → ((ls : Table) (a : ℕ) → manual_encode ls a i ≡ None) → manual_size i ≡ 0
 
 -- an instruction has at most three words
 unfoldable pub ThreeWords : Type 0

@@ -1,7 +1,6 @@
 -- 02's W-207, the manual's own words: the forms as they are written, each with its instruction of the manual and the marks of its words,
 -- said of the text and apart from how it is read; and that these have their words, and nothing else has. Assumes nothing.
-use Rattle.std.specs.Prelude.{ℕ, ◌+◌, ◌^◌, ◌≤◌, ◌<◌, ◌≡◌, ◌≢◌, List, [], ◌∷◌, map, ℤ, pos, negsuc, neg_ℤ, ◌+ℤ◌}
-use Rattle.std.proofs.Math.Option.{Option, none, some}
+use Rattle.std.specs.Prelude.{ℕ, ◌+◌, ◌^◌, ◌≤◌, ◌<◌, ◌≡◌, ◌≢◌, List, [], ◌∷◌, map, ℤ, pos, negsuc, neg_ℤ, ◌+ℤ◌, Option, None, Some}
 use Rattle.rules.specs.Text.{Text, bytes}
 use Rattle.rules.specs.Number.{read}
 use Rattle.rules.specs.Line.{Instruction as Said}
@@ -28,7 +27,7 @@ pub data SignedNumber : Text → ℤ → Type 0 where
 -- the text s is a recorded label, and d leads to it from the instruction's address a plus 2
 pub record Reaches (ls : Table) (a : ℕ) (s : Text) (d : ℤ) : Type 0 where
   pub target : ℕ
-  pub found : find s ls ≡ some target
+  pub found : find s ls ≡ Some target
   pub leads : pos (a + 2) +ℤ d ≡ pos target
 
 -- "The eleven branches use the byte form, and a displacement of 0 is out of range for them", by W-208 −1 too; "DBRA has its 16-bit displacement"
@@ -64,18 +63,18 @@ pub data Jump : Text → Type 0 where
 -- mnemonic, suffix and operands that are, at address a with the labels ls, an instruction of the manual, and the marks of its words: "A
 -- 32-bit label address carries mark 2 on its high word and 3 on the low", all other words carry 0
 pub data WrittenHere (ls : Table) (a : ℕ) : Text → Option Text → List Text → Instruction → List ℕ → Type 0 where
-  moveq : {s : Text} {z : ℤ} {n : ℕ} → Means8 s (read z) → n < 8 → WrittenHere ls a (bytes "MOVEQ") none (behind_hash s ∷ D n ∷ []) (MOVEQ z n) (0 ∷ [])
+  moveq : {s : Text} {z : ℤ} {n : ℕ} → Means8 s (read z) → n < 8 → WrittenHere ls a (bytes "MOVEQ") None (behind_hash s ∷ D n ∷ []) (MOVEQ z n) (0 ∷ [])
   move_data : {s : Text} {v n : ℕ} → Means32 s (read v) → n < 8
       → WrittenHere ls a (bytes "MOVE") L (behind_hash s ∷ D n ∷ []) (MOVE long (immediate v) (direct n)) (0 ∷ 0 ∷ 0 ∷ [])
   load : {n m : ℕ} → n < 8 → m < 8 → WrittenHere ls a (bytes "MOVE") L (at_a n ∷ D m ∷ []) (MOVE long (indirect n) (direct m)) (0 ∷ [])
   store : {n m : ℕ} → n < 8 → m < 8 → WrittenHere ls a (bytes "MOVE") L (D n ∷ at_a m ∷ []) (MOVE long (direct n) (indirect m)) (0 ∷ [])
   copy : {n m : ℕ} → n < 8 → m < 8 → WrittenHere ls a (bytes "MOVE") W (D n ∷ D m ∷ []) (MOVE word (direct n) (direct m)) (0 ∷ [])
   -- "MOVE to and from a label and JMP use the absolute long form"; "Only other text (W-205), or what follows MOVEA's `#`, names a label."
-  load_label : {l : Text} {x n : ℕ} → IsKind l text → find l ls ≡ some x → n < 8
+  load_label : {l : Text} {x n : ℕ} → IsKind l text → find l ls ≡ Some x → n < 8
       → WrittenHere ls a (bytes "MOVE") L (l ∷ D n ∷ []) (MOVE long (absolute x) (direct n)) (0 ∷ 2 ∷ 3 ∷ [])
-  store_label : {l : Text} {x n : ℕ} → IsKind l text → find l ls ≡ some x → n < 8
+  store_label : {l : Text} {x n : ℕ} → IsKind l text → find l ls ≡ Some x → n < 8
       → WrittenHere ls a (bytes "MOVE") L (D n ∷ l ∷ []) (MOVE long (direct n) (absolute x)) (0 ∷ 2 ∷ 3 ∷ [])
-  movea : {l : Text} {x n : ℕ} → find l ls ≡ some x → n < 8
+  movea : {l : Text} {x n : ℕ} → find l ls ≡ Some x → n < 8
       → WrittenHere ls a (bytes "MOVEA") L (behind_hash l ∷ A n ∷ []) (MOVEA long (immediate x) n) (0 ∷ 2 ∷ 3 ∷ [])
   muls_data : {s : Text} {v n : ℕ} → Means16 s (read v) → n < 8
       → WrittenHere ls a (bytes "MULS") W (behind_hash s ∷ D n ∷ []) (MULS (immediate v) n) (0 ∷ 0 ∷ [])
@@ -92,17 +91,17 @@ pub data WrittenHere (ls : Table) (a : ℕ) : Text → Option Text → List Text
       → WrittenHere ls a (bytes "SUBQ") L (behind_hash s ∷ D n ∷ []) (SUBQ long k (direct n)) (0 ∷ [])
   asl : {s : Text} {k n : ℕ} → Means8 s (read (pos k)) → 1 ≤ k → k ≤ 8 → n < 8
       → WrittenHere ls a (bytes "ASL") L (behind_hash s ∷ D n ∷ []) (ASL long k n) (0 ∷ [])
-  nop : WrittenHere ls a (bytes "NOP") none [] NOP (0 ∷ [])
-  jump_number : {m s : Text} {v : ℕ} → Jump m → Numeric s → Means32 s (read v) → WrittenHere ls a m none (s ∷ []) (JMP (absolute v)) (0 ∷ 0 ∷ 0 ∷ [])
-  jump_label : {m l : Text} {x : ℕ} → Jump m → IsKind l text → ¬ Numeric l → find l ls ≡ some x
-      → WrittenHere ls a m none (l ∷ []) (JMP (absolute x)) (0 ∷ 2 ∷ 3 ∷ [])
-  dbra : {s : Text} {n : ℕ} {d : ℤ} → n < 8 → IsKind s text → Takes ls a InWord s d → WrittenHere ls a (bytes "DBRA") none (D n ∷ s ∷ []) (DBRA n d) (0 ∷ 0 ∷ [])
-  branch_to : (c : Condition) {s : Text} {d : ℤ} → IsKind s text → Takes ls a InBranch s d → WrittenHere ls a (branch_named c) none (s ∷ []) (Bcc c d) (0 ∷ [])
+  nop : WrittenHere ls a (bytes "NOP") None [] NOP (0 ∷ [])
+  jump_number : {m s : Text} {v : ℕ} → Jump m → Numeric s → Means32 s (read v) → WrittenHere ls a m None (s ∷ []) (JMP (absolute v)) (0 ∷ 0 ∷ 0 ∷ [])
+  jump_label : {m l : Text} {x : ℕ} → Jump m → IsKind l text → ¬ Numeric l → find l ls ≡ Some x
+      → WrittenHere ls a m None (l ∷ []) (JMP (absolute x)) (0 ∷ 2 ∷ 3 ∷ [])
+  dbra : {s : Text} {n : ℕ} {d : ℤ} → n < 8 → IsKind s text → Takes ls a InWord s d → WrittenHere ls a (bytes "DBRA") None (D n ∷ s ∷ []) (DBRA n d) (0 ∷ 0 ∷ [])
+  branch_to : (c : Condition) {s : Text} {d : ℤ} → IsKind s text → Takes ls a InBranch s d → WrittenHere ls a (branch_named c) None (s ∷ []) (Bcc c d) (0 ∷ [])
 
 -- ---- words
 -- every label's address has 32 bits
 abbrev pub Addresses32 : Table → Type 0
-Addresses32 ls = (l : Text) (x : ℕ) → find l ls ≡ some x → x < 2 ^ 32
+Addresses32 ls = (l : Text) (x : ℕ) → find l ls ≡ Some x → x < 2 ^ 32
 
 -- an instruction's contents at address a: the manual's words of ins, with the marks ms
 pub record HasWords (a : ℕ) (cs : List Content) (ins : Instruction) (ms : List ℕ) : Type 0 where
@@ -112,7 +111,7 @@ pub record HasWords (a : ℕ) (cs : List Content) (ins : Instruction) (ms : List
 -- "for the operand forms of 01" it "gives the manual's encoding": no form is left out
 pub record Encoded (ls : Table) (a : ℕ) (i : Said) (ins : Instruction) (ms : List ℕ) : Type 0 where
   pub contents : List Content
-  pub emits : manual_encode ls a i ≡ some contents
+  pub emits : manual_encode ls a i ≡ Some contents
   pub manual : HasWords a contents ins ms
 
 unfoldable pub NoFormLeftOut : Type 0
@@ -128,7 +127,7 @@ pub record IsManual (ls : Table) (a : ℕ) (i : Said) (cs : List Content) : Type
   pub manual : HasWords a cs instruction marks
 
 unfoldable pub WordsAreTheManuals : Type 0
-WordsAreTheManuals = (ls : Table) (a : ℕ) (i : Said) (cs : List Content) → Addresses32 ls → manual_encode ls a i ≡ some cs → IsManual ls a i cs
+WordsAreTheManuals = (ls : Table) (a : ℕ) (i : Said) (cs : List Content) → Addresses32 ls → manual_encode ls a i ≡ Some cs → IsManual ls a i cs
 
 -- in the manual's words of a form no field runs over into another
 unfoldable pub FieldsHoldHere : Type 0

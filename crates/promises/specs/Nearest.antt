@@ -1,7 +1,6 @@
 -- W-201, "Which label is this near?": the answer by the records that the lines make, apart from the table of labels and the search
 -- in it; its refusals; and that it moves with the base. Assumes nothing.
-use Rattle.std.specs.Prelude.{ℕ, zero, suc, ◌+◌, ◌<◌, ◌≤◌, ◌≡◌, ◌↔◌, List, [], ◌∷◌, ◌++◌, length, take, drop}
-use Rattle.std.proofs.Math.Option.{some}
+use Rattle.std.specs.Prelude.{ℕ, zero, suc, ◌+◌, ◌<◌, ◌≤◌, ◌≡◌, ◌↔◌, List, [], ◌∷◌, ◌++◌, length, take, drop, Some}
 use Rattle.rules.specs.Text.{Text, cut_at}
 use Rattle.rules.specs.Line.{Name, name, line_of, size}
 use Rattle.rules.specs.Answer.{accepted}
@@ -40,7 +39,7 @@ pub data RecordedAtBy (z : Sizes) (base : ℕ) (s l : Text) (x : ℕ) : Type 0 w
 unfoldable pub FoundIsLast : Type 0
 FoundIsLast =
     (z : Sizes) (base : ℕ) (s : Text) (p : Pass) → pass_at_by z base s ≡ accepted p
-    → (l : Text) (x : ℕ) → (find l p.labels ≡ some x) ↔ RecordedAtBy z base s l x
+    → (l : Text) (x : ℕ) → (find l p.labels ≡ Some x) ↔ RecordedAtBy z base s l x
 
 -- with 01's sizes
 abbrev pub Records : ℕ → Text → Text → ℕ → ℕ → ℕ → Type 0

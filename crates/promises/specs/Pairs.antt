@@ -1,7 +1,5 @@
 -- 02's W-207, the mover's part, for every list of well paired marks, whatever made it. Assumes nothing.
-use Rattle.std.specs.Prelude.{ℕ, zero, suc, ◌+◌, ◌*◌, ◌%◌, ◌^◌, ◌<◌, ◌≤◌, ◌≡◌, ◌≢◌, cond, List, [], ◌∷◌, map, ltb, eqb, length, get_or, ℤ, pos, negsuc, ◌+ℤ◌, nat_abs}
-use Rattle.std.proofs.Math.Option.{none, some}
-use Rattle.std.proofs.Math.ListN.{get_elem?}
+use Rattle.std.specs.Prelude.{ℕ, zero, suc, ◌+◌, ◌*◌, ◌%◌, ◌^◌, ◌<◌, ◌≤◌, ◌≡◌, ◌≢◌, cond, List, [], ◌∷◌, map, ltb, eqb, length, get_or, ℤ, pos, negsuc, ◌+ℤ◌, nat_abs, None, Some, slice_get}
 use Rattle.rules.specs.Limits.{last_address, distance_limit}
 use Rattle.rules.specs.Number.{modulo}
 use Rattle.rules.specs.Answer.{Answer, accepted, refuse_if, refuse_at}
@@ -39,7 +37,7 @@ answer_before x n d =
 
 -- each place of a list
 abbrev pub Each : (Place → Type 0) → List Place → Type 0
-Each P l = (i : ℕ) (p : Place) → get_elem? l i ≡ some p → P p
+Each P l = (i : ℕ) (p : Place) → slice_get l i ≡ Some p → P p
 
 -- where the first n marks are 0 and 1 the mover gives its old answer and words, in any slices, and the tally its old list
 pub record MovesAsBefore : Type 0 where
@@ -71,8 +69,8 @@ PairsFollowTally =
 -- tally has there at a total
 unfoldable pub PairsAddTotal : Type 0
 PairsAddTotal =
-    (l : List Place) → WellPaired l → (total : ℤ) (i : ℕ) (p q p' q' : Place) → get_elem? l i ≡ some p → get_elem? l (suc i) ≡ some q → p.mark ≡ 2
-    → get_elem? (tally_list total l) i ≡ some p' → get_elem? (tally_list total l) (suc i) ≡ some q'
+    (l : List Place) → WellPaired l → (total : ℤ) (i : ℕ) (p q p' q' : Place) → slice_get l i ≡ Some p → slice_get l (suc i) ≡ Some q → p.mark ≡ 2
+    → slice_get (tally_list total l) i ≡ Some p' → slice_get (tally_list total l) (suc i) ≡ Some q'
     → (p'.word < 65536) × (q'.word < 65536)
     × Congruent (2 ^ 32) (pos (65536 * p'.word + q'.word)) (pos (65536 * p.word + q.word) +ℤ total)
 
@@ -94,11 +92,11 @@ LawfulListsArePaired = (z : Sizes) (e : Encoder) (most : ℕ) → Lawful z e mos
 
 -- the readings by example: a broken pair's place is the 2 without a 3 or the 3 without a 2, and pairs lie within the count
 pub record MarkExamples : Type 0 where
-  pub twice_high : first_bad_mark 0 0 3 (2 ∷ 2 ∷ 3 ∷ []) ≡ some 0
-  pub twice_low : first_bad_mark 0 0 3 (2 ∷ 3 ∷ 3 ∷ []) ≡ some 2
-  pub over : first_bad_mark 0 0 2 (2 ∷ 4 ∷ []) ≡ some 0
-  pub past_the_count : first_bad_mark 0 0 1 (2 ∷ 3 ∷ []) ≡ some 0
-  pub good : first_bad_mark 0 0 5 (1 ∷ 2 ∷ 3 ∷ 0 ∷ 1 ∷ []) ≡ none
+  pub twice_high : first_bad_mark 0 0 3 (2 ∷ 2 ∷ 3 ∷ []) ≡ Some 0
+  pub twice_low : first_bad_mark 0 0 3 (2 ∷ 3 ∷ 3 ∷ []) ≡ Some 2
+  pub over : first_bad_mark 0 0 2 (2 ∷ 4 ∷ []) ≡ Some 0
+  pub past_the_count : first_bad_mark 0 0 1 (2 ∷ 3 ∷ []) ≡ Some 0
+  pub good : first_bad_mark 0 0 5 (1 ∷ 2 ∷ 3 ∷ 0 ∷ 1 ∷ []) ≡ None
 
 abbrev pair : ℕ → ℕ → List Place
 pair high low = record { address = 10; word = high; mark = 2 } ∷ record { address = 12; word = low; mark = 3 } ∷ []

@@ -1,7 +1,6 @@
 -- W-204, "Number reading says what failed": what each of the reader's four answers means, said of the text's bytes and by plain sums,
 -- apart from the reader and for each type of number; what a line's number has to do with its task; and examples. Assumes nothing.
-use Rattle.std.specs.Prelude.{ℕ, ◌+◌, ◌*◌, ◌^◌, ◌<◌, ◌≤◌, ◌≡◌, ◌≢◌, ◌↔◌, Bool, true, false, ◌||◌, List, [], ◌∷◌, ◌++◌, map, length, get_or, ℤ, pos, negsuc, neg_ℤ}
-use Rattle.std.proofs.Math.Option.{Option, none, some}
+use Rattle.std.specs.Prelude.{ℕ, ◌+◌, ◌*◌, ◌^◌, ◌<◌, ◌≤◌, ◌≡◌, ◌≢◌, ◌↔◌, Bool, true, false, ◌||◌, List, [], ◌∷◌, ◌++◌, map, length, get_or, ℤ, pos, negsuc, neg_ℤ, Option, None, Some}
 use Rattle.rules.specs.Text.{Text, bytes, starts}
 use Rattle.rules.specs.Number.{digit_value, Failure, no_digits, bad_digit, out_of_range, Reading, read, failed, unsigned_reading, signed_reading, reading32, reading16, reading8, immediate}
 use Rattle.rules.specs.Line.{Task, skipped, end, org, no_org, label_only, Instruction, instruction, value, space, line_of, reading_in}
@@ -64,17 +63,17 @@ pub record MeansPrefixed {A : Type 0} (signed : Bool) (Has : Bool → ℕ → A 
 
 -- "or no piece at all"
 pub data MeansPiece (P : Text → Reading ℕ → Type 0) : Option Text → Reading ℕ → Type 0 where
-  missing : MeansPiece P none (failed no_digits)
-  present : {s : Text} {r : Reading ℕ} → P s r → MeansPiece P (some s) r
+  missing : MeansPiece P None (failed no_digits)
+  present : {s : Text} {r : Reading ℕ} → P s r → MeansPiece P (Some s) r
 
 -- an operand that may be asked for a number: an immediate, which has `#` in front, and a branch's, which starts with a sign
 pub data MeansImmediate {A : Type 0} (P : Text → Reading A → Type 0) : Text → Option (Reading A) → Type 0 where
-  no_hash : {s : Text} → starts (bytes "#") s ≡ false → MeansImmediate P s none
-  hash : {s t : Text} {r : Reading A} → s ≡ bytes "#" ++ t → P t r → MeansImmediate P s (some r)
+  no_hash : {s : Text} → starts (bytes "#") s ≡ false → MeansImmediate P s None
+  hash : {s t : Text} {r : Reading A} → s ≡ bytes "#" ++ t → P t r → MeansImmediate P s (Some r)
 
 pub data MeansWritten (P : Text → Reading ℤ → Type 0) : Text → Option (Reading ℤ) → Type 0 where
-  no_sign_first : {s : Text} → (starts (bytes "+") s || starts (bytes "-") s) ≡ false → MeansWritten P s none
-  sign_first : {s : Text} {r : Reading ℤ} → (starts (bytes "+") s || starts (bytes "-") s) ≡ true → P s r → MeansWritten P s (some r)
+  no_sign_first : {s : Text} → (starts (bytes "+") s || starts (bytes "-") s) ≡ false → MeansWritten P s None
+  sign_first : {s : Text} {r : Reading ℤ} → (starts (bytes "+") s || starts (bytes "-") s) ≡ true → P s r → MeansWritten P s (Some r)
 
 -- ---- the types
 abbrev pub Means32 : Text → Reading ℕ → Type 0
@@ -112,15 +111,15 @@ pub record SignsNotAllowed : Type 0 where
 -- ---- lines
 -- a line's task and what its number said: a number is in the task exactly if it is read
 pub data Passes : Task → Option (Reading ℕ) → Type 0 where
-  org_read : {v : ℕ} → Passes (org v) (some (read v))
-  org_failed : {x : Failure} → Passes no_org (some (failed x))
-  value_read : {n v : ℕ} → Passes (value n v) (some (read v))
-  value_failed : {n : ℕ} {x : Failure} → Passes (space n) (some (failed x))
-  no_value : {n : ℕ} → Passes (space n) none
-  not_read : Passes skipped none
-  ends : Passes end none
-  only_labelled : Passes label_only none
-  instructs : {i : Instruction} → Passes (instruction i) none
+  org_read : {v : ℕ} → Passes (org v) (Some (read v))
+  org_failed : {x : Failure} → Passes no_org (Some (failed x))
+  value_read : {n v : ℕ} → Passes (value n v) (Some (read v))
+  value_failed : {n : ℕ} {x : Failure} → Passes (space n) (Some (failed x))
+  no_value : {n : ℕ} → Passes (space n) None
+  not_read : Passes skipped None
+  ends : Passes end None
+  only_labelled : Passes label_only None
+  instructs : {i : Instruction} → Passes (instruction i) None
 
 unfoldable pub LinesPassOn : Type 0
 LinesPassOn = (s : Text) → Passes (line_of s).task (line_reading s)
@@ -155,18 +154,18 @@ samples32 =
 
 unfoldable pub samples16 : List (Sample (Option (Reading ℕ)))
 samples16 =
-    bytes "#-" reads some bad ∷ bytes "#-1" reads some bad ∷ bytes "#65536" reads some far ∷ bytes "#$FFFF" reads some (read 65535) ∷ bytes "5" reads none ∷ []
+    bytes "#-" reads Some bad ∷ bytes "#-1" reads Some bad ∷ bytes "#65536" reads Some far ∷ bytes "#$FFFF" reads Some (read 65535) ∷ bytes "5" reads None ∷ []
 
 unfoldable pub samples8 : List (Sample (Option (Reading ℤ)))
 samples8 =
-    bytes "300" reads none ∷ bytes "#300" reads some far ∷ bytes "#3O" reads some bad ∷ bytes "#+" reads some no ∷ bytes "#$-" reads some no
-    ∷ bytes "#+-1" reads some bad ∷ bytes "#128" reads some far ∷ bytes "#-129" reads some far ∷ bytes "#0x-80" reads some (read (negsuc 127)) ∷ []
+    bytes "300" reads None ∷ bytes "#300" reads Some far ∷ bytes "#3O" reads Some bad ∷ bytes "#+" reads Some no ∷ bytes "#$-" reads Some no
+    ∷ bytes "#+-1" reads Some bad ∷ bytes "#128" reads Some far ∷ bytes "#-129" reads Some far ∷ bytes "#0x-80" reads Some (read (negsuc 127)) ∷ []
 
 unfoldable pub samples_of_lines : List (Sample (Option (Reading ℕ)))
 samples_of_lines =
-    bytes "ORG" reads some no ∷ bytes "DC.L" reads some no ∷ bytes "X DC.L" reads some no ∷ bytes "FOODC.L 5" reads some no ∷ bytes "X: DC.L: 5" reads some no
-    ∷ bytes "DC.L 5,6" reads some bad ∷ bytes "ORG: 5" reads some (read 5) ∷ bytes "x: dc.b $10" reads some (read 16) ∷ bytes "ORG 4294967296" reads some far
-    ∷ bytes "X: ORG 5" reads none ∷ bytes "DS.L 5" reads none ∷ bytes "END 5" reads none ∷ bytes "; DC.L 5" reads none ∷ bytes "X:" reads none ∷ []
+    bytes "ORG" reads Some no ∷ bytes "DC.L" reads Some no ∷ bytes "X DC.L" reads Some no ∷ bytes "FOODC.L 5" reads Some no ∷ bytes "X: DC.L: 5" reads Some no
+    ∷ bytes "DC.L 5,6" reads Some bad ∷ bytes "ORG: 5" reads Some (read 5) ∷ bytes "x: dc.b $10" reads Some (read 16) ∷ bytes "ORG 4294967296" reads Some far
+    ∷ bytes "X: ORG 5" reads None ∷ bytes "DS.L 5" reads None ∷ bytes "END 5" reads None ∷ bytes "; DC.L 5" reads None ∷ bytes "X:" reads None ∷ []
 
 pub record ReadingExamples : Type 0 where
   pub of_32_bits : SamplesHold reading32 samples32

@@ -1,9 +1,7 @@
 -- The Rust original, src/assembler.rs, function by function under its own names, `rust_` in front where another definition
 -- has the name. Callees stand first, so the file's order is the Rust's by groups: parsers, encoders, instructions, `assemble`.
 -- `self.labels` is a parameter, `println!` and what is marked `#[allow(dead_code)]` are left out. Assumes nothing.
-use Rattle.std.specs.Prelude.{ℕ, ◌-◌, Bool, false, not, ◌&&◌, ◌||◌, cond, length, drop, leb, ltb, eqb, ℤ, pos, negsuc}
-use Rattle.std.proofs.Math.Option
-use Rattle.std.proofs.Math.Option.{Option, none, some}
+use Rattle.std.specs.Prelude.{ℕ, ◌-◌, Bool, false, not, ◌&&◌, ◌||◌, cond, length, drop, leb, ltb, eqb, ℤ, pos, negsuc, Option, None, Some, option_map}
 use mathlib.Core.List.{List, [], ◌∷◌, map, foldl}
 use Rattle.std.specs.Int.Bits.{bit_and, bit_or}
 use Rattle.rules.specs.Text.{Text, bytes}
@@ -35,13 +33,13 @@ Code = ℕ × Option ℕ
 
 -- `.map(|c| (c, None))`
 abbrev pub no_ext : Option ℕ → Option Code
-no_ext o = Option.map (λ c. (c, none)) o
+no_ext o = option_map (λ c. (c, None)) o
 
 -- an Option<u32>; `.ok()` is left out here and below, as the readers of RustStr answer options
 unfoldable pub parse_org_directive : Text → Option ℕ
 parse_org_directive line =
     let parts = split_whitespace line in
-    cond (ltb (length parts) 2) none
+    cond (ltb (length parts) 2) None
     (let addr_str = at parts 1 in
     cond (starts_with addr_str (bytes "$")) (u_from_str_radix 32 (drop 1 addr_str) 16)
     (cond (starts_with addr_str (bytes "0x")) (u_from_str_radix 32 (drop 2 addr_str) 16) (u_parse 32 addr_str)))
@@ -94,23 +92,23 @@ unfoldable pub parse_data_directive_with_value : Text → Option Directive
 parse_data_directive_with_value line =
     let line_upper = to_uppercase line in
     let parts = label_and_directive line in
-    some (record { label = parts.label; size = directive_size line_upper; value = directive_value line_upper parts.directive_str })
+    Some (record { label = parts.label; size = directive_size line_upper; value = directive_value line_upper parts.directive_str })
 
 -- `hex_str` of parse_immediate and parse_immediate_u16
 unfoldable pub hex_str : Text → Text
-hex_str value_str = elim (strip_prefix value_str (bytes "0x")) [ none ↦ drop 1 value_str | some stripped ↦ stripped ]
+hex_str value_str = elim (strip_prefix value_str (bytes "0x")) [ None ↦ drop 1 value_str | Some stripped ↦ stripped ]
 
 -- an Option<i8>
 unfoldable pub parse_immediate : Text → Option ℤ
 parse_immediate operand =
-    cond (not (starts_with operand (bytes "#"))) none
+    cond (not (starts_with operand (bytes "#"))) None
     (let value_str = drop 1 operand in
     cond (starts_with value_str (bytes "0x") || starts_with value_str (bytes "$")) (i8_from_str_radix (hex_str value_str) 16) (i8_parse value_str))
 
 -- an Option<u16>
 unfoldable pub parse_immediate_u16 : Text → Option ℕ
 parse_immediate_u16 operand =
-    cond (not (starts_with operand (bytes "#"))) none
+    cond (not (starts_with operand (bytes "#"))) None
     (let value_str = drop 1 operand in
     cond (starts_with value_str (bytes "0x") || starts_with value_str (bytes "$")) (u_from_str_radix 16 (hex_str value_str) 16) (u_parse 16 value_str))
 
@@ -123,7 +121,7 @@ parse_data_register operand =
       when (is_ascii_digit reg_num)
           (do
             d ← to_digit reg_num 10
-            let num = as_u8 d in when (leb num 7) (some num)))
+            let num = as_u8 d in when (leb num 7) (Some num)))
 
 -- an Option<u8>
 unfoldable pub parse_address_register : Text → Option ℕ
@@ -134,7 +132,7 @@ parse_address_register operand =
       when (is_ascii_digit reg_num)
           (do
             d ← to_digit reg_num 10
-            let num = as_u8 d in when (leb num 7) (some num)))
+            let num = as_u8 d in when (leb num 7) (Some num)))
 
 -- `&operand[1..operand.len() - 1]` cannot fail: no byte is both brackets
 unfoldable pub parse_indirect_register : Text → Option ℕ
@@ -147,7 +145,7 @@ unfoldable pub parse_immediate_address : HashMap → Text → Option ℕ
 parse_immediate_address labels operand =
     cond (starts_with operand (bytes "$")) (u_from_str_radix 16 (drop 1 operand) 16)
     (cond (starts_with operand (bytes "0x")) (u_from_str_radix 16 (drop 2 operand) 16)
-    (cond (all is_ascii_digit operand) (u_parse 16 operand) (do address ← look_up labels operand; some (as_u16 address))))
+    (cond (all is_ascii_digit operand) (u_parse 16 operand) (do address ← look_up labels operand; Some (as_u16 address))))
 
 -- an Option<i8>; the subtractions are those of i32
 unfoldable pub parse_branch_displacement : HashMap → Text → ℕ → Option ℤ
@@ -155,68 +153,68 @@ parse_branch_displacement labels operand current_address =
     (do
       target_address ← look_up labels operand
       let displacement = sub_i32 (sub_i32 (as_signed 32 target_address) (as_signed 32 current_address)) (pos 2) in
-          when (range_contains (negsuc 127) (pos 127) displacement) (some (as_i8 displacement)))
+          when (range_contains (negsuc 127) (pos 127) displacement) (Some (as_i8 displacement)))
     then when (starts_with operand (bytes "+") || starts_with operand (bytes "-")) (i8_parse operand)
 
 -- MOVEQ #immediate, Dn
 unfoldable pub encode_moveq : AssemblyInstruction → Option ℕ
 encode_moveq instruction =
-    cond (not (eqb (length instruction.operands) 2)) none
+    cond (not (eqb (length instruction.operands) 2)) None
     (do
       immediate ← parse_immediate (at instruction.operands 0)
       register ← parse_data_register (at instruction.operands 1)
-      some (0x7000 or (as_u16 register << 9) or (i8_as_u16 immediate and 0xFF)))
+      Some (0x7000 or (as_u16 register << 9) or (i8_as_u16 immediate and 0xFF)))
 
 -- MOVE with extension word support: blocks tried in order, each returning or falling through
 unfoldable pub encode_move_with_ext : HashMap → AssemblyInstruction → Option Code
 encode_move_with_ext labels instruction =
-    cond (not (eqb (length instruction.operands) 2)) none
+    cond (not (eqb (length instruction.operands) 2)) None
     (let source = at instruction.operands 0 in
     let dest = at instruction.operands 1 in
     when (starts_with source (bytes "#"))
     (do
       dest_reg ← parse_data_register dest
       imm_value ← parse_immediate_u16 source
-      some (0x21FC or (as_u16 dest_reg << 9), some imm_value))
+      Some (0x21FC or (as_u16 dest_reg << 9), Some imm_value))
     then (do
       src_areg ← parse_indirect_register source
       dest_reg ← parse_data_register dest
-      some (0x2010 or (as_u16 dest_reg << 9) or as_u16 src_areg, none))
+      Some (0x2010 or (as_u16 dest_reg << 9) or as_u16 src_areg, None))
     then (do
       src_reg ← parse_data_register source
       dest_areg ← parse_indirect_register dest
-      some (0x2080 or (as_u16 dest_areg << 9) or as_u16 src_reg, none))
+      Some (0x2080 or (as_u16 dest_areg << 9) or as_u16 src_reg, None))
     then (do
       source_reg ← parse_data_register source
       dest_reg ← parse_data_register dest
-      some (0x3000 or (as_u16 dest_reg << 9) or as_u16 source_reg, none))
+      Some (0x3000 or (as_u16 dest_reg << 9) or as_u16 source_reg, None))
     then (do
       dest_reg ← parse_data_register dest
       label_addr ← look_up labels source
-      some (0x2078 or (as_u16 dest_reg << 9), some (as_u16 label_addr)))
+      Some (0x2078 or (as_u16 dest_reg << 9), Some (as_u16 label_addr)))
     then (do
       source_reg ← parse_data_register source
       label_addr ← look_up labels dest
-      some (0x23C0 or as_u16 source_reg, some (as_u16 label_addr)))
-    then none)
+      Some (0x23C0 or as_u16 source_reg, Some (as_u16 label_addr)))
+    then None)
 
 -- MOVEA #label, An
 unfoldable pub encode_movea_with_ext : HashMap → AssemblyInstruction → Option Code
 encode_movea_with_ext labels instruction =
-    cond (not (eqb (length instruction.operands) 2)) none
+    cond (not (eqb (length instruction.operands) 2)) None
     (let source = at instruction.operands 0 in
     let dest = at instruction.operands 1 in
     when (starts_with source (bytes "#"))
     (do
       dest_areg ← parse_address_register dest
       label_addr ← look_up labels (drop 1 source)
-      some (0x207C or (as_u16 dest_areg << 9), some (as_u16 label_addr)))
-    then none)
+      Some (0x207C or (as_u16 dest_areg << 9), Some (as_u16 label_addr)))
+    then None)
 
 -- MULS #imm, Dn or MULS Dn, Dm
 unfoldable pub encode_muls_with_ext : AssemblyInstruction → Option Code
 encode_muls_with_ext instruction =
-    cond (not (eqb (length instruction.operands) 2)) none
+    cond (not (eqb (length instruction.operands) 2)) None
     (let source = at instruction.operands 0 in
     let dest = at instruction.operands 1 in
     (do
@@ -224,101 +222,101 @@ encode_muls_with_ext instruction =
       cond (starts_with source (bytes "#"))
           (do
             imm_value ← parse_immediate_u16 source
-            some (0xC1FC or (as_u16 dest_reg << 9), some imm_value))
+            Some (0xC1FC or (as_u16 dest_reg << 9), Some imm_value))
           (do
             src_reg ← parse_data_register source
-            some (0xC1C0 or (as_u16 dest_reg << 9) or as_u16 src_reg, none)))
-    then none)
+            Some (0xC1C0 or (as_u16 dest_reg << 9) or as_u16 src_reg, None)))
+    then None)
 
 -- Bcc displacement
 unfoldable pub encode_branch : HashMap → AssemblyInstruction → ℕ → Option ℕ
 encode_branch labels instruction condition =
-    cond (is_empty instruction.operands) none
+    cond (is_empty instruction.operands) None
     (do
       displacement ← parse_branch_displacement labels (at instruction.operands 0) instruction.address
-      some (0x6000 or (condition << 8) or (i8_as_u16 displacement and 0xFF)))
+      Some (0x6000 or (condition << 8) or (i8_as_u16 displacement and 0xFF)))
 
 -- ADD Dx, Dy
 unfoldable pub encode_add : AssemblyInstruction → Option ℕ
 encode_add instruction =
-    cond (not (eqb (length instruction.operands) 2)) none
+    cond (not (eqb (length instruction.operands) 2)) None
     (do
       source_reg ← parse_data_register (at instruction.operands 0)
       dest_reg ← parse_data_register (at instruction.operands 1)
-      some (0xD040 or (as_u16 dest_reg << 9) or as_u16 source_reg))
+      Some (0xD040 or (as_u16 dest_reg << 9) or as_u16 source_reg))
 
 -- SUB Dx, Dy
 unfoldable pub encode_sub : AssemblyInstruction → Option ℕ
 encode_sub instruction =
-    cond (not (eqb (length instruction.operands) 2)) none
+    cond (not (eqb (length instruction.operands) 2)) None
     (do
       source_reg ← parse_data_register (at instruction.operands 0)
       dest_reg ← parse_data_register (at instruction.operands 1)
-      some (0x9040 or (as_u16 dest_reg << 9) or as_u16 source_reg))
+      Some (0x9040 or (as_u16 dest_reg << 9) or as_u16 source_reg))
 
 -- CMP #immediate, Dy or CMP Dx, Dy
 unfoldable pub encode_cmp_with_ext : AssemblyInstruction → Option Code
 encode_cmp_with_ext instruction =
-    cond (not (eqb (length instruction.operands) 2)) none
+    cond (not (eqb (length instruction.operands) 2)) None
     (cond (starts_with (at instruction.operands 0) (bytes "#"))
     (do
       immediate ← parse_immediate_u16 (at instruction.operands 0)
       dest_reg ← parse_data_register (at instruction.operands 1)
-      some (0x0C80 or as_u16 dest_reg, some immediate))
+      Some (0x0C80 or as_u16 dest_reg, Some immediate))
     (do
       source_reg ← parse_data_register (at instruction.operands 0)
       dest_reg ← parse_data_register (at instruction.operands 1)
-      some (0xB040 or (as_u16 dest_reg << 9) or as_u16 source_reg, none)))
+      Some (0xB040 or (as_u16 dest_reg << 9) or as_u16 source_reg, None)))
 
 -- JMP: the address is not encoded
 unfoldable pub encode_jump : HashMap → AssemblyInstruction → Option ℕ
 encode_jump labels instruction =
-    cond (not (eqb (length instruction.operands) 1)) none
-    (cond (rust_is_some (parse_immediate_address labels (at instruction.operands 0))) (some 0x4EF8) none)
+    cond (not (eqb (length instruction.operands) 1)) None
+    (cond (rust_is_some (parse_immediate_address labels (at instruction.operands 0))) (Some 0x4EF8) None)
 
 -- TST.L Dn
 unfoldable pub encode_tst : AssemblyInstruction → Option ℕ
 encode_tst instruction =
-    cond (not (eqb (length instruction.operands) 1)) none
+    cond (not (eqb (length instruction.operands) 1)) None
     (do
       reg ← parse_data_register (at instruction.operands 0)
-      some (0x4A80 or as_u16 reg))
+      Some (0x4A80 or as_u16 reg))
 
 -- SUBQ.L #immediate, Dn: "Convert 8 to 0 for encoding"
 unfoldable pub encode_subq : AssemblyInstruction → Option ℕ
 encode_subq instruction =
-    cond (not (eqb (length instruction.operands) 2)) none
+    cond (not (eqb (length instruction.operands) 2)) None
     (do
       i8 ← parse_immediate (at instruction.operands 0)
       reg ← parse_data_register (at instruction.operands 1)
       let immediate = i8_as_u16 i8 in
           let data' = cond (eqb immediate 8) 0 (immediate and 7) in
-          some (0x5180 or (data' << 9) or as_u16 reg))
+          Some (0x5180 or (data' << 9) or as_u16 reg))
 
 -- ASL.L #immediate, Dn
 unfoldable pub encode_asl : AssemblyInstruction → Option ℕ
 encode_asl instruction =
-    cond (not (eqb (length instruction.operands) 2)) none
+    cond (not (eqb (length instruction.operands) 2)) None
     (do
       i8 ← parse_immediate (at instruction.operands 0)
       reg ← parse_data_register (at instruction.operands 1)
       let shift_count = i8_as_u16 i8 in
           let count = cond (eqb shift_count 8) 0 (shift_count and 7) in
-          some (0xE180 or (count << 9) or as_u16 reg))
+          Some (0xE180 or (count << 9) or as_u16 reg))
 
 -- DBRA Dn, label: the displacement is not encoded
 unfoldable pub encode_dbra : HashMap → AssemblyInstruction → Option ℕ
 encode_dbra labels instruction =
-    cond (not (eqb (length instruction.operands) 2)) none
+    cond (not (eqb (length instruction.operands) 2)) None
     (do
       reg ← parse_data_register (at instruction.operands 0)
       displacement ← parse_branch_displacement labels (at instruction.operands 1) instruction.address
-      some (0x51C8 or as_u16 reg))
+      Some (0x51C8 or as_u16 reg))
 
 -- `== Some(&"L")`
 unfoldable pub rust_is_l : Option Text → Bool
-rust_is_l none = false
-rust_is_l (some p) = equals p (bytes "L")
+rust_is_l None = false
+rust_is_l (Some p) = equals p (bytes "L")
 
 -- `size` of parse_instruction, with two or more operands
 unfoldable pub rust_instruction_size : Text → List Text → Text → Text → ℕ
@@ -365,8 +363,8 @@ encode_instruction_with_ext labels instruction =
     ∷ (bytes "BLT" ⇒ no_ext (encode_branch labels instruction 0xD))
     ∷ (bytes "BGT" ⇒ no_ext (encode_branch labels instruction 0xE))
     ∷ (bytes "BLE" ⇒ no_ext (encode_branch labels instruction 0xF))
-    ∷ (bytes "NOP" ⇒ some (0x4E71, none))
-    ∷ (bytes "SIMHALT" ⇒ some (0x4E72, none))
+    ∷ (bytes "NOP" ⇒ Some (0x4E71, None))
+    ∷ (bytes "SIMHALT" ⇒ Some (0x4E72, None))
     ∷ (bytes "ADD" ⇒ no_ext (encode_add instruction))
     ∷ (bytes "SUB" ⇒ no_ext (encode_sub instruction))
     ∷ (bytes "CMP" ⇒ encode_cmp_with_ext instruction)
@@ -403,8 +401,8 @@ insert_label label s =
 
 -- `if let Some(val) = value { data_values.push((current_address, val)); }`
 unfoldable pub push_value : Option ℕ → State → State
-push_value none s = s
-push_value (some val) s =
+push_value None s = s
+push_value (Some val) s =
     record {
       labels = s.labels;
       instructions = s.instructions;
@@ -414,8 +412,8 @@ push_value (some val) s =
 
 -- "Handle data directives"
 unfoldable pub handle_directive : Option Directive → State → State
-handle_directive none s = s
-handle_directive (some d) s =
+handle_directive None s = s
+handle_directive (Some d) s =
     let s₁ = cond (not (is_empty d.label)) (insert_label d.label s) s in
     let s₂ = push_value d.value s₁ in
     set_address (add_u32 s₂.current_address d.size) s₂
@@ -446,8 +444,8 @@ handle_label parts s =
 
 -- "Handle ORG directive"
 unfoldable pub handle_org : Option ℕ → State → State
-handle_org none s = s
-handle_org (some addr) s = set_address addr s
+handle_org None s = s
+handle_org (Some addr) s = set_address addr s
 
 -- the loop's body
 unfoldable pub body : Text → State → Flow
@@ -470,13 +468,13 @@ push_data machine_code d =
 
 -- `if let Some(ext) = ext_word { .. }`
 unfoldable pub push_ext : List (ℕ × ℕ) → ℕ → Option ℕ → List (ℕ × ℕ)
-push_ext machine_code address none = machine_code
-push_ext machine_code address (some ext) = push machine_code (add_u32 address 2, ext)
+push_ext machine_code address None = machine_code
+push_ext machine_code address (Some ext) = push machine_code (add_u32 address 2, ext)
 
 -- an instruction's words, after the machine code so far
 unfoldable pub push_code : List (ℕ × ℕ) → ℕ → Option Code → List (ℕ × ℕ)
-push_code machine_code address none = machine_code
-push_code machine_code address (some c) = push_ext (push machine_code (address, c.0)) address c.1
+push_code machine_code address None = machine_code
+push_code machine_code address (Some c) = push_ext (push machine_code (address, c.0)) address c.1
 
 -- `if let Some((code, ext_word)) = self.encode_instruction_with_ext(inst) { .. }`
 unfoldable pub push_instruction : HashMap → List (ℕ × ℕ) → AssemblyInstruction → List (ℕ × ℕ)

@@ -1,8 +1,8 @@
 -- Rust's std as far as the Rust assembler uses it, on ASCII text, each function from its documentation: strings, numbers in
 -- text, machine numbers, and a map. A string is the list of its bytes. Assumes nothing.
-use Rattle.std.specs.Prelude.{ℕ, zero, suc, ◌+◌, ◌-◌, ◌*◌, ◌/◌, ◌^◌, ◌%◌, Bool, true, false, not, ◌&&◌, ◌||◌, cond, List, [], ◌∷◌, ◌++◌, map, reverse, length, take, drop, get_or, leb, ltb, eqb, ℤ, pos, negsuc, neg_ℤ, ◌-ℤ◌}
-use Rattle.std.proofs.Math.Option.{Option, none, some, bind, or_else}
+use Rattle.std.specs.Prelude.{ℕ, zero, suc, ◌+◌, ◌-◌, ◌*◌, ◌/◌, ◌^◌, ◌%◌, Bool, true, false, not, ◌&&◌, ◌||◌, cond, List, [], ◌∷◌, ◌++◌, map, reverse, length, take, drop, get_or, leb, ltb, eqb, ℤ, pos, negsuc, neg_ℤ, ◌-ℤ◌, Option, None, Some}
 use Rattle.std.specs.Int.Signed.{le_z}
+use Rattle.rules.specs.Option.{bind, or_else}
 use Rattle.rules.specs.Text.{Text, bytes}
 
 -- `?` and `if let Some(x) = o { .. }`: what follows where o is there. A block of `if`s that ends in `return` comes to
@@ -17,20 +17,20 @@ abbrev pub ◌then◌ : {A : Type 0} → Option A → Option A → Option A
 
 -- `if b { block }`
 abbrev pub when : {A : Type 0} → Bool → Option A → Option A
-when b a = cond b a none
+when b a = cond b a None
 
 -- `o.is_some()`
 unfoldable pub rust_is_some : {A : Type 0} → Option A → Bool
-rust_is_some none = false
-rust_is_some (some a) = true
+rust_is_some None = false
+rust_is_some (Some a) = true
 
 -- Vec: `v[i]`, of which the callers know that it is there; `v.get(i)`; `v.push(x)`; `.filter(f)`
 abbrev pub at : List Text → ℕ → Text
 at v i = get_or v i []
 
 unfoldable pub get : {A : Type 0} → List A → ℕ → Option A
-get [] i = none
-get (x ∷ v) zero = some x
+get [] i = None
+get (x ∷ v) zero = Some x
 get (x ∷ v) (suc i) = get v i
 
 abbrev pub push : {A : Type 0} → List A → A → List A
@@ -115,7 +115,7 @@ contains [] p = starts_with [] p
 contains (b ∷ s) p = starts_with (b ∷ s) p || contains s p
 
 unfoldable pub strip_prefix : Text → Text → Option Text
-strip_prefix s p = cond (starts_with s p) (some (drop (length p) s)) none
+strip_prefix s p = cond (starts_with s p) (Some (drop (length p) s)) None
 
 -- `&s[a..b]`
 unfoldable pub slice : Text → ℕ → ℕ → Text
@@ -137,17 +137,17 @@ is_ascii_digit c = leb 48 c && leb c 57
 -- char::to_digit: a digit is one of 0-9, a-z, A-Z; "None if the char does not refer to a digit in the given radix"
 unfoldable pub digit : ℕ → Option ℕ
 digit c =
-    cond (is_ascii_digit c) (some (c - 48))
-    (cond (leb 65 c && leb c 90) (some (c - 55))
-    (cond (leb 97 c && leb c 122) (some (c - 87)) none))
+    cond (is_ascii_digit c) (Some (c - 48))
+    (cond (leb 65 c && leb c 90) (Some (c - 55))
+    (cond (leb 97 c && leb c 122) (Some (c - 87)) None))
 
 unfoldable pub to_digit : ℕ → ℕ → Option ℕ
-to_digit c radix = do d ← digit c; when (ltb d radix) (some d)
+to_digit c radix = do d ← digit c; when (ltb d radix) (Some d)
 
 -- the value of digits after the value v
 unfoldable pub digits_from : ℕ → ℕ → Text → Option ℕ
-digits_from radix v [] = some v
-digits_from radix v (c ∷ s) = elim (to_digit c radix) [ none ↦ none | some d ↦ digits_from radix (v * radix + d) s ]
+digits_from radix v [] = Some v
+digits_from radix v (c ∷ s) = elim (to_digit c radix) [ None ↦ None | Some d ↦ digits_from radix (v * radix + d) s ]
 
 unfoldable pub digits : ℕ → Text → Option ℕ
 digits radix s = when (not (is_empty s)) (digits_from radix 0 s)
@@ -158,7 +158,7 @@ strip_plus s = cond (starts_with s (bytes "+")) (drop 1 s) s
 
 -- u16::from_str_radix, u32::from_str_radix, by the type's bits: "an optional + sign followed by only digits", in the type's range
 unfoldable pub u_from_str_radix : ℕ → Text → ℕ → Option ℕ
-u_from_str_radix bits s radix = do v ← digits radix (strip_plus s); when (ltb v (2 ^ bits)) (some v)
+u_from_str_radix bits s radix = do v ← digits radix (strip_plus s); when (ltb v (2 ^ bits)) (Some v)
 
 -- `(a..=b).contains(&z)`
 abbrev pub range_contains : ℤ → ℤ → ℤ → Bool
@@ -166,13 +166,13 @@ range_contains a b z = le_z a z && le_z z b
 
 -- in the range of an i8
 unfoldable pub i8_range : Option ℤ → Option ℤ
-i8_range o = do z ← o; when (range_contains (negsuc 127) (pos 127) z) (some z)
+i8_range o = do z ← o; when (range_contains (negsuc 127) (pos 127) z) (Some z)
 
 unfoldable pub negated : Option ℕ → Option ℤ
-negated o = do v ← o; some (neg_ℤ (pos v))
+negated o = do v ← o; Some (neg_ℤ (pos v))
 
 unfoldable pub unnegated : Option ℕ → Option ℤ
-unnegated o = do v ← o; some (pos v)
+unnegated o = do v ← o; Some (pos v)
 
 -- i8::from_str_radix: "an optional + or - sign followed by only digits", in the type's range
 unfoldable pub i8_from_str_radix : Text → ℕ → Option ℤ
@@ -235,8 +235,8 @@ unfoldable pub insert : HashMap → Text → ℕ → HashMap
 insert m k v = record { key = k; value = v } ∷ m
 
 unfoldable pub look_up : HashMap → Text → Option ℕ
-look_up [] k = none
-look_up (e ∷ m) k = elim (equals k e.key) [ true ↦ some e.value | false ↦ look_up m k ]
+look_up [] k = None
+look_up (e ∷ m) k = elim (equals k e.key) [ true ↦ Some e.value | false ↦ look_up m k ]
 
 -- `match s { "A" => a, .. _ => None }`
 pub record Arm (A : Type 0) : Type 0 where
@@ -248,5 +248,5 @@ abbrev pub ◌⇒◌ : {A : Type 0} → Text → Option A → Arm A
 ◌⇒◌ p r = record { pattern = p; result = r }
 
 unfoldable pub match : {A : Type 0} → Text → List (Arm A) → Option A
-match s [] = none
+match s [] = None
 match s (a ∷ arms) = elim (equals s a.pattern) [ true ↦ a.result | false ↦ match s arms ]

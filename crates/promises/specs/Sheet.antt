@@ -1,8 +1,6 @@
 -- W-214, "One sheet for a plant": of which class a line is, by its text and by the list; what a source adds to the totals; refusals 20 and
 -- 21; that the classes add up to the lines, and the sheets of a series' parts to that of the series, in any order. Assumes nothing.
-use Rattle.std.specs.Prelude.{ℕ, suc, ◌+◌, ◌^◌, ◌<◌, ◌≤◌, ◌≡◌, ◌≢◌, true, List, [], ◌∷◌, ◌++◌, length}
-use Rattle.std.proofs.Math.Option.{some}
-use Rattle.std.proofs.Math.ListN.{get_elem?}
+use Rattle.std.specs.Prelude.{ℕ, suc, ◌+◌, ◌^◌, ◌<◌, ◌≤◌, ◌≡◌, ◌≢◌, true, List, [], ◌∷◌, ◌++◌, length, Some, slice_get}
 use Rattle.rules.specs.Text.{Text, bytes, uppers, trim, starts, contains}
 use Rattle.rules.specs.Line.{size}
 use Rattle.rules.specs.Encode.{encode}
@@ -93,7 +91,7 @@ pub record OfAccepted (s : Text) (t : Totals) : Type 0 where
   -- the class of each line
   pub classes : List Class
   pub all_lines : length classes ≡ line_count s
-  pub each : (j : ℕ) (c : Class) → get_elem? classes j ≡ some c → InClass s pass j c
+  pub each : (j : ℕ) (c : Class) → slice_get classes j ≡ Some c → InClass s pass j c
   pub of_skipped : LinesIn skip classes t.skipped_lines
   pub of_org : LinesIn origin classes t.org_lines
   pub of_label : LinesIn bare_label classes t.label_lines

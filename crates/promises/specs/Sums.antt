@@ -1,7 +1,6 @@
 -- W-211, "Sums in DC": which texts are sums, by a grammar; what a sum is worth, by arithmetic in whole numbers; and that a text's reading
 -- is what these two say, apart from the reader and its steps; and examples. Assumes nothing.
-use Rattle.std.specs.Prelude.{ℕ, suc, ◌^◌, ◌<◌, ◌≤◌, max, ◌≡◌, ◌≢◌, true, false, List, [], ◌∷◌, ◌++◌, ℤ, pos, ◌+ℤ◌, ◌-ℤ◌, ◌*ℤ◌}
-use Rattle.std.proofs.Math.Option.{Option, none, some}
+use Rattle.std.specs.Prelude.{ℕ, suc, ◌^◌, ◌<◌, ◌≤◌, max, ◌≡◌, ◌≢◌, true, false, List, [], ◌∷◌, ◌++◌, ℤ, pos, ◌+ℤ◌, ◌-ℤ◌, ◌*ℤ◌, Option, None, Some}
 use Rattle.rules.specs.Text.{Text, bytes, starts}
 use Rattle.rules.specs.Number.{no_digits, bad_digit, out_of_range, Reading, read, failed}
 use Rattle.rules.specs.Sum.{Expression, numeral, group, sum, difference, product, sum_reading}
@@ -102,8 +101,8 @@ samples_of_sums =
 -- "in DC" alone, one piece: a blank cuts it, and a colon the line
 unfoldable pub samples_of_sum_lines : List (Sample (Option (Reading ℕ)))
 samples_of_sum_lines =
-    bytes "DC.L [2+3*4]" reads some (read 14) ∷ bytes "x: dc.b [(2+3)*4] ; note" reads some (read 20) ∷ bytes "LIM DC.W [1-2+3]" reads some far
-    ∷ bytes "DC.L [1 +2]" reads some bad ∷ bytes "X: DC.L [1:2]" reads some (failed no_digits) ∷ bytes "ORG [2]" reads some bad ∷ bytes "DS.L [5]" reads none ∷ []
+    bytes "DC.L [2+3*4]" reads Some (read 14) ∷ bytes "x: dc.b [(2+3)*4] ; note" reads Some (read 20) ∷ bytes "LIM DC.W [1-2+3]" reads Some far
+    ∷ bytes "DC.L [1 +2]" reads Some bad ∷ bytes "X: DC.L [1:2]" reads Some (failed no_digits) ∷ bytes "ORG [2]" reads Some bad ∷ bytes "DS.L [5]" reads None ∷ []
 
 pub record SumExamples : Type 0 where
   pub of_sums : SamplesHold sum_reading samples_of_sums

@@ -1,8 +1,6 @@
 -- W-202, "Symbols with their lines": the list by the records that the lines make, apart from the table of labels and how it is sorted;
 -- its refusals; what a call writes into the four slices; and the bounds of what is listed. Assumes nothing.
-use Rattle.std.specs.Prelude.{ℕ, suc, ◌+◌, ◌<◌, ◌≤◌, ◌≡◌, ◌↔◌, List, [], ◌∷◌, map, length, take, drop}
-use Rattle.std.proofs.Math.Option.{some}
-use Rattle.std.proofs.Math.ListN.{get_elem?}
+use Rattle.std.specs.Prelude.{ℕ, suc, ◌+◌, ◌<◌, ◌≤◌, ◌≡◌, ◌↔◌, List, [], ◌∷◌, map, length, take, drop, Some, slice_get}
 use Rattle.rules.specs.Limits.{max_lines, max_labels, address_limit}
 use Rattle.rules.specs.Text.{Text, cut_at}
 use Rattle.rules.specs.Line.{Name, line_of, size}
@@ -15,7 +13,7 @@ use Rattle.promises.specs.Nearest.{In, start_after, Records, LastRecord}
 
 -- x is a list's entry i, from 0
 abbrev pub IsEntry : List Label → ℕ → Label → Type 0
-IsEntry l i x = get_elem? l i ≡ some x
+IsEntry l i x = slice_get l i ≡ Some x
 
 -- x is what the name m of the line after the first j ones records
 pub record IsNamed (s : Text) (j : ℕ) (m : Name) (x : Label) : Type 0 where

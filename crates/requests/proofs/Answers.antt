@@ -1,13 +1,14 @@
 -- W-205: the call's answer on a line, by what the first pass came to. Assumes nothing.
+use Rattle.std.specs.Prelude.{None, Some, slice_get}
+use Rattle.std.proofs.lemmas.Option.{none-some, same_Some}
 use Prim.Native.Nat.{ℕ, zero, suc, ◌<◌, ◌≤◌}
 use mathlib.Core.Path.{◌≡◌, refl, ap}
 use mathlib.Core.Bool.{Bool, true, false, cond}
-use mathlib.Core.Option.{none, some, none-ne-some, some-injective}
 use mathlib.Core.List.{List, [], ◌∷◌, ◌++◌, map}
 use native.Mathlib.Omega.{arith}
 use borrow.Author.Tests.{ltb-true, lt-ltb}
 use lib.Dec.{ltb}
-use lib.ListN.{length, get_elem?, length-append, length-map}
+use lib.ListN.{length, length-append, length-map}
 use Rattle.rules.specs.Text.{Text, cut_at}
 use Rattle.rules.specs.Encode.{Mnemonic}
 use Rattle.rules.specs.Answer.{accepted, refused, and_then}
@@ -16,18 +17,18 @@ use Rattle.requests.specs.Explain.{not_instruction, Verdict, because, why_task, 
 
 -- ---- a list with a last element, by index
 module _ {A B : Type 0} (f : A → B) where
-  mapped : (xs : List A) (ys : List B) (j : ℕ) (x : A) → get_elem? xs j ≡ some x → get_elem? (map f xs ++ ys) j ≡ some (f x)
-  mapped [] ys j x e = absurd (none-ne-some x e)
-  mapped (y ∷ xs) ys zero x e = ap (λ z. some (f z)) (some-injective y x e)
+  mapped : (xs : List A) (ys : List B) (j : ℕ) (x : A) → slice_get xs j ≡ Some x → slice_get (map f xs ++ ys) j ≡ Some (f x)
+  mapped [] ys j x e = absurd (none-some x e)
+  mapped (y ∷ xs) ys zero x e = ap (λ z. Some (f z)) (same_Some y x e)
   mapped (y ∷ xs) ys (suc j) x e = mapped xs ys j x e
 
-  last : (xs : List A) (y : B) (j : ℕ) → length xs ≡ j → get_elem? (map f xs ++ (y ∷ [])) j ≡ some y
+  last : (xs : List A) (y : B) (j : ℕ) → length xs ≡ j → slice_get (map f xs ++ (y ∷ [])) j ≡ Some y
   last [] y zero e = refl
   last [] y (suc j) e = absurd (omega arith)
   last (x ∷ xs) y zero e = absurd (omega arith)
   last (x ∷ xs) y (suc j) e = last xs y j (omega arith)
 
-past : {A : Type 0} (xs : List A) (j : ℕ) → length xs ≤ j → get_elem? xs j ≡ none
+past : {A : Type 0} (xs : List A) (j : ℕ) → length xs ≤ j → slice_get xs j ≡ None
 past [] j h = refl
 past (x ∷ xs) zero h = absurd (omega arith)
 past (x ∷ xs) (suc j) h = past xs j (omega arith)
@@ -62,7 +63,7 @@ module _ (names : List Mnemonic) (base : ℕ) (s : Text) (p : Pass) (accepts : p
   line_0 = told 0
 
   -- a line that asks for something
-  pub line_asks : (j : ℕ) (x : Put) → get_elem? p.puts j ≡ some x
+  pub line_asks : (j : ℕ) (x : Put) → slice_get p.puts j ≡ Some x
       → explain_by names base s (suc j) ≡ accepted (why_task names p.labels x.address x.task)
   unfolding told_line verdict_at verdicts
   line_asks j x e = rw (told (suc j), mapped (λ (k : Put). why_task names p.labels k.address k.task) p.puts _ j x e)

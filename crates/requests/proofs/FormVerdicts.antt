@@ -1,8 +1,9 @@
 -- W-205: the verdict on operands of a right count, a law for each of 01's groups of forms, test by test. Assumes nothing.
+use Rattle.std.specs.Prelude.{Option, None, Some}
+use Rattle.rules.specs.Option.{or_else}
 use Prim.Native.Nat.{ℕ}
 use mathlib.Core.Path.{◌≡◌, refl, sym, ap, ◌∙◌}
 use mathlib.Core.Bool.{Bool, true, false, ◌&&◌, ◌||◌, cond, false≢true, and-true, and-false, or-false}
-use mathlib.Core.Option.{Option, none, some, or_else}
 use mathlib.Core.List.{List, [], ◌∷◌}
 use Rattle.rules.specs.Text.{Text}
 use Rattle.rules.specs.Label.{Table, find}
@@ -18,7 +19,7 @@ module _ (ls : Table) (a : ℕ) where
   Solid x = (s : Text) → meets ls a x s ≡ (same_kind (kind_of s) (kind_for x) && clear (fault ls a x s))
 
   -- a form of two places, of which the second is a register, and then nothing or another one
-  module _ (x y : Operand) (p : Solid x) (q : Solid y) (n : (t : Text) → fault ls a y t ≡ none) (s t : Text) where
+  module _ (x y : Operand) (p : Solid x) (q : Solid y) (n : (t : Text) → fault ls a y t ≡ None) (s t : Text) where
     pair_forms : why_forms ls a ((x ∷ y ∷ []) ∷ []) (s ∷ t ∷ [])
         ≡ cond (same_kind (kind_of s) (kind_for x)) (cond (same_kind (kind_of t) (kind_for y)) (unless (fault ls a x s)) (because wrong_kinds)) (because wrong_kinds)
     unfolding why_forms why_kinds one_met met form_with stand fault_in or_else unless
@@ -26,13 +27,13 @@ module _ (ls : Table) (a : ℕ) where
       where
         go : (k j : Bool) (o : Option Reason) → fault ls a x s ≡ o
             → cond (k && clear o && (j && true && true) || false) emitted
-            (elim (cond (k && (j && true)) (some (x ∷ y ∷ [])) none) [ none ↦ because wrong_kinds | some f ↦ unless (fault_in ls a f (s ∷ t ∷ [])) ])
+            (elim (cond (k && (j && true)) (Some (x ∷ y ∷ [])) None) [ None ↦ because wrong_kinds | Some f ↦ unless (fault_in ls a f (s ∷ t ∷ [])) ])
             ≡ cond k (cond j (unless o) (because wrong_kinds)) (because wrong_kinds)
         go false j o e = refl
-        go true false none e = refl
-        go true false (some r) e = refl
-        go true true none e = refl
-        go true true (some r) e = rw (fault_in, e)
+        go true false None e = refl
+        go true false (Some r) e = refl
+        go true true None e = refl
+        go true true (Some r) e = rw (fault_in, e)
 
   -- MOVEQ, SUBQ, ASL: #i8,Dn
   pub quick_forms : (s t : Text) → why_forms ls a ((i8 ∷ Dn ∷ []) ∷ []) (s ∷ t ∷ [])
@@ -61,15 +62,15 @@ module _ (ls : Table) (a : ℕ) where
     where
       go : (k : Kind) (j : Bool) (o : Option Reason) → fault ls a u16 s ≡ o
           → cond (same_kind k hash && clear o && (j && true && true) || (same_kind k dn && true && (j && true && true) || false)) emitted
-          (elim (cond (same_kind k hash && (j && true)) (some (u16 ∷ Dn ∷ [])) (cond (same_kind k dn && (j && true)) (some (Dn ∷ Dn ∷ [])) none)) [
-            | none ↦ because wrong_kinds
-            | some f ↦ unless (fault_in ls a f (s ∷ t ∷ []))
+          (elim (cond (same_kind k hash && (j && true)) (Some (u16 ∷ Dn ∷ [])) (cond (same_kind k dn && (j && true)) (Some (Dn ∷ Dn ∷ [])) None)) [
+            | None ↦ because wrong_kinds
+            | Some f ↦ unless (fault_in ls a f (s ∷ t ∷ []))
           ])
           ≡ cond j (cond (same_kind k hash) (unless o) (cond (same_kind k dn) emitted (because wrong_kinds))) (because wrong_kinds)
-      go hash true none e = refl
-      go hash true (some r) e = rw (fault_in, e)
-      go hash false none e = refl
-      go hash false (some r) e = refl
+      go hash true None e = refl
+      go hash true (Some r) e = rw (fault_in, e)
+      go hash false None e = refl
+      go hash false (Some r) e = refl
       go dn true o e = refl
       go dn false o e = refl
       go an true o e = refl
@@ -86,7 +87,7 @@ module _ (ls : Table) (a : ℕ) where
     where
       go : (k : Bool)
           → cond (k && true && true || false) emitted
-          (elim (cond (k && true) (some (Dn ∷ [])) none) [ none ↦ because wrong_kinds | some f ↦ unless (fault_in ls a f (s ∷ [])) ])
+          (elim (cond (k && true) (Some (Dn ∷ [])) None) [ None ↦ because wrong_kinds | Some f ↦ unless (fault_in ls a f (s ∷ [])) ])
           ≡ cond k emitted (because wrong_kinds)
       go true = refl
       go false = refl
@@ -98,17 +99,17 @@ module _ (ls : Table) (a : ℕ) where
 
   -- JMP: a number, or a label whatever it looks like
   pub jump_form : (s : Text) → why_forms ls a ((jump_target ∷ []) ∷ []) (s ∷ [])
-      ≡ elim (fault ls a jump_target s) [ none ↦ emitted | some r ↦ cond (same_kind (kind_of s) text) (because r) (because wrong_kinds) ]
+      ≡ elim (fault ls a jump_target s) [ None ↦ emitted | Some r ↦ cond (same_kind (kind_of s) text) (because r) (because wrong_kinds) ]
   unfolding why_forms why_kinds one_met met form_with stand fault_in kind_for or_else unless
   jump_form s = rw (jump_place ls a s) (go (same_kind (kind_of s) text) (fault ls a jump_target s) refl)
     where
       go : (k : Bool) (o : Option Reason) → fault ls a jump_target s ≡ o
           → cond (clear o && true || false) emitted
-          (elim (cond (k && true) (some (jump_target ∷ [])) none) [ none ↦ because wrong_kinds | some f ↦ unless (fault_in ls a f (s ∷ [])) ])
-          ≡ elim o [ none ↦ emitted | some r ↦ cond k (because r) (because wrong_kinds) ]
-      go k none e = refl
-      go true (some r) e = rw (fault_in, e)
-      go false (some r) e = refl
+          (elim (cond (k && true) (Some (jump_target ∷ [])) None) [ None ↦ because wrong_kinds | Some f ↦ unless (fault_in ls a f (s ∷ [])) ])
+          ≡ elim o [ None ↦ emitted | Some r ↦ cond k (because r) (because wrong_kinds) ]
+      go k None e = refl
+      go true (Some r) e = rw (fault_in, e)
+      go false (Some r) e = refl
 
   -- branches: a label in reach whatever it looks like, else a signed number or a label by its fault
   pub branch_form : (s : Text) (ps : List Text) → why_forms ls a ((branch_target ∷ []) ∷ []) (s ∷ ps)
@@ -118,13 +119,13 @@ module _ (ls : Table) (a : ℕ) where
     where
       go : (n : Bool) → near ls a s ≡ n → (k : Bool) → same_kind (kind_of s) text ≡ k → (o : Option Reason) → fault ls a branch_target s ≡ o
           → cond ((n || clear o) && true || false) emitted
-          (elim (cond (k && true) (some (branch_target ∷ [])) none) [ none ↦ because wrong_kinds | some f ↦ unless (fault_in ls a f (s ∷ ps)) ])
+          (elim (cond (k && true) (Some (branch_target ∷ [])) None) [ None ↦ because wrong_kinds | Some f ↦ unless (fault_in ls a f (s ∷ ps)) ])
           ≡ cond n emitted (cond k (unless o) (because wrong_kinds))
       go true d k e o f = refl
-      go false d true e none f = refl
-      go false d true e (some r) f = rw (fault_in, f)
-      go false d false e none f = absurd (false≢true (sym e ∙ rw (number_text_lem ls a s d f) (kind_itself text)))
-      go false d false e (some r) f = refl
+      go false d true e None f = refl
+      go false d true e (Some r) f = rw (fault_in, f)
+      go false d false e None f = absurd (false≢true (sym e ∙ rw (number_text_lem ls a s d f) (kind_itself text)))
+      go false d false e (Some r) f = refl
 
   -- DBRA: Dn, and then as a branch
   pub count_form : (s t : Text) → why_forms ls a ((Dn ∷ branch_target ∷ []) ∷ []) (s ∷ t ∷ [])
@@ -134,10 +135,10 @@ module _ (ls : Table) (a : ℕ) where
     where
       go : (k j m : Bool)
           → cond (k && true && (m && true) || false) emitted
-          (elim (cond (k && (j && true)) (some (Dn ∷ branch_target ∷ [])) none) [ none ↦ because wrong_kinds | some f ↦ unless (fault_in ls a f (s ∷ t ∷ [])) ])
+          (elim (cond (k && (j && true)) (Some (Dn ∷ branch_target ∷ [])) None) [ None ↦ because wrong_kinds | Some f ↦ unless (fault_in ls a f (s ∷ t ∷ [])) ])
           ≡ cond k
           (cond (m && true || false) emitted
-          (elim (cond (j && true) (some (branch_target ∷ [])) none) [ none ↦ because wrong_kinds | some f ↦ unless (fault_in ls a f (t ∷ [])) ])) (because wrong_kinds)
+          (elim (cond (j && true) (Some (branch_target ∷ [])) None) [ None ↦ because wrong_kinds | Some f ↦ unless (fault_in ls a f (t ∷ [])) ])) (because wrong_kinds)
       go true true m = refl
       go true false m = refl
       go false j m = refl
@@ -147,7 +148,7 @@ module _ (ls : Table) (a : ℕ) where
   unfolding meets
   label_meets l = refl
 
-  unfound : (l : Text) → find l ls ≡ none → fault ls a label l ≡ some not_recorded
+  unfound : (l : Text) → find l ls ≡ None → fault ls a label l ≡ Some not_recorded
   unfolding fault unless_found
   unfound l e = rw (fault, unless_found, e)
 
@@ -164,16 +165,16 @@ module _ (ls : Table) (a : ℕ) where
   -- and which form has the kinds
   moved : Kind → Kind → Option (List Operand)
   moved k j =
-      cond (same_kind k hash && (same_kind j dn && true)) (some (u16 ∷ Dn ∷ []))
-      (cond (same_kind k at_an && (same_kind j dn && true)) (some (AtAn ∷ Dn ∷ []))
-      (cond (same_kind k dn && (same_kind j at_an && true)) (some (Dn ∷ AtAn ∷ []))
-      (cond (same_kind k dn && (same_kind j dn && true)) (some (Dn ∷ Dn ∷ []))
-      (cond (same_kind k text && (same_kind j dn && true)) (some (label ∷ Dn ∷ []))
-      (cond (same_kind k dn && (same_kind j text && true)) (some (Dn ∷ label ∷ [])) none)))))
+      cond (same_kind k hash && (same_kind j dn && true)) (Some (u16 ∷ Dn ∷ []))
+      (cond (same_kind k at_an && (same_kind j dn && true)) (Some (AtAn ∷ Dn ∷ []))
+      (cond (same_kind k dn && (same_kind j at_an && true)) (Some (Dn ∷ AtAn ∷ []))
+      (cond (same_kind k dn && (same_kind j dn && true)) (Some (Dn ∷ Dn ∷ []))
+      (cond (same_kind k text && (same_kind j dn && true)) (Some (label ∷ Dn ∷ []))
+      (cond (same_kind k dn && (same_kind j text && true)) (Some (Dn ∷ label ∷ [])) None)))))
 
   module _ (s t : Text) where
     why_move : Kind → Kind → Option ℕ → Option ℕ → Option Reason → Verdict
-    why_move k j x y o = cond (moves k j x y o) emitted (elim (moved k j) [ none ↦ because wrong_kinds | some f ↦ unless (fault_in ls a f (s ∷ t ∷ [])) ])
+    why_move k j x y o = cond (moves k j x y o) emitted (elim (moved k j) [ None ↦ because wrong_kinds | Some f ↦ unless (fault_in ls a f (s ∷ t ∷ [])) ])
 
     move_is : why_forms ls a (forms_of move).forms (s ∷ t ∷ []) ≡ why_move (kind_of s) (kind_of t) (find s ls) (find t ls) (fault ls a u16 s)
     unfolding why_forms why_kinds one_met met form_with stand forms_of fault kind_for moves moved why_move
@@ -184,18 +185,18 @@ module _ (ls : Table) (a : ℕ) where
         → why_move k dn x y o
         ≡ cond (is_some x) emitted (cond (same_kind k hash) (unless o) (cond (same_kind k text) (because not_recorded) (cond (same_kind k an) (because wrong_kinds) emitted)))
     unfolding why_move moves moved same_kind kind_number is_some fault_in or_else unless
-    to_dn hash none y e none f = refl
-    to_dn hash none y e (some r) f = rw (fault_in, f)
-    to_dn hash (some x) y e none f = refl
-    to_dn hash (some x) y e (some r) f = refl
-    to_dn dn none y e o f = refl
-    to_dn dn (some x) y e o f = refl
-    to_dn an none y e o f = refl
-    to_dn an (some x) y e o f = refl
-    to_dn at_an none y e o f = refl
-    to_dn at_an (some x) y e o f = refl
-    to_dn text none y e o f = rw (fault_in, unfound s e)
-    to_dn text (some x) y e o f = refl
+    to_dn hash None y e None f = refl
+    to_dn hash None y e (Some r) f = rw (fault_in, f)
+    to_dn hash (Some x) y e None f = refl
+    to_dn hash (Some x) y e (Some r) f = refl
+    to_dn dn None y e o f = refl
+    to_dn dn (Some x) y e o f = refl
+    to_dn an None y e o f = refl
+    to_dn an (Some x) y e o f = refl
+    to_dn at_an None y e o f = refl
+    to_dn at_an (Some x) y e o f = refl
+    to_dn text None y e o f = rw (fault_in, unfound s e)
+    to_dn text (Some x) y e o f = refl
 
     -- to anything else
     to_other : (k j : Kind) (x y : Option ℕ) (o : Option Reason) → same_kind j dn ≡ false → find t ls ≡ y
@@ -206,17 +207,17 @@ module _ (ls : Table) (a : ℕ) where
       where
         go : (u v w : Bool) (y : Option ℕ) → find t ls ≡ y
             → cond (u && v || u && is_some y) emitted
-            (elim (cond (u && v) (some (Dn ∷ AtAn ∷ [])) (cond (u && w) (some (Dn ∷ label ∷ [])) none)) [
-              | none ↦ because wrong_kinds
-              | some g ↦ unless (fault_in ls a g (s ∷ t ∷ []))
+            (elim (cond (u && v) (Some (Dn ∷ AtAn ∷ [])) (cond (u && w) (Some (Dn ∷ label ∷ [])) None)) [
+              | None ↦ because wrong_kinds
+              | Some g ↦ unless (fault_in ls a g (s ∷ t ∷ []))
             ])
             ≡ cond u (cond (is_some y) emitted (cond v emitted (cond w (because not_recorded) (because wrong_kinds)))) (because wrong_kinds)
         go false v w y f = refl
-        go true true w none f = refl
-        go true true w (some z) f = refl
-        go true false w (some z) f = refl
-        go true false true none f = ap (λ r. unless (or_else r none)) (unfound t f)
-        go true false false none f = refl
+        go true true w None f = refl
+        go true true w (Some z) f = refl
+        go true false w (Some z) f = refl
+        go true false true None f = ap (λ r. unless (or_else r None)) (unfound t f)
+        go true false false None f = refl
 
     -- MOVE, by whether the second operand is Dn
     pub move_to_dn : same_kind (kind_of t) dn ≡ true → why_forms ls a (forms_of move).forms (s ∷ t ∷ [])

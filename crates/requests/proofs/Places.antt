@@ -1,8 +1,9 @@
 -- W-205: when an operand makes the word in a form's place, by its kind and by what is wrong with it there. Assumes nothing.
+use Rattle.std.specs.Prelude.{Option, None, Some}
+use Rattle.rules.specs.Option.{bind, or_else}
 use Prim.Native.Nat.{ℕ}
 use mathlib.Core.Path.{◌≡◌, refl, sym, ap, ◌∙◌}
 use mathlib.Core.Bool.{Bool, true, false, ◌&&◌, ◌||◌, cond, false≢true, and-true}
-use mathlib.Core.Option.{Option, none, some, bind, or_else}
 use lib.IntN.{ℤ}
 use Rattle.rules.specs.Text.{Text, bytes, starts, after}
 use Rattle.rules.specs.Number.{Reading, read, failed, reading8, reading16, signed_reading, immediate, imm8, imm16, hex_tail, value_of, number16}
@@ -14,8 +15,8 @@ use Rattle.requests.specs.Explain.{Reason, not_recorded, out_of_reach, meets, fa
 
 -- nothing is wrong
 abbrev pub clear : Option Reason → Bool
-clear none = true
-clear (some r) = false
+clear None = true
+clear (Some r) = false
 
 read_clear : {A : Type 0} (x : Reading A) → is_some (value_of x) ≡ clear (failing x)
 unfolding value_of failing is_some
@@ -32,19 +33,19 @@ unfolding immediate bind is_some
 number_place {A} g s = rw (hash_there s) (go (after (bytes "#") s))
   where
     go : (o : Option Text)
-        → is_some (bind {A = Reading A} (elim o [ none ↦ none | some t ↦ some (g t) ]) value_of)
-        ≡ (is_some o && clear (bind {A = Reading A} (elim o [ none ↦ none | some t ↦ some (g t) ]) failing))
-    go none = refl
-    go (some t) = read_clear (g t)
+        → is_some (bind {A = Reading A} (elim o [ None ↦ None | Some t ↦ Some (g t) ]) value_of)
+        ≡ (is_some o && clear (bind {A = Reading A} (elim o [ None ↦ None | Some t ↦ Some (g t) ]) failing))
+    go None = refl
+    go (Some t) = read_clear (g t)
 
 module _ (ls : Table) (a : ℕ) where
   found_clear : (l : Text) → is_some (find l ls) ≡ clear (unless_found ls l)
   unfolding unless_found is_some
   found_clear l = go (find l ls)
     where
-      go : (o : Option ℕ) → is_some o ≡ clear (elim o [ none ↦ some not_recorded | some x ↦ none ])
-      go none = refl
-      go (some x) = refl
+      go : (o : Option ℕ) → is_some o ≡ clear (elim o [ None ↦ Some not_recorded | Some x ↦ None ])
+      go None = refl
+      go (Some x) = refl
 
   -- a recorded label in reach
   abbrev pub near : Text → Bool
@@ -54,14 +55,14 @@ module _ (ls : Table) (a : ℕ) where
   unfolding unless_reached is_some bind
   near_clear l = go (find l ls)
     where
-      last : (z : Option ℤ) → is_some z ≡ clear (elim z [ none ↦ some out_of_reach | some y ↦ none ])
-      last none = refl
-      last (some y) = refl
+      last : (z : Option ℤ) → is_some z ≡ clear (elim z [ None ↦ Some out_of_reach | Some y ↦ None ])
+      last None = refl
+      last (Some y) = refl
 
       go : (o : Option ℕ)
-          → is_some (bind o λ x. reach x a) ≡ clear (elim o [ none ↦ some not_recorded | some x ↦ elim (reach x a) [ none ↦ some out_of_reach | some z ↦ none ] ])
-      go none = refl
-      go (some x) = last (reach x a)
+          → is_some (bind o λ x. reach x a) ≡ clear (elim o [ None ↦ Some not_recorded | Some x ↦ elim (reach x a) [ None ↦ Some out_of_reach | Some z ↦ None ] ])
+      go None = refl
+      go (Some x) = last (reach x a)
 
   -- places of one kind only
   abbrev Solid : Operand → Type 0
@@ -80,8 +81,8 @@ module _ (ls : Table) (a : ℕ) where
   solid_hash_label s = rw (hash_there s) (go (after (bytes "#") s))
     where
       go : (o : Option Text) → is_some (bind o λ l. find l ls) ≡ (is_some o && clear (bind o (unless_found ls)))
-      go none = refl
-      go (some l) = found_clear l
+      go None = refl
+      go (Some l) = found_clear l
 
   pub solid_dn : Solid Dn
   unfolding meets fault kind_for
@@ -113,17 +114,17 @@ module _ (ls : Table) (a : ℕ) where
   branch_place s = go (bind (find s ls) λ x. reach x a) refl (written_reading s)
     where
       go : (o : Option ℤ) → (bind (find s ls) λ x. reach x a) ≡ o → (w : Option (Reading ℤ))
-          → is_some (or_else o (bind w value_of)) ≡ (is_some o || clear (elim w [ none ↦ unless_reached ls a s | some r ↦ failing r ]))
-      go none e none = sym (ap is_some e) ∙ near_clear s
-      go none e (some r) = read_clear r
-      go (some z) e w = refl
+          → is_some (or_else o (bind w value_of)) ≡ (is_some o || clear (elim w [ None ↦ unless_reached ls a s | Some r ↦ failing r ]))
+      go None e None = sym (ap is_some e) ∙ near_clear s
+      go None e (Some r) = read_clear r
+      go (Some z) e w = refl
 
   -- an operand with nothing wrong that is no label in reach is a signed number, hence other text
-  pub number_text_lem : (s : Text) → near s ≡ false → fault ls a branch_target s ≡ none → kind_of s ≡ text
+  pub number_text_lem : (s : Text) → near s ≡ false → fault ls a branch_target s ≡ None → kind_of s ≡ text
   unfolding fault written_reading
   number_text_lem s d f = go (starts (bytes "+") s || starts (bytes "-") s) refl f
     where
       go : (x : Bool) → (starts (bytes "+") s || starts (bytes "-") s) ≡ x
-          → ◌≡◌ {A = Option Reason} (elim (cond x (some (signed_reading 10 128 s)) none) [ none ↦ unless_reached ls a s | some r ↦ failing r ]) none → kind_of s ≡ text
+          → ◌≡◌ {A = Option Reason} (elim (cond x (Some (signed_reading 10 128 s)) None) [ None ↦ unless_reached ls a s | Some r ↦ failing r ]) None → kind_of s ≡ text
       go true e f = signed_text s e
       go false e f = absurd (false≢true (sym d ∙ near_clear s ∙ ap clear f))

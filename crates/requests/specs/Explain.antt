@@ -1,8 +1,6 @@
 -- W-205, "The line with no word": the verdict on each line that is read, "word emitted" or the first of 02's seven reasons, by the
 -- table of forms and without the encoder. The mnemonics are those in use, `.._by names`; 01's have the plain names. Assumes nothing.
-use Rattle.std.specs.Prelude.{ℕ, zero, suc, Bool, true, false, ◌&&◌, ◌||◌, cond, List, [], ◌∷◌, map, ◌++◌, ltb, length}
-use Rattle.std.proofs.Math.Option.{Option, none, some}
-use Rattle.std.proofs.Math.ListN.{get_elem?}
+use Rattle.std.specs.Prelude.{ℕ, zero, suc, Bool, true, false, ◌&&◌, ◌||◌, cond, List, [], ◌∷◌, map, ◌++◌, ltb, length, Option, None, Some, slice_get}
 use Rattle.rules.specs.Text.{Text, bytes, after, cut_at}
 use Rattle.rules.specs.Number.{Failure, Reading, read, failed, reading8, reading16, immediate, imm8, imm16, hex_tail}
 use Rattle.rules.specs.Line.{Instruction, Task, skipped, end, org, no_org, label_only, instruction, value, space}
@@ -39,28 +37,28 @@ meets ls a branch_target s = is_some (displacement ls a s)
 
 -- "a number and what failed in it"
 unfoldable pub failing : {A : Type 0} → Reading A → Option Reason
-failing (read v) = none
-failing (failed f) = some (bad_number f)
+failing (read v) = None
+failing (failed f) = Some (bad_number f)
 
 -- "a label not recorded"
 unfoldable pub unless_found : Table → Text → Option Reason
-unless_found ls l = elim (find l ls) [ none ↦ some not_recorded | some x ↦ none ]
+unless_found ls l = elim (find l ls) [ None ↦ Some not_recorded | Some x ↦ None ]
 
 -- and "a displacement out of range"
 unfoldable pub unless_reached : Table → ℕ → Text → Option Reason
-unless_reached ls a l = elim (find l ls) [ none ↦ some not_recorded | some x ↦ elim (reach x a) [ none ↦ some out_of_reach | some z ↦ none ] ]
+unless_reached ls a l = elim (find l ls) [ None ↦ Some not_recorded | Some x ↦ elim (reach x a) [ None ↦ Some out_of_reach | Some z ↦ None ] ]
 
 -- what is wrong with it there, if its kind is right
 unfoldable pub fault : Table → ℕ → Operand → Text → Option Reason
 fault ls a i8 s = immediate reading8 s >>= failing
 fault ls a u16 s = immediate reading16 s >>= failing
 fault ls a hash_label s = after (bytes "#") s >>= unless_found ls
-fault ls a Dn s = none
-fault ls a An s = none
-fault ls a AtAn s = none
+fault ls a Dn s = None
+fault ls a An s = None
+fault ls a AtAn s = None
 fault ls a label s = unless_found ls s
 fault ls a jump_target s = cond (is_some (hex_tail s) || all_digits s) (failing (reading16 s)) (unless_found ls s)
-fault ls a branch_target s = elim (written_reading s) [ none ↦ unless_reached ls a s | some r ↦ failing r ]
+fault ls a branch_target s = elim (written_reading s) [ None ↦ unless_reached ls a s | Some r ↦ failing r ]
 
 -- ---- an instruction with the operands ps
 -- they make the word in all places of a form
@@ -76,18 +74,18 @@ one_met ls a (f ∷ fs) ps = met ls a f ps || one_met ls a fs ps
 
 -- what is wrong in a form's places, of which at most one has a number or a label
 unfoldable pub fault_in : Table → ℕ → List Operand → List Text → Option Reason
-fault_in ls a [] ps = none
-fault_in ls a (x ∷ xs) [] = none
+fault_in ls a [] ps = None
+fault_in ls a (x ∷ xs) [] = None
 fault_in ls a (x ∷ xs) (s ∷ ps) = fault ls a x s else fault_in ls a xs ps
 
 -- emitted, unless something is wrong
 unfoldable pub unless : Option Reason → Verdict
-unless none = emitted
-unless (some r) = because r
+unless None = emitted
+unless (Some r) = because r
 
 -- the verdict by the form that has their kinds
 unfoldable pub why_kinds : Table → ℕ → List (List Operand) → List Text → Verdict
-why_kinds ls a fs ps = elim (form_with fs ps) [ none ↦ because wrong_kinds | some f ↦ unless (fault_in ls a f ps) ]
+why_kinds ls a fs ps = elim (form_with fs ps) [ None ↦ because wrong_kinds | Some f ↦ unless (fault_in ls a f ps) ]
 
 -- of a right count: "word emitted" if they make one; "Otherwise it gives the first that holds"
 unfoldable pub why_forms : Table → ℕ → List (List Operand) → List Text → Verdict
@@ -100,7 +98,7 @@ why_operation ls a o ps = cond (counted (forms_of o).count (length ps)) (why_for
 -- the verdict on an instruction; its suffix is never a reason
 unfoldable pub why : List Mnemonic → Table → ℕ → Instruction → Verdict
 why names ls a i =
-    elim (operation_in names i.mnemonic) [ none ↦ because unknown_mnemonic | some o ↦ why_operation ls a o i.operands ]
+    elim (operation_in names i.mnemonic) [ None ↦ because unknown_mnemonic | Some o ↦ why_operation ls a o i.operands ]
 
 -- ---- a line
 -- the verdict on what a line asks
@@ -122,13 +120,13 @@ verdicts names s p =
 
 -- the verdict on a line, from 1
 unfoldable pub verdict_at : ℕ → List Verdict → Option Verdict
-verdict_at zero vs = none
-verdict_at (suc j) vs = get_elem? vs j
+verdict_at zero vs = None
+verdict_at (suc j) vs = slice_get vs j
 
 -- "13: no such line, or a line that is never read; place the line"
 unfoldable pub told_line : ℕ → Option Verdict → Answer Verdict
-told_line k none = refused 13 k
-told_line k (some v) = accepted v
+told_line k None = refused 13 k
+told_line k (Some v) = accepted v
 
 -- the verdict on every line that is read
 unfoldable pub explain_all_by : List Mnemonic → ℕ → Text → Answer (List Verdict)

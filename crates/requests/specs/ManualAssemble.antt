@@ -1,6 +1,5 @@
 -- 02's W-207, the manual's own words: the assembling call's refusals and list. The passes are 01's over a size and an encoder. Assumes nothing.
-use Rattle.std.specs.Prelude.{ℕ, suc, List, [], ◌∷◌}
-use Rattle.std.proofs.Math.Option.{Option, none, some}
+use Rattle.std.specs.Prelude.{ℕ, suc, List, [], ◌∷◌, Option, None, Some}
 use Rattle.rules.specs.Text.{Text}
 use Rattle.rules.specs.Line.{Task, skipped, end, org, no_org, label_only, instruction, value, space}
 use Rattle.rules.specs.Label.{Table}
@@ -10,19 +9,19 @@ use Rattle.requests.specs.ManualCall.{manual_size, manual_encode, manual_fault}
 
 -- what is wrong with a line, 14 or 15: only with an instruction
 unfoldable pub task_fault : Table → ℕ → Task → Option ℕ
-task_fault t a skipped = none
-task_fault t a end = none
-task_fault t a (org v) = none
-task_fault t a no_org = none
-task_fault t a label_only = none
+task_fault t a skipped = None
+task_fault t a end = None
+task_fault t a (org v) = None
+task_fault t a no_org = None
+task_fault t a label_only = None
 task_fault t a (instruction i) = manual_fault t a i
-task_fault t a (value n v) = none
-task_fault t a (space n) = none
+task_fault t a (value n v) = None
+task_fault t a (space n) = None
 
 -- 14 and 15, "both with the line as place, second pass, first line first": every line puts once, so the first of the puts is line n's
 unfoldable pub faultless : {A : Type 0} → Table → ℕ → List Put → Answer A → Answer A
 faultless t n [] r = r
-faultless t n (p ∷ ps) r = elim (task_fault t p.address p.task) [ none ↦ faultless t (suc n) ps r | some f ↦ refused f n ]
+faultless t n (p ∷ ps) r = elim (task_fault t p.address p.task) [ None ↦ faultless t (suc n) ps r | Some f ↦ refused f n ]
 
 -- the list of what the first pass came to, if no line has a fault
 unfoldable pub encoded_manual : Pass → Answer (List Place)

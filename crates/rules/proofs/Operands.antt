@@ -1,9 +1,10 @@
 -- An operand's kind, read off its first byte: each kind is its reader's test, and what is read as a number without `#` is other text.
 -- Assumes nothing.
+use Rattle.std.specs.Prelude.{None, Some}
+use Rattle.std.proofs.lemmas.Option.{none-some}
 use Prim.Native.Nat.{ℕ}
 use mathlib.Core.Path.{◌≡◌, refl, sym, ap, ap₂, subst, ◌∙◌}
 use mathlib.Core.Bool.{Bool, true, false, cond, ◌||◌, false≢true, or-true}
-use mathlib.Core.Option.{none, some, none-ne-some}
 use mathlib.Core.List.{[], ◌∷◌, ◌++◌}
 use lib.Dec.{eqb}
 use borrow.Author.Tests.{eqb-true}
@@ -14,15 +15,15 @@ use Rattle.rules.specs.Forms.{Kind, hash, dn, an, at_an, text, kind_of, kind_num
 
 -- ---- texts
 -- what follows p in a text, and that the text starts with p
-pub after_text : (p s t : Text) → after p s ≡ some t → s ≡ p ++ t
+pub after_text : (p s t : Text) → after p s ≡ Some t → s ≡ p ++ t
 unfolding after
 after_text [] s t e = cc
-after_text (c ∷ p) [] t e = absurd (none-ne-some t e)
+after_text (c ∷ p) [] t e = absurd (none-some t e)
 after_text (c ∷ p) (b ∷ s) t e = go (eqb c b) refl (after_text p s t) e
   where
-    go : (x : Bool) → eqb c b ≡ x → (after p s ≡ some t → s ≡ p ++ t) → elim x [ true ↦ after p s | false ↦ none ] ≡ some t → b ∷ s ≡ c ∷ (p ++ t)
+    go : (x : Bool) → eqb c b ≡ x → (after p s ≡ Some t → s ≡ p ++ t) → elim x [ true ↦ after p s | false ↦ None ] ≡ Some t → b ∷ s ≡ c ∷ (p ++ t)
     go true f ih e = ap₂ ◌∷◌ (sym (eqb-true c b f)) (ih e)
-    go false f ih e = absurd (none-ne-some t e)
+    go false f ih e = absurd (none-some t e)
 
 pub after_starts : (p s : Text) → is_some (after p s) ≡ starts p s
 unfolding after starts is_some
@@ -30,7 +31,7 @@ after_starts [] s = refl
 after_starts (c ∷ p) [] = refl
 after_starts (c ∷ p) (b ∷ s) = go (eqb c b) (after_starts p s)
   where
-    go : (x : Bool) → is_some (after p s) ≡ starts p s → is_some {A = Text} (elim x [ true ↦ after p s | false ↦ none ]) ≡ elim x [ true ↦ starts p s | false ↦ false ]
+    go : (x : Bool) → is_some (after p s) ≡ starts p s → is_some {A = Text} (elim x [ true ↦ after p s | false ↦ None ]) ≡ elim x [ true ↦ starts p s | false ↦ false ]
     go true e = e
     go false e = refl
 
@@ -109,8 +110,8 @@ kinded_by : {s : Text} → Front s → Kinded s
 unfolding same_kind kind_number kind_of starts after data_register address_register indirect register_digit closed is_some bytes
 kinded_by empty = record { as_hash = refl; as_dn = refl; as_an = refl; as_at_an = refl }
 kinded_by a_hash = record { as_hash = refl; as_dn = refl; as_an = refl; as_at_an = refl }
-kinded_by (a_d {s}) = told_dn (is_some (register_digit (some s)))
-kinded_by (an_a {s}) = told_an (is_some (register_digit (some s)))
+kinded_by (a_d {s}) = told_dn (is_some (register_digit (Some s)))
+kinded_by (an_a {s}) = told_an (is_some (register_digit (Some s)))
 kinded_by (a_bracket {s}) = told_at_an (is_some (closed (after (bytes "A") s)))
 kinded_by (other {b} {s} e f g i) = rw (e, f, g, i, starts, after) (record { as_hash = refl; as_dn = refl; as_an = refl; as_at_an = refl })
 

@@ -1,8 +1,9 @@
 -- What is read lies in its type's range, whatever stands in front of the digits; and readers that go by a prefix. Assumes nothing.
+use Rattle.std.specs.Prelude.{Option, None, Some}
+use Rattle.rules.specs.Option.{bind}
 use Prim.Native.Nat.{ℕ, ◌^◌, ◌<◌}
 use mathlib.Core.Path.{◌≡◌, refl}
 use mathlib.Core.Bool.{Bool, true, false, ◌||◌, cond}
-use mathlib.Core.Option.{Option, none, some, bind}
 use mathlib.Core.List.{[], ◌∷◌}
 use lib.Dec.{ltb, eqb}
 use lib.IntN.{ℤ, pos, negsuc, neg_ℤ}
@@ -14,19 +15,19 @@ use Rattle.rules.specs.Encode.{written_reading, written_signed}
 
 -- what is there, if anything, satisfies P
 abbrev pub All : {A : Type 0} → (A → Type 0) → Option A → Type 0
-All P none = Unit {0}
-All P (some a) = P a
+All P None = Unit {0}
+All P (Some a) = P a
 
-pub all_some : {A : Type 0} (P : A → Type 0) {x : Option A} {a : A} → All P x → x ≡ some a → P a
+pub all_some : {A : Type 0} (P : A → Type 0) {x : Option A} {a : A} → All P x → x ≡ Some a → P a
 all_some P h e = rw e at h
 
 -- a value in the type, and one outside
 module _ {A : Type 0} (f : ℕ → Option A) (v : ℕ) where
-  pub in_range : {a : A} → f v ≡ some a → ranged f (read v) ≡ read a
+  pub in_range : {a : A} → f v ≡ Some a → ranged f (read v) ≡ read a
   unfolding ranged
   in_range e = rw (e, ranged)
 
-  pub out_of_range_lem : f v ≡ none → ranged f (read v) ≡ failed out_of_range
+  pub out_of_range_lem : f v ≡ None → ranged f (read v) ≡ failed out_of_range
   unfolding ranged
   out_of_range_lem e = rw (e, ranged)
 
@@ -36,31 +37,31 @@ unfolding value_of ranged bind
 ranged_value f (failed x) = refl
 ranged_value {A} f (read v) = go (f v)
   where
-    go : (o : Option A) → value_of {A = A} (elim o [ none ↦ failed out_of_range | some a ↦ read a ]) ≡ o
-    go none = refl
-    go (some a) = refl
+    go : (o : Option A) → value_of {A = A} (elim o [ None ↦ failed out_of_range | Some a ↦ read a ]) ≡ o
+    go None = refl
+    go (Some a) = refl
 
 -- what is made of a reading by its prefix is made of each
 pub prefix_map : {A B : Type 0} (g : A → B) (f : ℕ → Text → A) (s : Text) → g (by_prefix f s) ≡ by_prefix (λ r t. g (f r t)) s
 unfolding by_prefix
 prefix_map g f s = go (hex_tail s)
   where
-    go : (o : Option Text) → g (elim o [ none ↦ f 10 s | some t ↦ f 16 t ]) ≡ elim o [ none ↦ g (f 10 s) | some t ↦ g (f 16 t) ]
-    go none = refl
-    go (some t) = refl
+    go : (o : Option Text) → g (elim o [ None ↦ f 10 s | Some t ↦ f 16 t ]) ≡ elim o [ None ↦ g (f 10 s) | Some t ↦ g (f 16 t) ]
+    go None = refl
+    go (Some t) = refl
 
 -- a branch's signed operand is read where a sign stands in front
-pub written_is : (s : Text) → written_signed s ≡ cond (starts (bytes "+") s || starts (bytes "-") s) (signed 10 128 s) none
+pub written_is : (s : Text) → written_signed s ≡ cond (starts (bytes "+") s || starts (bytes "-") s) (signed 10 128 s) None
 unfolding written_signed written_reading signed bind
 written_is s = go (starts (bytes "+") s || starts (bytes "-") s)
   where
-    go : (x : Bool) → bind (cond x (some (signed_reading 10 128 s)) none) value_of ≡ cond x (value_of (signed_reading 10 128 s)) none
+    go : (x : Bool) → bind (cond x (Some (signed_reading 10 128 s)) None) value_of ≡ cond x (value_of (signed_reading 10 128 s)) None
     go true = refl
     go false = refl
 
 -- ---- what the type lets through is read, and nothing else
 module _ {A : Type 0} (P : A → Type 0) where
-  kept : (a : A) (t : Bool) → (t ≡ true → P a) → All P (cond t (some a) none)
+  kept : (a : A) (t : Bool) → (t ≡ true → P a) → All P (cond t (Some a) None)
   kept a true h = h refl
   kept a false h = tt
 
@@ -73,17 +74,17 @@ module _ {A : Type 0} (P : A → Type 0) where
   unfolding by_prefix
   prefix_all f h s = go (hex_tail s)
     where
-      go : (o : Option Text) → All P (value_of (elim o [ none ↦ f 10 s | some t ↦ f 16 t ]))
-      go none = h 10 s
-      go (some t) = h 16 t
+      go : (o : Option Text) → All P (value_of (elim o [ None ↦ f 10 s | Some t ↦ f 16 t ]))
+      go None = h 10 s
+      go (Some t) = h 16 t
 
   immediate_all : (f : Text → Reading A) → ((t : Text) → All P (value_of (f t))) → (s : Text) → All P (bind (immediate f s) value_of)
   unfolding immediate bind
   immediate_all f h s = go (after (bytes "#") s)
     where
-      go : (o : Option Text) → All P (bind (elim o [ none ↦ none | some t ↦ some (f t) ]) value_of)
-      go none = tt
-      go (some t) = h t
+      go : (o : Option Text) → All P (bind (elim o [ None ↦ None | Some t ↦ Some (f t) ]) value_of)
+      go None = tt
+      go (Some t) = h t
 
 -- ---- unsigned
 unsigned_all : (bound radix : ℕ) (s : Text) → All (λ v. v < bound) (value_of (unsigned_reading radix bound s))
@@ -122,7 +123,7 @@ module _ (bound : ℕ) (P : ℤ → Type 0) (h : (z : ℤ) → mag z < bound →
 pub written_all : (P : ℤ → Type 0) → ((z : ℤ) → mag z < 128 → P z) → (s : Text) → All P (written_signed s)
 written_all P h s = rw (written_is s) (go (starts (bytes "+") s || starts (bytes "-") s))
   where
-    go : (x : Bool) → All P (cond x (signed 10 128 s) none)
+    go : (x : Bool) → All P (cond x (signed 10 128 s) None)
     go true = signed_all 128 P h 10 s
     go false = tt
 

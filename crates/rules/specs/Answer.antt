@@ -1,6 +1,5 @@
 -- A call's answer, by paper 01: accepted, or a refusal's number and place. Assumes nothing.
-use Rattle.std.specs.Prelude.{ℕ, Bool, true, false}
-use Rattle.std.proofs.Math.Option.{Option, none, some}
+use Rattle.std.specs.Prelude.{ℕ, Bool, true, false, Option, None, Some}
 
 -- "Each is (number, place)"; a place is what 01 says at each number: a length, an index, a line or a count
 pub data Answer (A : Type 0) : Type 0 where
@@ -14,8 +13,8 @@ refuse_if false n p a = a
 
 -- refusal n at the index found, else what comes next
 unfoldable pub refuse_at : {A : Type 0} → Option ℕ → ℕ → Answer A → Answer A
-refuse_at none n a = a
-refuse_at (some p) n a = refused n p
+refuse_at None n a = a
+refuse_at (Some p) n a = refused n p
 
 -- what follows an accepted answer
 unfoldable pub and_then : {A B : Type 0} → Answer A → (A → Answer B) → Answer B

@@ -1,7 +1,6 @@
 -- The two passes, refusals 1 to 7, the list, and the lent slices after a call, by paper 01. The passes are said over a size and an
 -- encoder, `.._by`; 01's own size and words have the plain names. A call goes in stages: `checks`, `pass_at`, `encoded`, `room`. Assumes nothing.
-use Rattle.std.specs.Prelude.{ℕ, suc, ◌+◌, ◌/◌, ◌%◌, Bool, true, false, ◌||◌, length, drop, leb, ltb}
-use Rattle.std.proofs.Math.Option.{Option, none, some, get_or}
+use Rattle.std.specs.Prelude.{ℕ, suc, ◌+◌, ◌/◌, ◌%◌, Bool, true, false, ◌||◌, length, drop, leb, ltb, Option, None, Some, unwrap_or}
 use mathlib.Core.List.{List, [], ◌∷◌, map, flat_map, ◌++◌}
 use Rattle.rules.specs.Limits.{max_source, max_lines, address_limit}
 use Rattle.rules.specs.Text.{Text, cut_at}
@@ -52,8 +51,8 @@ pub data Step : Type 0 where
   next : ℕ → Table → Step
 
 unfoldable pub leaving : ℕ → Option Table → Step
-leaving a none = full
-leaving a (some t) = next a t
+leaving a None = full
+leaving a (Some t) = next a t
 
 -- the source line l, which says r, read at address a with the labels t
 unfoldable pub step_by : Sizes → ℕ → ℕ → Table → SourceLine → Line → Step
@@ -116,7 +115,7 @@ abbrev pub Encoder : Type 0
 Encoder = Table → ℕ → Instruction → Option (List Content)
 
 abbrev pub words_by : Encoder → Table → ℕ → Instruction → List Content
-words_by e t a i = get_or (e t a i) []
+words_by e t a i = unwrap_or (e t a i) []
 
 unfoldable pub code_contents_by : Encoder → Table → ℕ → Task → List Content
 code_contents_by e t a skipped = []
@@ -150,8 +149,8 @@ second_pass p = second_pass_by encode p
 
 -- the index of the first byte over 127, counted from i
 unfoldable pub first_high : ℕ → Text → Option ℕ
-first_high i [] = none
-first_high i (b ∷ s) = elim (ltb 127 b) [ true ↦ some i | false ↦ first_high (suc i) s ]
+first_high i [] = None
+first_high i (b ∷ s) = elim (ltb 127 b) [ true ↦ Some i | false ↦ first_high (suc i) s ]
 
 -- refusals 1 to 3, of a source alone, else what comes next
 unfoldable pub checks : {A : Type 0} → Text → Answer A → Answer A

@@ -1,7 +1,7 @@
 -- The words of an instruction, by paper 01's second pass. Assumes nothing.
-use Rattle.std.specs.Prelude.{ℕ, ◌+◌, ◌*◌, Bool, true, false, ◌&&◌, ◌||◌, cond, List, [], ◌∷◌, ◌++◌, ltb, eqb, ℤ}
-use Rattle.std.proofs.Math.Option.{Option, none, some, bind, or_else}
+use Rattle.std.specs.Prelude.{ℕ, ◌+◌, ◌*◌, Bool, true, false, ◌&&◌, ◌||◌, cond, List, [], ◌∷◌, ◌++◌, ltb, eqb, ℤ, Option, None, Some}
 use Rattle.std.proofs.Math.IntN.{sub_ℕ}
+use Rattle.rules.specs.Option.{bind, or_else}
 use Rattle.rules.specs.Text.{Text, bytes, same, starts, after}
 use Rattle.rules.specs.Number.{digit_value, Reading, value_of, signed_reading, within, modulo, hex_tail, number16, imm8, imm16}
 use Rattle.rules.specs.Line.{Instruction}
@@ -45,8 +45,8 @@ unfoldable pub mnemonics : List Mnemonic
 mnemonics = other_mnemonics ++ branches
 
 unfoldable pub operation_in : List Mnemonic → Text → Option Operation
-operation_in [] m = none
-operation_in (n ∷ ns) m = elim (same m n.name) [ true ↦ some n.operation | false ↦ operation_in ns m ]
+operation_in [] m = None
+operation_in (n ∷ ns) m = elim (same m n.name) [ true ↦ Some n.operation | false ↦ operation_in ns m ]
 
 -- "R(n) is register n in bits 9 to 11."
 unfoldable pub R : ℕ → ℕ
@@ -54,10 +54,10 @@ R n = 512 * n
 
 -- one byte, a "digit 0 to 7"
 unfoldable pub register_digit : Option Text → Option ℕ
-register_digit none = none
-register_digit (some []) = none
-register_digit (some (b ∷ [])) = cond (ltb (digit_value b) 8) (some (digit_value b)) none
-register_digit (some (b ∷ c ∷ s)) = none
+register_digit None = None
+register_digit (Some []) = None
+register_digit (Some (b ∷ [])) = cond (ltb (digit_value b) 8) (Some (digit_value b)) None
+register_digit (Some (b ∷ c ∷ s)) = None
 
 -- "Dn or An is two bytes, upper case, digit 0 to 7."
 unfoldable pub data_register : Text → Option ℕ
@@ -68,11 +68,11 @@ address_register s = register_digit (after (bytes "A") s)
 
 -- (An): the digit, then a closing bracket
 unfoldable pub closed : Option Text → Option ℕ
-closed none = none
-closed (some []) = none
-closed (some (b ∷ [])) = none
-closed (some (b ∷ c ∷ [])) = cond (eqb c 41) (register_digit (some (b ∷ []))) none
-closed (some (b ∷ c ∷ d ∷ s)) = none
+closed None = None
+closed (Some []) = None
+closed (Some (b ∷ [])) = None
+closed (Some (b ∷ c ∷ [])) = cond (eqb c 41) (register_digit (Some (b ∷ []))) None
+closed (Some (b ∷ c ∷ d ∷ s)) = None
 
 unfoldable pub indirect : Text → Option ℕ
 indirect s = closed (after (bytes "(A") s)
@@ -88,18 +88,18 @@ abbrev pub ◌else◌ : {A : Type 0} → Option A → Option A → Option A
 
 -- "Operand counts are exact, but branches need one or more"
 unfoldable pub two : {A : Type 0} → (Text → Text → Option A) → List Text → Option A
-two f [] = none
-two f (s ∷ []) = none
+two f [] = None
+two f (s ∷ []) = None
 two f (s ∷ t ∷ []) = f s t
-two f (s ∷ t ∷ u ∷ ps) = none
+two f (s ∷ t ∷ u ∷ ps) = None
 
 unfoldable pub one : {A : Type 0} → (Text → Option A) → List Text → Option A
-one f [] = none
+one f [] = None
 one f (s ∷ []) = f s
-one f (s ∷ t ∷ ps) = none
+one f (s ∷ t ∷ ps) = None
 
 unfoldable pub one_or_more : {A : Type 0} → (Text → Option A) → List Text → Option A
-one_or_more f [] = none
+one_or_more f [] = None
 one_or_more f (s ∷ ps) = f s
 
 -- "its address minus (instruction address + 2), if −128 to 127"
@@ -108,7 +108,7 @@ reach t a = within 128 (sub_ℕ t (a + 2))
 
 -- "an operand starting + or − is read as signed 8 bits, decimal, without a prefix", no other is
 unfoldable pub written_reading : Text → Option (Reading ℤ)
-written_reading s = cond (starts (bytes "+") s || starts (bytes "-") s) (some (signed_reading 10 128 s)) none
+written_reading s = cond (starts (bytes "+") s || starts (bytes "-") s) (Some (signed_reading 10 128 s)) None
 
 -- its number, if it is read
 unfoldable pub written_signed : Text → Option ℤ
@@ -123,8 +123,8 @@ all_digits [] = true
 all_digits (b ∷ s) = ltb (digit_value b) 10 && all_digits s
 
 unfoldable pub is_some : {A : Type 0} → Option A → Bool
-is_some none = false
-is_some (some a) = true
+is_some None = false
+is_some (Some a) = true
 
 -- JMP: "an operand starting `$` or `0x`, or of digits only, must be a 16-bit number, any other a recorded label"
 unfoldable pub jumps : Table → Text → Bool
@@ -132,13 +132,13 @@ jumps ls s = cond (is_some (hex_tail s) || all_digits s) (is_some (number16 s)) 
 
 -- one word; a word and an extension word; a word and the address of the label l
 abbrev pub word : ℕ → Option (List Content)
-word w = some (literal w ∷ [])
+word w = Some (literal w ∷ [])
 
 abbrev pub with_value : ℕ → ℕ → Option (List Content)
-with_value w v = some (literal w ∷ literal v ∷ [])
+with_value w v = Some (literal w ∷ literal v ∷ [])
 
 unfoldable pub with_label : Table → ℕ → Text → Option (List Content)
-with_label ls w l = do x ← find l ls; some (literal w ∷ address x ∷ [])
+with_label ls w l = do x ← find l ls; Some (literal w ∷ address x ∷ [])
 
 -- ---- 01's rows, each the words of one form by its operands s and t; w is the row's word
 -- Dn,Dm
@@ -199,7 +199,7 @@ tst_row s = do n ← data_register s; word (0x4A80 + n)
 
 -- JMP or JUMP
 unfoldable pub jump_row : Table → Text → Option (List Content)
-jump_row ls s = cond (jumps ls s) (word 0x4EF8) none
+jump_row ls s = cond (jumps ls s) (word 0x4EF8) None
 
 -- "DBRA Dn,d", at address a
 unfoldable pub dbra_row : Table → ℕ → Text → Text → Option (List Content)

@@ -1,7 +1,6 @@
 -- Paper 01's forms as a table: of each operation the count of its operands and what its forms have in their places; and W-205's
 -- kinds of operands. Assumes nothing.
-use Rattle.std.specs.Prelude.{ℕ, Bool, true, false, ◌&&◌, cond, List, [], ◌∷◌, leb, eqb}
-use Rattle.std.proofs.Math.Option.{Option, none, some}
+use Rattle.std.specs.Prelude.{ℕ, Bool, true, false, ◌&&◌, cond, List, [], ◌∷◌, leb, eqb, Option, None, Some}
 use Rattle.rules.specs.Text.{Text, bytes, starts}
 use Rattle.rules.specs.Encode.{Operation, moveq, move, movea, muls, tst, subq, asl, dbra, nop, simhalt, add, sub, cmp, jmp, branch, data_register, address_register, indirect, is_some}
 
@@ -91,5 +90,5 @@ stand (x ∷ xs) (s ∷ ps) = same_kind (kind_of s) (kind_for x) && stand xs ps
 
 -- the form that has the operands' kinds
 unfoldable pub form_with : List (List Operand) → List Text → Option (List Operand)
-form_with [] ps = none
-form_with (f ∷ fs) ps = cond (stand f ps) (some f) (form_with fs ps)
+form_with [] ps = None
+form_with (f ∷ fs) ps = cond (stand f ps) (Some f) (form_with fs ps)

@@ -1,6 +1,5 @@
 -- The labels recorded, by paper 01. Assumes nothing.
-use Rattle.std.specs.Prelude.{ℕ, ◌+◌, Bool, true, false, List, [], ◌∷◌, length, ltb}
-use Rattle.std.proofs.Math.Option.{Option, none, some}
+use Rattle.std.specs.Prelude.{ℕ, ◌+◌, Bool, true, false, List, [], ◌∷◌, length, ltb, Option, None, Some}
 use Rattle.rules.specs.Limits.{max_labels}
 use Rattle.rules.specs.Text.{Text, same}
 use Rattle.rules.specs.Line.{SourceLine, Name}
@@ -19,8 +18,8 @@ Table = List Label
 
 -- the address of the label n
 unfoldable pub find : Text → Table → Option ℕ
-find n [] = none
-find n (l ∷ t) = elim (same n l.name) [ true ↦ some l.address | false ↦ find n t ]
+find n [] = None
+find n (l ∷ t) = elim (same n l.name) [ true ↦ Some l.address | false ↦ find n t ]
 
 -- "A label recorded again takes the later address."
 unfoldable pub recorded : Label → Table → Table
@@ -29,8 +28,8 @@ recorded x (l ∷ t) = elim (same x.name l.name) [ true ↦ x ∷ t | false ↦ 
 
 -- a recorded label, or room for a new one
 unfoldable pub has_room : Option ℕ → Table → Bool
-has_room none t = ltb (length t) max_labels
-has_room (some a) t = true
+has_room None t = ltb (length t) max_labels
+has_room (Some a) t = true
 
 -- the name n of the source line l as a label at the address a
 abbrev pub label_of : SourceLine → ℕ → Name → Label
@@ -39,9 +38,9 @@ label_of l a n = record { name = n.text; start = l.start + n.start; address = a;
 -- the labels ns of the source line l, recorded in order at the address a;
 -- none where "a new label when" 256 "are recorded" (W-203) comes
 unfoldable pub record_all : SourceLine → ℕ → List Name → Table → Option Table
-record_all l a [] t = some t
+record_all l a [] t = Some t
 record_all l a (n ∷ ns) t =
     elim (has_room (find n.text t) t) [
       | true ↦ record_all l a ns (recorded (label_of l a n) t)
-      | false ↦ none
+      | false ↦ None
     ]

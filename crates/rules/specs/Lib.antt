@@ -1,3 +1,4 @@
+pub mod Option
 pub mod Limits
 pub mod Text
 pub mod Number

@@ -1,6 +1,5 @@
 -- What a line says, by paper 01: the six steps of the first pass, and the size of an instruction. Assumes nothing.
-use Rattle.std.specs.Prelude.{ℕ, suc, ◌+◌, Bool, true, false, not, ◌&&◌, ◌||◌, cond, List, [], ◌∷◌, map, ◌++◌, length, eqb}
-use Rattle.std.proofs.Math.Option.{Option, none, some}
+use Rattle.std.specs.Prelude.{ℕ, suc, ◌+◌, Bool, true, false, not, ◌&&◌, ◌||◌, cond, List, [], ◌∷◌, map, ◌++◌, length, eqb, Option, None, Some}
 use Rattle.rules.specs.Text.{Text, bytes, uppers, leading, trim, cut_at, drop_empty, pieces, joined, uncut, around, first_cut, same, starts, contains, nth, first_text, other_texts, last_text}
 use Rattle.rules.specs.Number.{Reading, failed, no_digits, value_of, reading32}
 use Rattle.rules.specs.Sum.{sum_reading}
@@ -60,8 +59,8 @@ line ns k = record { names = ns; task = k }
 
 -- ORG's piece as it reads; "no piece at all" has no digits
 unfoldable pub reading_in : Option Text → Reading ℕ
-reading_in none = failed no_digits
-reading_in (some p) = reading32 p
+reading_in None = failed no_digits
+reading_in (Some p) = reading32 p
 
 -- its number, where it is read
 unfoldable pub number_in : Option Text → Option ℕ
@@ -73,8 +72,8 @@ value_reading s = cond (starts (bytes "[") s) (sum_reading s) (reading32 s)
 
 -- DC's piece as it reads
 unfoldable pub value_reading_in : Option Text → Reading ℕ
-value_reading_in none = failed no_digits
-value_reading_in (some p) = value_reading p
+value_reading_in None = failed no_digits
+value_reading_in (Some p) = value_reading p
 
 -- step 6: "The other pieces, joined by one space, cut at commas, trimmed, empties removed, are the operands."
 unfoldable pub operands_of : Text → List Text
@@ -95,12 +94,12 @@ data_size u =
 
 -- step 5: "With `DC.` in the line, the directive's second piece, if a number, is the value"; or if a sum (W-211)
 unfoldable pub data_value : Text → Text → Option ℕ
-data_value u d = cond (contains (bytes "DC.") u) (value_of (value_reading_in (nth 1 (pieces d)))) none
+data_value u d = cond (contains (bytes "DC.") u) (value_of (value_reading_in (nth 1 (pieces d)))) None
 
 -- step 5: data of a size, with its value if it has one
 unfoldable pub sized : ℕ → Option ℕ → Task
-sized n none = space n
-sized n (some v) = value n v
+sized n None = space n
+sized n (Some v) = value n v
 
 -- step 5: the task of the line s with its directive d
 unfoldable pub data_task : Text → Text → Task
@@ -150,8 +149,8 @@ label_line i s =
 
 -- step 3: "if the second blank-separated piece is a number"
 unfoldable pub org_task : Option ℕ → Task
-org_task none = no_org
-org_task (some v) = org v
+org_task None = no_org
+org_task (Some v) = org v
 
 -- steps 1 to 3 on the trimmed line, which starts at i
 unfoldable pub trimmed_line : ℕ → Text → Line
@@ -174,8 +173,8 @@ line_of s = trimmed_line (leading s) (trim s)
 
 -- sizes: the suffix is exactly `L`
 unfoldable pub is_l : Option Text → Bool
-is_l none = false
-is_l (some p) = same p (bytes "L")
+is_l None = false
+is_l (Some p) = same p (bytes "L")
 
 -- sizes: "starting D, A or ("
 unfoldable pub is_plain : Text → Bool

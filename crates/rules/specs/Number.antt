@@ -1,6 +1,6 @@
 -- Numbers in text: one reader over the radix and the bound with W-204's four answers, and paper 01's numbers, what it reads. Assumes nothing.
-use Rattle.std.specs.Prelude.{ℕ, suc, ◌+◌, ◌-◌, ◌*◌, ◌^◌, ◌%◌, true, false, ◌&&◌, cond, [], ◌∷◌, leb, ltb, eqb, ℤ, pos, negsuc, neg_ℤ}
-use Rattle.std.proofs.Math.Option.{Option, none, some, bind}
+use Rattle.std.specs.Prelude.{ℕ, suc, ◌+◌, ◌-◌, ◌*◌, ◌^◌, ◌%◌, true, false, ◌&&◌, cond, [], ◌∷◌, leb, ltb, eqb, ℤ, pos, negsuc, neg_ℤ, Option, None, Some}
+use Rattle.rules.specs.Option.{bind}
 use Rattle.rules.specs.Text.{Text, bytes, after}
 
 -- "each byte's digit value, 255 for none"
@@ -33,16 +33,16 @@ some_digits radix (b ∷ s) = digits radix 0 (b ∷ s)
 -- a type, as what it makes of a value: "a bad digit before a value out of range"
 unfoldable pub ranged : {A : Type 0} → (ℕ → Option A) → Reading ℕ → Reading A
 ranged f (failed x) = failed x
-ranged f (read v) = elim (f v) [ none ↦ failed out_of_range | some a ↦ read a ]
+ranged f (read v) = elim (f v) [ None ↦ failed out_of_range | Some a ↦ read a ]
 
 -- 0 to bound - 1
 unfoldable pub below : ℕ → ℕ → Option ℕ
-below bound v = cond (ltb v bound) (some v) none
+below bound v = cond (ltb v bound) (Some v) None
 
 -- -bound to bound - 1
 unfoldable pub within : ℕ → ℤ → Option ℤ
-within bound (pos n) = cond (ltb n bound) (some (pos n)) none
-within bound (negsuc n) = cond (ltb n bound) (some (negsuc n)) none
+within bound (pos n) = cond (ltb n bound) (Some (pos n)) None
+within bound (negsuc n) = cond (ltb n bound) (Some (negsuc n)) None
 
 -- the text without one byte c in front
 unfoldable pub without : ℕ → Text → Text
@@ -64,11 +64,11 @@ signed_reading radix bound (b ∷ s) =
 
 -- what follows the "prefix `$` or `0x`"
 unfoldable pub hex_tail : Text → Option Text
-hex_tail s = elim (after (bytes "$") s) [ none ↦ after (bytes "0x") s | some t ↦ some t ]
+hex_tail s = elim (after (bytes "$") s) [ None ↦ after (bytes "0x") s | Some t ↦ Some t ]
 
 -- a reader used with radix 16 after a prefix, "else decimal"
 unfoldable pub by_prefix : {A : Type 0} → (ℕ → Text → A) → Text → A
-by_prefix f s = elim (hex_tail s) [ none ↦ f 10 s | some t ↦ f 16 t ]
+by_prefix f s = elim (hex_tail s) [ None ↦ f 10 s | Some t ↦ f 16 t ]
 
 -- "ORG and DC: 32 bits"
 unfoldable pub reading32 : Text → Reading ℕ
@@ -84,13 +84,13 @@ reading8 s = by_prefix (λ r t. signed_reading r 128 t) s
 
 -- "Immediates: `#`, then the same prefixes": what follows `#`, read; without `#` it is no immediate
 unfoldable pub immediate : {A : Type 0} → (Text → Reading A) → Text → Option (Reading A)
-immediate f s = elim (after (bytes "#") s) [ none ↦ none | some t ↦ some (f t) ]
+immediate f s = elim (after (bytes "#") s) [ None ↦ None | Some t ↦ Some (f t) ]
 
 -- ---- 01's numbers: what is read
 -- the value of a reading, if it has one
 unfoldable pub value_of : {A : Type 0} → Reading A → Option A
-value_of (read a) = some a
-value_of (failed x) = none
+value_of (read a) = Some a
+value_of (failed x) = None
 
 -- JMP's number
 unfoldable pub number16 : Text → Option ℕ

@@ -1,6 +1,5 @@
 -- The mover, by paper 01 and 02's W-207: refusals 8 to 11, and the lent slices after a call. To move a list is to relocate it. Assumes nothing.
-use Rattle.std.specs.Prelude.{ℕ, zero, suc, ◌+◌, ◌*◌, ◌/◌, ◌%◌, ◌^◌, Bool, true, false, not, ◌&&◌, ◌||◌, cond, List, [], ◌∷◌, leb, ltb, eqb, ℤ, pos, negsuc, ◌+ℤ◌, nat_abs}
-use Rattle.std.proofs.Math.Option.{Option, none, some}
+use Rattle.std.specs.Prelude.{ℕ, zero, suc, ◌+◌, ◌*◌, ◌/◌, ◌%◌, ◌^◌, Bool, true, false, not, ◌&&◌, ◌||◌, cond, List, [], ◌∷◌, leb, ltb, eqb, ℤ, pos, negsuc, ◌+ℤ◌, nat_abs, Option, None, Some}
 use Rattle.rules.specs.Limits.{last_address, distance_limit}
 use Rattle.rules.specs.Number.{modulo}
 use Rattle.rules.specs.Answer.{Answer, accepted, refused, refuse_if, refuse_at}
@@ -43,9 +42,9 @@ first_in (suc n) (x ∷ xs) = x
 
 -- the index, counted from i, of the first of n numbers that passes the test
 unfoldable pub first_index : (ℕ → Bool) → ℕ → ℕ → List ℕ → Option ℕ
-first_index f i zero xs = none
-first_index f i (suc n) [] = none
-first_index f i (suc n) (x ∷ xs) = elim (f x) [ true ↦ some i | false ↦ first_index f (suc i) n xs ]
+first_index f i zero xs = None
+first_index f i (suc n) [] = None
+first_index f i (suc n) (x ∷ xs) = elim (f x) [ true ↦ Some i | false ↦ first_index f (suc i) n xs ]
 
 -- "refusal 10 now covers a mark over 3, a 2 not followed by a 3 and a 3 not preceded by a 2"
 unfoldable pub bad_mark : ℕ → ℕ → ℕ → Bool
@@ -53,10 +52,10 @@ bad_mark before m next = ltb 3 m || (eqb m 2 && not (eqb next 3)) || (eqb m 3 &&
 
 -- the index, counted from i, of the first bad one of n marks that follow the mark `before`
 unfoldable pub first_bad_mark : ℕ → ℕ → ℕ → List ℕ → Option ℕ
-first_bad_mark before i zero ms = none
-first_bad_mark before i (suc n) [] = none
+first_bad_mark before i zero ms = None
+first_bad_mark before i (suc n) [] = None
 first_bad_mark before i (suc n) (m ∷ ms) =
-    elim (bad_mark before m (first_in n ms)) [ true ↦ some i | false ↦ first_bad_mark m (suc i) n ms ]
+    elim (bad_mark before m (first_in n ms)) [ true ↦ Some i | false ↦ first_bad_mark m (suc i) n ms ]
 
 -- the first n addresses, moved
 unfoldable pub move_addresses : ℤ → ℕ → List ℕ → List ℕ

@@ -1,6 +1,5 @@
 -- W-211, sums in DC: the expression that a text in square brackets is, and its value by exact steps, with W-204's answers. Assumes nothing.
-use Rattle.std.specs.Prelude.{ℕ, zero, suc, ◌+◌, ◌-◌, ◌*◌, ◌^◌, Bool, true, false, ◌||◌, cond, [], ◌∷◌, leb, eqb, length, drop}
-use Rattle.std.proofs.Math.Option.{Option, none, some}
+use Rattle.std.specs.Prelude.{ℕ, zero, suc, ◌+◌, ◌-◌, ◌*◌, ◌^◌, Bool, true, false, ◌||◌, cond, [], ◌∷◌, leb, eqb, length, drop, Option, None, Some}
 use Rattle.rules.specs.Limits.{max_nesting}
 use Rattle.rules.specs.Text.{Text, cut_where, first_text}
 use Rattle.rules.specs.Number.{Reading, read, failed, bad_digit, out_of_range, below, some_digits, by_prefix}
@@ -85,29 +84,29 @@ sum_of d s = series is_sign (series is_times (atom_of d)) s
 
 -- the closing bracket, with which the text ends
 unfoldable pub ended : Parse → Option Expression
-ended malformed = none
-ended (parsed a []) = none
-ended (parsed a (c ∷ [])) = cond (eqb c 93) (some a) none
-ended (parsed a (c ∷ b ∷ r)) = none
+ended malformed = None
+ended (parsed a []) = None
+ended (parsed a (c ∷ [])) = cond (eqb c 93) (Some a) None
+ended (parsed a (c ∷ b ∷ r)) = None
 
 -- "a sum in square brackets": the whole text
 unfoldable pub bracketed : Text → Option Expression
-bracketed [] = none
-bracketed (b ∷ s) = cond (eqb b 91) (ended (sum_of max_nesting s)) none
+bracketed [] = None
+bracketed (b ∷ s) = cond (eqb b 91) (ended (sum_of max_nesting s)) None
 
 -- ---- what it is worth
 -- a step between two values, where there are both
 unfoldable pub stepped : (ℕ → ℕ → Option ℕ) → Option ℕ → Option ℕ → Option ℕ
-stepped f none w = none
-stepped f (some a) none = none
-stepped f (some a) (some b) = f a b
+stepped f None w = None
+stepped f (Some a) None = None
+stepped f (Some a) (Some b) = f a b
 
 -- "any step below 0 or above 2^32 − 1, yields no value"
 unfoldable pub sum_step : ℕ → ℕ → Option ℕ
 sum_step a b = below (2 ^ 32) (a + b)
 
 unfoldable pub difference_step : ℕ → ℕ → Option ℕ
-difference_step a b = cond (leb b a) (some (a - b)) none
+difference_step a b = cond (leb b a) (Some (a - b)) None
 
 unfoldable pub product_step : ℕ → ℕ → Option ℕ
 product_step a b = below (2 ^ 32) (a * b)
@@ -122,13 +121,13 @@ exact_value (product a b) = stepped product_step (exact_value a) (exact_value b)
 
 -- ---- as a reading
 unfoldable pub ranging : Option ℕ → Reading ℕ
-ranging none = failed out_of_range
-ranging (some v) = read v
+ranging None = failed out_of_range
+ranging (Some v) = read v
 
 -- "A malformed or deeper sum .. a bad digit, which comes before the last, too large or too small"
 unfoldable pub evaluated : Option Expression → Reading ℕ
-evaluated none = failed bad_digit
-evaluated (some a) = ranging (exact_value a)
+evaluated None = failed bad_digit
+evaluated (Some a) = ranging (exact_value a)
 
 -- what a text says that starts with `[`
 unfoldable pub sum_reading : Text → Reading ℕ

@@ -1,6 +1,5 @@
 -- Moves made one after another, and the tally, by paper 01 and 02's W-207: the tally keeps the first list and a running total. Assumes nothing.
-use Rattle.std.specs.Prelude.{ℕ, zero, suc, true, false, List, [], ◌∷◌, map, length, ℤ, pos, ◌+ℤ◌}
-use Rattle.std.proofs.Math.Option.{Option, none, some}
+use Rattle.std.specs.Prelude.{ℕ, zero, suc, true, false, List, [], ◌∷◌, map, length, ℤ, pos, ◌+ℤ◌, Option, None, Some}
 use Rattle.rules.specs.Answer.{Answer, accepted, refused, refuse_if, refuse_at}
 use Rattle.rules.specs.Assemble.{Place, Slices}
 use Rattle.rules.specs.Relocate.{far, outside, moved_address, moved_word, move_answer, move_slices}
@@ -29,8 +28,8 @@ moves n x (d ∷ ds) =
 
 -- the lowest index, counted from i, at which first address + z is outside
 unfoldable pub first_outside : ℤ → ℕ → List Place → Option ℕ
-first_outside z i [] = none
-first_outside z i (p ∷ ps) = elim (outside (pos p.address +ℤ z)) [ true ↦ some i | false ↦ first_outside z (suc i) ps ]
+first_outside z i [] = None
+first_outside z i (p ∷ ps) = elim (outside (pos p.address +ℤ z)) [ true ↦ Some i | false ↦ first_outside z (suc i) ps ]
 
 -- the tally's answer to a distance, at a total
 unfoldable pub tally_answer : List Place → ℤ → ℤ → Answer ℕ

@@ -1,9 +1,8 @@
 -- Bytes of text, by paper 01: blanks, upper case, trimming, cutting, pieces. Assumes nothing.
-use Rattle.std.specs.Prelude.{ℕ, zero, suc, ◌-◌, Bool, true, false, ◌&&◌, ◌||◌, cond, List, [], ◌∷◌, ◌++◌, leb, eqb}
+use Rattle.std.specs.Prelude.{ℕ, zero, suc, ◌-◌, Bool, true, false, ◌&&◌, ◌||◌, cond, List, [], ◌∷◌, ◌++◌, leb, eqb, Option, None, Some}
 use Prim.Native.Char.{code}
 use Prim.Native.String as S
 use Prim.Native.String.{String}
-use Rattle.std.proofs.Math.Option.{Option, none, some}
 
 -- a text is a list of bytes
 abbrev pub Text : Type 0
@@ -114,14 +113,14 @@ contains p (b ∷ t) = elim (starts p (b ∷ t)) [ true ↦ true | false ↦ con
 
 -- what follows p in a text that starts with it
 unfoldable pub after : Text → Text → Option Text
-after [] t = some t
-after (a ∷ p) [] = none
-after (a ∷ p) (b ∷ t) = elim (eqb a b) [ true ↦ after p t | false ↦ none ]
+after [] t = Some t
+after (a ∷ p) [] = None
+after (a ∷ p) (b ∷ t) = elim (eqb a b) [ true ↦ after p t | false ↦ None ]
 
 -- the n-th text, from 0
 unfoldable pub nth : ℕ → List Text → Option Text
-nth n [] = none
-nth zero (p ∷ ps) = some p
+nth n [] = None
+nth zero (p ∷ ps) = Some p
 nth (suc n) (p ∷ ps) = nth n ps
 
 -- the first text, empty where there is none; the others; the last of p and ps

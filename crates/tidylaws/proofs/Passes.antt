@@ -1,8 +1,8 @@
 -- The passes over a copy come to what they come to over its source: the same labels, and the same lines but for skipped ones. Assumes nothing.
+use Rattle.std.specs.Prelude.{Option, None, Some}
 use Prim.Native.Nat.{ℕ, suc, ◌+◌, ◌≤◌}
 use mathlib.Core.Path.{◌≡◌, refl, sym, ap, ◌∙◌}
 use mathlib.Core.Bool.{Bool, true, false, cond}
-use mathlib.Core.Option.{Option, none, some}
 use mathlib.Core.List.{List, [], ◌∷◌, flat_map, ◌++◌}
 use native.Mathlib.Omega.{arith}
 use lib.Dec.{ltb, eqb}
@@ -190,11 +190,11 @@ module _ (e : Encoder) (b : ByFind e) where
   second_same s = rw (data_same s.puts_same, code_same s.labels_alike s.puts_same)
 
 -- ---- 14 and 15 of the manual's call
-fault_none : {A : Type 0} (t : Table) (n : ℕ) (p : Put) (ps : List Put) (r : Answer A) → task_fault t p.address p.task ≡ none → faultless t n (p ∷ ps) r ≡ faultless t (suc n) ps r
+fault_none : {A : Type 0} (t : Table) (n : ℕ) (p : Put) (ps : List Put) (r : Answer A) → task_fault t p.address p.task ≡ None → faultless t n (p ∷ ps) r ≡ faultless t (suc n) ps r
 unfolding faultless
 fault_none t n p ps r e = rw (e, faultless)
 
-fault_some : {A : Type 0} (t : Table) (n : ℕ) (p : Put) (ps : List Put) (r : Answer A) (f : ℕ) → task_fault t p.address p.task ≡ some f → faultless t n (p ∷ ps) r ≡ refused f n
+fault_some : {A : Type 0} (t : Table) (n : ℕ) (p : Put) (ps : List Put) (r : Answer A) (f : ℕ) → task_fault t p.address p.task ≡ Some f → faultless t n (p ∷ ps) r ≡ refused f n
 unfolding faultless
 fault_some t n p ps r f e = rw (e, faultless)
 
@@ -205,13 +205,13 @@ faults_same {A} {t} {u} q (both_put p {ps} {qs} s) n m r l h = go (task_fault t 
   where
     go : (o : Option ℕ) → task_fault t p.address p.task ≡ o → ((n m : ℕ) (r : Answer A) (l : A) → faultless t n ps r ≡ accepted l → faultless u m qs r ≡ accepted l)
         → faultless u m (p ∷ qs) r ≡ accepted l
-    go none e ih = fault_none u m p qs r (sym (task_fault_alike t u (find_alike q) p.address p.task) ∙ e) ∙ ih (suc n) (suc m) r l (sym (fault_none t n p ps r e) ∙ h)
-    go (some f) e ih = let k = sym (fault_some t n p ps r f e) ∙ h in clash cc
+    go None e ih = fault_none u m p qs r (sym (task_fault_alike t u (find_alike q) p.address p.task) ∙ e) ∙ ih (suc n) (suc m) r l (sym (fault_none t n p ps r e) ∙ h)
+    go (Some f) e ih = let k = sym (fault_some t n p ps r f e) ∙ h in clash cc
 faults_same q (left_out a s) n m r l h = faults_same q s (suc n) m r l h
 faults_same q (put_in a s) n m r l h = faults_same q s n (suc m) r l h
 
 -- ---- bytes over 127
-high_here : (i b : ℕ) (s : Text) → ltb 127 b ≡ true → first_high i (b ∷ s) ≡ some i
+high_here : (i b : ℕ) (s : Text) → ltb 127 b ≡ true → first_high i (b ∷ s) ≡ Some i
 unfolding first_high
 high_here i b s e = rw (e, first_high)
 
@@ -219,15 +219,15 @@ high_later : (i b : ℕ) (s : Text) → ltb 127 b ≡ false → first_high i (b 
 unfolding first_high
 high_later i b s e = rw (e, first_high)
 
-ascii_clean : (i : ℕ) (s : Text) → first_high i s ≡ none → Clean (ltb 127) s
+ascii_clean : (i : ℕ) (s : Text) → first_high i s ≡ None → Clean (ltb 127) s
 ascii_clean i [] e = clean
 ascii_clean i (b ∷ s) e = go (ltb 127 b) refl (ascii_clean (suc i) s)
   where
-    go : (y : Bool) → ltb 127 b ≡ y → (first_high (suc i) s ≡ none → Clean (ltb 127) s) → Clean (ltb 127) (b ∷ s)
+    go : (y : Bool) → ltb 127 b ≡ y → (first_high (suc i) s ≡ None → Clean (ltb 127) s) → Clean (ltb 127) (b ∷ s)
     go true f ih = let z : ◌≡◌ {A = ℕ} 0 1 = cc (high_here i b s f) in absurd (omega arith)
     go false f ih = cleaner f (ih (sym (high_later i b s f) ∙ e))
 
-clean_ascii : (i : ℕ) {s : Text} → Clean (ltb 127) s → first_high i s ≡ none
+clean_ascii : (i : ℕ) {s : Text} → Clean (ltb 127) s → first_high i s ≡ None
 unfolding first_high
 clean_ascii i clean = refl
 clean_ascii i (cleaner {a} {p} q c) = high_later i a p q ∙ clean_ascii (suc i) c

@@ -1,8 +1,8 @@
 -- The copy by cases: of what follows a colon, of a line that reaches step 4, of a line by its kind. Assumes nothing.
+use Rattle.std.specs.Prelude.{Option, None, Some}
 use Prim.Native.Nat.{ℕ, ◌<◌}
 use mathlib.Core.Path.{◌≡◌, refl, sym, ◌∙◌}
 use mathlib.Core.Bool.{Bool, true, false, cond}
-use mathlib.Core.Option.{Option, none, some}
 use mathlib.Core.List.{List, [], ◌∷◌, ◌++◌}
 use native.Mathlib.Omega.{arith}
 use lib.Dec.{eqb}
@@ -141,8 +141,8 @@ unfolding data_task sized
 fits_data s d = go (data_value (uppers s) d)
   where
     go : (o : Option ℕ) → Fits step4 (sized (data_size (uppers s)) o)
-    go none = fits_space
-    go (some v) = fits_value
+    go None = fits_space
+    go (Some v) = fits_value
 
 fits_pieces : (ns : List Name) (i : ℕ) (s : Text) (ps : List Text) → Fits step4 (data_pieces ns i s ps).task
 unfolding data_pieces
@@ -178,8 +178,8 @@ fits_open i s = go (first_cut 58 s) refl
 
 fits_origin : (o : Option ℕ) → Fits origin (org_task o)
 unfolding org_task
-fits_origin none = fits_no_org
-fits_origin (some v) = fits_org
+fits_origin None = fits_no_org
+fits_origin (Some v) = fits_org
 
 pub fits_by : (k : Kind) (i : ℕ) (s : Text) → Fits k (by_kind k i s).task
 unfolding by_kind

@@ -1,8 +1,8 @@
 -- Labels that differ only in where they stand in the source: the same are found, the same are recorded, and the same words are made. Assumes nothing.
+use Rattle.std.specs.Prelude.{Option, None, Some}
 use Prim.Native.Nat.{ℕ, suc}
 use mathlib.Core.Path.{◌≡◌, refl, sym, ap, ◌∙◌}
 use mathlib.Core.Bool.{Bool, true, false}
-use mathlib.Core.Option.{Option, none, some}
 use mathlib.Core.List.{List, [], ◌∷◌, map}
 use native.Mathlib.Omega.{arith}
 use lib.ListN.{length}
@@ -25,7 +25,7 @@ alike_named no_labels = refl
 alike_named (labels e f q) = rw (e, f, alike_named q)
 
 -- ---- what is found
-find_here : (n : Text) (x : Label) (t : Table) → same n x.name ≡ true → find n (x ∷ t) ≡ some x.address
+find_here : (n : Text) (x : Label) (t : Table) → same n x.name ≡ true → find n (x ∷ t) ≡ Some x.address
 unfolding find
 find_here n x t e = rw (e, find)
 
@@ -65,13 +65,13 @@ recorded_alike x y e f (labels {x = v} {y = w} {t} {u} g h q) = go (same y.name 
 
 -- tables, where there is one
 pub data AlikeOption : Option Table → Option Table → Type 0 where
-  no_tables : AlikeOption none none
-  tables : {t u : Table} → Alike t u → AlikeOption (some t) (some u)
+  no_tables : AlikeOption None None
+  tables : {t u : Table} → Alike t u → AlikeOption (Some t) (Some u)
 
 room_alike : (o : Option ℕ) {t u : Table} → Alike t u → has_room o t ≡ has_room o u
 unfolding has_room
-room_alike none q = rw (length_alike q)
-room_alike (some a) q = refl
+room_alike None q = rw (length_alike q)
+room_alike (Some a) q = refl
 
 abbrev texts : List Name → List Text
 texts ns = map (λ n. n.text) ns
@@ -161,10 +161,10 @@ module _ (t u : Table) (e : (n : Text) → find n t ≡ find n u) (a : ℕ) wher
   -- 14 and 15 of the manual's call
   fault_alike : (o : Option Form) → form_fault t a o ≡ form_fault u a o
   unfolding form_fault displacements
-  fault_alike none = refl
-  fault_alike (some (said i)) = refl
-  fault_alike (some (labelled g l)) = rw (e l)
-  fault_alike (some (displaced g s)) = rw (e s)
+  fault_alike None = refl
+  fault_alike (Some (said i)) = refl
+  fault_alike (Some (labelled g l)) = rw (e l)
+  fault_alike (Some (displaced g s)) = rw (e s)
 
   pub task_fault_alike : (k : Task) → task_fault t a k ≡ task_fault u a k
   unfolding task_fault manual_fault
