@@ -1,2 +1,2 @@
-pub mod Answer
-pub mod Called
+pub mod Refusal
+pub mod Told

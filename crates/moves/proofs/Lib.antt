@@ -1,2 +1,2 @@
+pub mod Making
 pub mod Tallied
-pub mod Moves

@@ -1,6 +1,7 @@
 pub mod Signed
-pub mod Marks
-pub mod Scan
 pub mod Sweep
+pub mod Prefix
+pub mod Pairs
+pub mod Scan
 pub mod Verdict
 pub mod Callers

@@ -1,20 +1,10 @@
 -- Distances and moved addresses as signed numbers: tests, sums and casts. Assumes nothing.
-use Rattle.std.proofs.Common.{◌≡◌, ℕ, suc, ◌+◌, ◌-◌, ◌*◌, ◌/◌, ◌%◌, ◌^◌, ◌<◌, Bool, true, false, cond, T, ltb, ℤ, pos, negsuc, ◌+ℤ◌, nat_abs, sym, refl, ap, ◌∙◌, arith, to_z-of_z, w16, w32, w64, Fits, SFits, to_z, of_z, ltb-false, le-ltb}
+use Rattle.std.proofs.Common.{◌≡◌, ℕ, suc, ◌+◌, ◌*◌, ◌/◌, ◌%◌, ◌^◌, ◌<◌, true, false, T, ℤ, pos, negsuc, ◌+ℤ◌, nat_abs, sym, refl, ap, ◌∙◌, arith, to_z-of_z, w16, w32, w64, Fits, SFits, to_z, of_z, ltb-false, le-ltb}
 use mathlib.Core.Bool.{false≢true}
-use lib.Dec.{leb-suc-zero, leb-suc-suc}
+use lib.Dec.{leb-suc-zero}
 use lib.Signed.{lt_z, mag, non_neg}
 use Rattle.rules.specs.Number.{modulo}
-use Rattle.rules.specs.Relocate.{outside, far, added_pair, added_high}
-
-pub far_low : (d : ℤ) → lt_z d (negsuc 1073741822) ≡ true → lt_z d (negsuc 1073741822) ≡ far d
-unfolding far
-far_low (pos n) e = absurd (false≢true e)
-far_low (negsuc n) e = sym (leb-suc-suc 1073741823 n)
-
-pub far_high : (d : ℤ) → lt_z d (negsuc 1073741822) ≡ false → lt_z (pos 1073741823) d ≡ far d
-unfolding far
-far_high (pos n) e = refl
-far_high (negsuc n) e = sym e ∙ sym (leb-suc-suc 1073741823 n)
+use Rattle.rules.specs.Relocate.{outside, added_pair, added_high}
 
 pub outside_low : (z : ℤ) → lt_z z (pos 0) ≡ true → lt_z z (pos 0) ≡ outside z
 unfolding outside
@@ -31,15 +21,6 @@ pub inside_fits : (z : ℤ) → outside z ≡ false → T (non_neg z) × Fits w3
 unfolding outside
 inside_fits (pos n) e = (tt, record { fits = omega (arith, ltb-false (2 ^ 30 + 1) n e) })
 inside_fits (negsuc n) e = absurd (false≢true (sym e))
-
--- an address of 32 bits plus a distance of 32 bits fits 64 bits
-pub sum_fits : (a : ℕ) (d : ℤ) → a < 2 ^ 32 → SFits w32 d → SFits w64 (pos a +ℤ d)
-sum_fits a (pos n) h f = let k : n < 2 ^ 31 = f.sfits in record { sfits = omega arith }
-sum_fits a (negsuc n) h f = let k : n < 2 ^ 31 = f.sfits in record { sfits = go (ltb a (suc n)) }
-  where
-    go : (b : Bool) → mag (cond b (negsuc (suc n - suc a)) (pos (a - suc n))) < 2 ^ 63
-    go true = omega arith
-    go false = omega arith
 
 -- what a call of `sum` leaves in a local, read back
 pub summed : {z : ℤ} (a : ℕ) {d : ℤ} → mag z < 2 ^ 63 → z ≡ pos a +ℤ to_z w32 (of_z w32 d) → SFits w32 d → to_z w64 (of_z w64 z) ≡ pos a +ℤ d

@@ -1,62 +1,44 @@
 #![tactic(auto)]
 
-// The mover: it relocates a list in place, by a signed distance.
-ghost use Rattle.std.specs.Prelude.{◌≡◌, ◌+◌, ◌/◌, ◌^◌, ◌<◌, ◌≤◌, max, false, length, pos, ◌+ℤ◌, if◌then◌else◌, nat_eq, slice_index};
-ghost use Rattle.std.proofs.Math.Option.{none};
+//! The mover: it relocates a list in place, by a signed distance.
+ghost use Rattle.std.specs.Prelude.{◌≡◌, ◌+◌, ◌/◌, ◌^◌, ◌<◌, ◌≤◌, Result, All, OnOk, OnErr, false, length, map, take, IfOk, max, fold, slice_index, ◌∷◌, pos, ◌+ℤ◌, nat_lt, position, if◌then◌else◌, nat_eq};
+ghost use Rattle.std.specs.List.{list_any};
+ghost use Rattle.std.specs.Result.{result_map_both};
 ghost use Rattle.rules.specs.Number.{modulo};
-ghost use Rattle.rules.specs.Relocate.{far, moved_address, added_word, added_high, moved_word, first_index, bad_mark, first_bad_mark, move_addresses, move_words, move_answer};
-ghost use Rattle.answer.specs.declared.Answer.TheVariants.{Refused};
-ghost use Rattle.relocate.specs.Found.{found_of, before_in, next_in, top_in, leaving, judged_of};
-ghost use Rattle.relocate.specs.Moved.{Moved};
+ghost use Rattle.rules.specs.Relocate.{far, moved_address, added_word, added_high, moved_word, bad_mark, first_bad_mark, move_addresses, move_words, move_answer, move_slices};
 ghost use Rattle.rules.specs.Assemble.{slices};
+ghost use Rattle.answer.specs.Refusal.{answer_of};
+ghost use Rattle.relocate.specs.Moves.{leaving};
 
-use answer::Answer;
+use answer::Refusal;
 
-// A distance outside these is refused.
-const MIN_DISTANCE: i32 = -1073741823;
+/// A distance of this or more, either way, is refused.
+const DISTANCE_LIMIT: u32 = 1 << 30;
 
-const MAX_DISTANCE: i32 = 1073741823;
+/// The highest address that a place may be moved to.
+const LAST_ADDRESS: i64 = (1 << 30) + 1;
 
-// The highest address that a place may be moved to.
-const LAST_ADDRESS: i64 = 1073741825;
-
-// The lowest index of what is looked for, if there is one.
-#[derive(Clone, Copy)]
-pub enum Found {
-    At(usize),
-    Nothing,
-}
-
-// A move's answer and, if it is accepted, the highest mark: 0 and 1 tell that there are no pairs.
-#[derive(Clone, Copy)]
-pub struct Judged {
-    pub answer: Answer,
-    pub top: u8,
-}
-
-// Whether a distance is refused.
+#[tactic(auto, unfolding(rules::specs::Relocate::far))]
 fn is_far(distance: i32) -> bool
     ensures { result ≡ far distance }
 {
-    distance < MIN_DISTANCE || MAX_DISTANCE < distance
+    distance.unsigned_abs() >= DISTANCE_LIMIT
 }
 
-// An address plus a distance, which may be negative.
 fn sum(address: u32, distance: i32) -> i64
     ensures { result ≡ pos address +ℤ distance }
 {
-    address as i64 + distance as i64
+    i64::from(address) + i64::from(distance)
 }
 
-// Whether a move takes an address out of the range of addresses.
+/// Whether a move takes an address out of the range of addresses.
 fn leaves(address: u32, distance: i32) -> bool
     ensures { result ≡ leaving distance address }
 {
     let moved = sum(address, distance);
-    moved < 0 || LAST_ADDRESS < moved
+    moved < 0 || moved > LAST_ADDRESS
 }
 
-// An address that the move leaves in range, moved.
 fn moved_address(address: u32, distance: i32) -> u32
     requires { leaving distance address ≡ false }
     ensures { result ≡ moved_address distance address }
@@ -64,258 +46,218 @@ fn moved_address(address: u32, distance: i32) -> u32
     sum(address, distance) as u32
 }
 
-// A distance modulo 65,536: 2^31 is a multiple of that, and no distance plus 2^31 is below 0.
+// 2^31 is a multiple of 65,536, and no distance plus 2^31 is below 0.
 fn reduced(distance: i32) -> u16
     ensures { result ≡ modulo 65536 distance }
 {
-    (sum(2147483648, distance) as u32 % 65536) as u16
+    (sum(1 << 31, distance) as u32 % 65536) as u16
 }
 
-// The high word of a distance modulo 2^32: 2^31 more is not below 0, and 32,768 of its upper half is that 2^31.
+// 32,768 of the upper half is that 2^31.
 fn upper(distance: i32) -> u16
     ensures { result ≡ modulo (2 ^ 32) distance / 65536 }
 {
-    std::num::wrapping_add_u16((sum(2147483648, distance) as u32 / 65536) as u16, 32768)
+    ((sum(1 << 31, distance) as u32 / 65536) as u16).wrapping_add(32768)
 }
 
-// What the sum of two low words carries into the high word.
+/// What the sum of two low words carries into the high word.
 fn carry(low: u16, more: u16) -> u16
     ensures { result ≡ (low + more) / 65536 }
 {
-    if std::num::wrapping_add_u16(low, more) < more {
-        return 1;
-    }
-    0
+    u16::from(low.wrapping_add(more) < more)
 }
 
-// The high word of a pair, moved: the pair is one number, and the sum wraps at 2^32.
+/// The high word of a pair, moved: the pair is one number, and the sum wraps at 2^32.
+#[tactic(auto, using(crate::proofs::Signed::high_by))]
 fn moved_high(high: u16, low: u16, distance: i32) -> u16
     ensures { result ≡ added_high distance high low }
 {
-    let sum = std::num::wrapping_add_u16(high, upper(distance));
-    std::num::wrapping_add_u16(sum, carry(low, reduced(distance)))
+    high.wrapping_add(upper(distance))
+        .wrapping_add(carry(low, reduced(distance)))
 }
 
-// A word, moved as its mark says; a pair's high word by the next word too.
+/// A word, moved as its mark says; a pair's high word by the next word too.
+#[tactic(auto, unfolding(rules::specs::Relocate::moved_word, rules::specs::Relocate::added_word))]
 fn moved_word(word: u16, mark: u8, next: u16, distance: i32) -> u16
     ensures { result ≡ moved_word distance mark word next }
 {
-    if mark == 0 {
-        return word;
+    match mark {
+        0 => word,
+        2 => moved_high(word, next, distance),
+        _ => word.wrapping_add(reduced(distance)),
     }
-    if mark == 2 {
-        return moved_high(word, next, distance);
-    }
-    std::num::wrapping_add_u16(word, reduced(distance))
 }
 
-// The mark after the one at `i`, of the first `count`; 0 if there is none.
-fn next_mark(marks: &[u8], count: usize, i: usize) -> u8
-    requires { (i < count) × (count ≤ length marks.now) }
-    ensures { result ≡ next_in marks.now count i }
-{
-    let next = i + 1;
-    if next < count {
-        return marks[next];
-    }
-    0
-}
-
-// The mark before the one at `i`; 0 if there is none.
-fn mark_before(marks: &[u8], i: usize) -> u8
+/// Whether the mark at `i` is over 3, a 2 without its 3 or a 3 without its 2.
+#[tactic(auto, unfolding(rules::specs::Relocate::bad_mark))]
+fn is_bad(marks: &[u8], i: usize) -> bool
     requires { i < length marks.now }
-    ensures { result ≡ before_in marks.now i }
-{
-    if i == 0 {
-        return 0;
-    }
-    marks[i - 1]
-}
-
-// Whether the mark at `i` is over 3, a 2 without its 3 or a 3 without its 2; the others are read only where they count.
-fn is_bad(marks: &[u8], count: usize, i: usize) -> bool
-    requires { (i < count) × (count ≤ length marks.now) }
-    ensures { result ≡ bad_mark (before_in marks.now i) (slice_index marks.now i) (next_in marks.now count i) }
+    ensures { result ≡ bad_mark (slice_index (0 ∷ marks.now) i) (slice_index marks.now i) (slice_index marks.now (i + 1)) }
 {
     let mark = marks[i];
+    // Before the `match`, which would ask for the rare marks first.
     if mark < 2 {
         return false;
     }
-    if mark == 2 {
-        return next_mark(marks, count, i) != 3;
+    match mark {
+        2 => marks.get(i + 1) != Some(&3),
+        3 => i == 0 || marks[i - 1] != 2,
+        _ => true,
     }
-    if mark == 3 {
-        return mark_before(marks, i) != 2;
-    }
-    true
 }
 
-// The larger of two marks.
-fn larger(a: u8, b: u8) -> u8
-    ensures { result ≡ max a b }
+/// The highest mark, with many looked at at a time.
+fn top_mark(marks: &[u8]) -> u8
+    ensures { result ≡ fold max 0 marks.now }
 {
-    if a < b {
-        return b;
-    }
-    a
+    marks.iter().fold(0, |top, &mark| top.max(mark))
 }
 
-// The highest of the first `count` marks, found many at a time: below 2 there are no pairs.
-fn top_mark(marks: &[u8], count: usize) -> u8
-    requires { count ≤ length marks.now }
-    ensures { result ≡ top_in count marks.now }
+#[tactic(auto, using(crate::proofs::Pairs::over_top))]
+fn has_pairs(marks: &[u8]) -> bool
+    ensures { result ≡ list_any (λ m. nat_lt 1 m) marks.now }
 {
-    let mut top = 0;
-    let mut i = 0;
-    while i < count {
-        top = larger(top, marks[i]);
-        i += 1;
-    }
-    top
+    top_mark(marks) > 1
 }
 
-// The first bad one of the first `count` marks, of which `top` is the highest.
-fn first_bad_mark(marks: &[u8], count: usize, top: u8) -> Found
-    requires { (count ≤ length marks.now) × (top ≡ top_in count marks.now) }
-    ensures { result ≡ found_of (first_bad_mark 0 0 count marks.now) }
+/// The first bad mark; there is none without pairs.
+fn first_bad_mark(marks: &[u8], pairs: bool) -> Option<usize>
+    requires { pairs ≡ list_any (λ m. nat_lt 1 m) marks.now }
+    ensures { result ≡ first_bad_mark 0 0 (length marks.now) marks.now }
 {
-    if top < 2 {
-        return Found::Nothing;
+    if !pairs {
+        return None;
     }
-    let mut i = 0;
-    while i < count {
-        if is_bad(marks, count, i) {
-            return Found::At(i);
+    // No `position` with `is_bad`: its proof did not close.
+    for i in 0..marks.len() {
+        if is_bad(marks, i) {
+            return Some(i);
         }
-        i += 1;
     }
-    Found::Nothing
+    None
 }
 
-// The first of the first `count` addresses that the move takes out of range.
-fn first_outside(addresses: &[u32], count: usize, distance: i32) -> Found
-    requires { count ≤ length addresses.now }
-    ensures { result ≡ found_of (first_index (leaving distance) 0 count addresses.now) }
+fn first_outside(addresses: &[u32], distance: i32) -> Option<usize>
+    ensures { result ≡ position (leaving distance) addresses.now }
 {
-    let mut i = 0;
-    while i < count {
-        if leaves(addresses[i], distance) {
-            return Found::At(i);
-        }
-        i += 1;
-    }
-    Found::Nothing
+    addresses
+        .iter()
+        .position(|&address| leaves(address, distance))
 }
 
-// Moves the first `count` addresses.
-fn move_addresses(addresses: &mut [u32], count: usize, distance: i32)
-    requires { (count ≤ length addresses.old) × (first_index (leaving distance) 0 count addresses.old ≡ none) }
-    ensures { addresses.new ≡ move_addresses distance count addresses.old }
+fn move_addresses(addresses: &mut [u32], distance: i32)
+    requires { All (λ a. leaving distance a ≡ false) addresses.old }
+    ensures { addresses.new ≡ map (moved_address distance) addresses.old }
 {
-    let mut i = 0;
-    while i < count {
-        addresses[i] = moved_address(addresses[i], distance);
-        i += 1;
+    for address in addresses.iter_mut() {
+        *address = moved_address(*address, distance);
     }
 }
 
-// A word of a list without pairs, moved if it is marked.
+/// A word of a list without pairs, moved if it is marked.
+#[tactic(auto, unfolding(rules::specs::Relocate::added_word))]
 fn moved_single(word: u16, mark: u8, distance: i32) -> u16
     ensures { result ≡ (if nat_eq mark 0 then word else added_word distance word) }
 {
     if mark == 0 {
-        return word;
-    }
-    std::num::wrapping_add_u16(word, reduced(distance))
-}
-
-// Moves the marked ones of the first `count` words, where there are no pairs.
-fn move_singles(words: &mut [u16], marks: &[u8], count: usize, distance: i32)
-    requires { (count ≤ length words.old) × (count ≤ length marks.now) × (top_in count marks.now < 2) }
-    ensures { words.new ≡ move_words distance count marks.now words.old }
-{
-    let mut i = 0;
-    while i < count {
-        words[i] = moved_single(words[i], marks[i], distance);
-        i += 1;
-    }
-}
-
-// Moves the marked ones of the first `count` words, pairs too. The word after them is not read.
-fn move_pairs(words: &mut [u16], marks: &[u8], count: usize, distance: i32)
-    requires { (count ≤ length words.old) × (count ≤ length marks.now) }
-    ensures { words.new ≡ move_words distance count marks.now words.old }
-{
-    let mut i = 0;
-    while i + 1 < count {
-        words[i] = moved_word(words[i], marks[i], words[i + 1], distance);
-        i += 1;
-    }
-    if i < count {
-        words[i] = moved_word(words[i], marks[i], 0, distance);
-    }
-}
-
-// Moves the marked ones of the first `count` words; `top` is the highest of their marks.
-fn move_words(words: &mut [u16], marks: &[u8], count: usize, distance: i32, top: u8)
-    requires { (count ≤ length words.old) × (count ≤ length marks.now) × (top ≡ top_in count marks.now) }
-    ensures { words.new ≡ move_words distance count marks.now words.old }
-{
-    if top < 2 {
-        move_singles(words, marks, count, distance);
+        word
     } else {
-        move_pairs(words, marks, count, distance);
+        word.wrapping_add(reduced(distance))
     }
 }
 
-// A refused move, which changes no place, whatever its mark.
-fn refused(number: u8, place: usize) -> Judged
-    ensures { result ≡ record { answer = Refused number place; top = 0 } }
+// Apart from `move_pairs`, since it reads no next word and is twice as fast.
+fn move_singles(words: &mut [u16], marks: &[u8], distance: i32)
+    requires lengths { length words.old ≡ length marks.now }
+    requires single { list_any (λ m. nat_lt 1 m) marks.now ≡ false }
+    ensures { words.new ≡ move_words distance (length words.old) marks.now words.old }
 {
-    Judged {
-        answer: Answer::Refused(number, place),
-        top: 0,
+    // By index: of a `zip` with `iter_mut` nothing is known after the loop.
+    for i in 0..words.len() {
+        words[i] = moved_single(words[i], marks[i], distance);
     }
 }
 
-// The answer to a move: refusals 8 to 11, before anything is written.
-fn judge(addresses: &[u32], words: &[u16], marks: &[u8], count: usize, distance: i32) -> Judged
-    ensures { result ≡ judged_of (top_in count marks.now) (move_answer (slices addresses.now words.now marks.now) count distance) }
+fn move_pairs(words: &mut [u16], marks: &[u8], distance: i32)
+    requires { length words.old ≡ length marks.now }
+    ensures { words.new ≡ move_words distance (length words.old) marks.now words.old }
+{
+    let count = words.len();
+    if count == 0 {
+        return;
+    }
+    // The last word by itself: with `get` for the next one each place is slower.
+    for i in 0..count - 1 {
+        words[i] = moved_word(words[i], marks[i], words[i + 1], distance);
+    }
+    words[count - 1] = moved_word(words[count - 1], marks[count - 1], 0, distance);
+}
+
+/// Refuses a move before anything is written, and tells whether the list has pairs.
+#[tactic(auto, using(crate::proofs::Verdict::refuses_8, crate::proofs::Verdict::refuses_9, crate::proofs::Verdict::refuses_10))]
+fn check(
+    addresses: &[u32],
+    words: &[u16],
+    marks: &[u8],
+    count: usize,
+    distance: i32,
+) -> Result<bool, Refusal>
+    ensures answer { answer_of (result_map_both (λ _. count) (λ e. e) result) ≡ move_answer (slices addresses.now words.now marks.now) count distance }
+    ensures pairs { IfOk result (λ pairs. pairs ≡ list_any (λ m. nat_lt 1 m) (take count marks.now)) }
+    ensures stay { OnOk result (All (λ a. leaving distance a ≡ false) (take count addresses.now)) }
+    ensures addresses { OnOk result (count ≤ length addresses.now) }
+    ensures words { OnOk result (count ≤ length words.now) }
+    ensures marks { OnOk result (count ≤ length marks.now) }
 {
     if is_far(distance) {
-        return refused(8, 0);
+        return Err(Refusal::FarDistance);
     }
     if answer::is_short(addresses, words, marks, count) {
-        return refused(9, count);
+        return Err(Refusal::ShortList(count));
     }
-    let top = top_mark(marks, count);
-    if let Found::At(i) = first_bad_mark(marks, count, top) {
-        return refused(10, i);
+    let (addresses, marks) = (&addresses[..count], &marks[..count]);
+    let pairs = has_pairs(marks);
+    if let Some(i) = first_bad_mark(marks, pairs) {
+        return Err(Refusal::BadMark(i));
     }
-    if let Found::At(i) = first_outside(addresses, count, distance) {
-        return refused(11, i);
+    if let Some(i) = first_outside(addresses, distance) {
+        return Err(Refusal::OutsideAddress(i));
     }
-    Judged {
-        answer: Answer::Accepted(count),
-        top,
+    Ok(pairs)
+}
+
+/// Moves a list that has been checked.
+fn move_words(words: &mut [u16], marks: &[u8], distance: i32, pairs: bool)
+    requires lengths { length words.old ≡ length marks.now }
+    requires pairs { pairs ≡ list_any (λ m. nat_lt 1 m) marks.now }
+    ensures { words.new ≡ move_words distance (length words.old) marks.now words.old }
+{
+    if pairs {
+        move_pairs(words, marks, distance);
+    } else {
+        move_singles(words, marks, distance);
     }
 }
 
-// Moves the list in the first `count` places of the three slices, or refuses and changes nothing.
+/// Moves the list in the first `count` places of the three slices and answers the count, or refuses and changes nothing.
+#[tactic(auto, using(crate::proofs::Verdict::stays, crate::proofs::Verdict::moves))]
 pub fn relocate(
     addresses: &mut [u32],
     words: &mut [u16],
     marks: &[u8],
     count: usize,
     distance: i32,
-) -> Answer
-    ensures { Moved (slices addresses.old words.old marks.now) count distance result addresses.new words.new }
+) -> Result<usize, Refusal>
+    ensures answer { answer_of result ≡ move_answer (slices addresses.old words.old marks.now) count distance }
+    ensures count { IfOk result (λ n. n ≡ count) }
+    ensures moved_addresses { OnOk result (addresses.new ≡ move_addresses distance count addresses.old) }
+    ensures moved_words { OnOk result (words.new ≡ move_words distance count marks.now words.old) }
+    ensures kept_addresses { OnErr result (addresses.new ≡ addresses.old) }
+    ensures kept_words { OnErr result (words.new ≡ words.old) }
+    ensures slices { slices addresses.new words.new marks.now ≡ move_slices (slices addresses.old words.old marks.now) count distance }
 {
-    let judged = judge(addresses, words, marks, count, distance);
-    let answer = judged.answer;
-    if let Answer::Accepted(n) = answer {
-        move_addresses(addresses, n, distance);
-        move_words(words, marks, n, distance, judged.top);
-    }
-    answer
+    let pairs = check(addresses, words, marks, count, distance)?;
+    move_addresses(&mut addresses[..count], distance);
+    move_words(&mut words[..count], &marks[..count], distance, pairs);
+    Ok(count)
 }

@@ -1,4 +1,4 @@
-pub mod Loops
-pub mod Seen
+pub mod Lines
+pub mod High
 pub mod Checks
 pub mod Callers

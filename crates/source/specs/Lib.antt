@@ -1,2 +1,1 @@
-pub mod High
 pub mod Clear

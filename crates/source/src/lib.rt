@@ -1,88 +1,74 @@
 #![tactic(auto)]
 
-// Refusals 1 to 3: what a source is checked for before any of its lines is read.
-ghost use Rattle.std.specs.Prelude.{◌≡◌, ◌≤◌, length};
+//! What a source is checked for before any of its lines is read.
+ghost use Rattle.std.specs.Prelude.{◌≡◌, ◌+◌, ◌≤◌, Result, IfOk, OnOk, length, nat_eq, nat_lt, max, fold, position, count_by};
 ghost use Rattle.rules.specs.Text.{cut_at};
 ghost use Rattle.rules.specs.Limits.{max_source};
 ghost use Rattle.rules.specs.Answer.{accepted};
 ghost use Rattle.rules.specs.Assemble.{first_high, checks};
-ghost use Rattle.text.specs.Find.{found_of};
-ghost use Rattle.answer.specs.Answer.{answer_of};
-ghost use Rattle.source.specs.High.{highest_from};
+ghost use Rattle.source.specs.Clear.{Clear};
+ghost use Rattle.answer.specs.Refusal.{answer_of};
 
-use answer::Answer;
+use answer::Refusal;
 
-// The highest byte, 0 where there is none.
+/// The highest byte, with many looked at at a time.
 fn highest(s: &[u8]) -> u8
-    ensures { result ≡ highest_from 0 s.now }
+    ensures { result ≡ fold max 0 s.now }
 {
-    let mut m = 0u8;
-    let mut i = 0;
-    while i < s.len() {
-        let b = s[i];
-        if m < b {
-            m = b;
-        }
-        i += 1;
-    }
-    m
+    s.iter().fold(0, |highest, &b| highest.max(b))
 }
 
-// The first byte over 127.
-fn find_high(s: &[u8]) -> text::Found
-    ensures { result ≡ found_of (first_high 0 s.now) }
+fn find_high(s: &[u8]) -> Option<usize>
+    ensures { result ≡ position (λ b. nat_lt 127 b) s.now }
 {
-    let mut i = 0;
-    while i < s.len() {
-        if 127 < s[i] {
-            return text::Found::At(i);
-        }
-        i += 1;
-    }
-    text::Found::Nothing
+    s.iter().position(|&b| b > 127)
 }
 
-// The same, sought only where there is one: the highest byte is found many bytes at a time.
-#[tactic(auto, using(crate::proofs::Seen::nothing_high))]
-fn first_high(s: &[u8]) -> text::Found
-    ensures { result ≡ found_of (first_high 0 s.now) }
+/// The first byte over 127, sought only where there is one.
+#[tactic(auto, using(crate::proofs::High::high, crate::proofs::High::nothing_high))]
+fn first_high(s: &[u8]) -> Option<usize>
+    ensures { result ≡ first_high 0 s.now }
 {
-    if highest(s) < 128 {
-        return text::Found::Nothing;
-    }
-    find_high(s)
+    if highest(s) < 128 { None } else { find_high(s) }
 }
 
-// How many lines the source has. The count is small, so that many bytes are looked at at a time.
+// The count is small, so that many bytes are looked at at a time.
+fn newlines(s: &[u8]) -> u16
+    requires { length s.now ≤ max_source }
+    ensures { result ≡ count_by (λ b. nat_eq b 10) s.now }
+{
+    let mut n = 0;
+    for &b in s {
+        n += u16::from(b == b'\n');
+    }
+    n
+}
+
+/// How many lines the source has.
+#[tactic(auto, using(crate::proofs::Lines::length_cut))]
 pub fn count_lines(s: &[u8]) -> usize
     requires { length s.now ≤ max_source }
     ensures { result ≡ length (cut_at 10 s.now) }
 {
-    let mut n: u16 = 1;
-    let mut i = 0;
-    while i < s.len() {
-        if s[i] == 10 {
-            n += 1;
-        }
-        i += 1;
-    }
-    n as usize
+    usize::from(newlines(s)) + 1
 }
 
-// How many lines the source has, or refusal 1, 2 or 3: too long, a byte over 127, too many lines.
-pub fn check_source(source: &[u8]) -> Answer
-    ensures { result ≡ answer_of (checks source.now (accepted (length (cut_at 10 source.now)))) }
+/// How many lines the source has; refused where it is too long, has a byte over 127 or too many lines.
+#[tactic(auto, using(crate::proofs::Checks::checks_1, crate::proofs::Checks::checks_2, crate::proofs::Checks::checks_3, crate::proofs::Checks::checks_none, crate::proofs::Checks::clear))]
+pub fn check_source(source: &[u8]) -> Result<usize, Refusal>
+    ensures lines { IfOk result (λ n. n ≡ length (cut_at 10 source.now)) }
+    ensures clear { OnOk result (Clear source.now) }
+    ensures answer { answer_of result ≡ checks source.now (accepted (length (cut_at 10 source.now))) }
 {
-    if rules::MAX_SOURCE < source.len() {
-        return Answer::Refused(1, source.len());
+    if source.len() > rules::MAX_SOURCE {
+        return Err(Refusal::LongSource(source.len()));
     }
-    let high = first_high(source);
-    if let text::Found::At(i) = high {
-        return Answer::Refused(2, i);
+    if let Some(place) = first_high(source) {
+        return Err(Refusal::HighByte(place));
     }
     let lines = count_lines(source);
-    if rules::MAX_LINES < lines {
-        return Answer::Refused(3, lines);
+    if lines > rules::MAX_LINES {
+        return Err(Refusal::ManyLines(lines));
     }
-    Answer::Accepted(lines)
+    Ok(lines)
 }

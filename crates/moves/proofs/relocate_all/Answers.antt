@@ -1,43 +1,21 @@
--- `moves::relocate_all` meets its contract. Assumes nothing.
-use native.Mathlib.Omega.{arith}
-use mir.Facts.{to_z-of_z}
-use borrow.Author.Rules.{rules}
-use lib.IntN.{pos}
-use lib.ListN.{get_or}
-use mir.Val.{SFits}
-use mir.Syntax.{w32}
-use Rattle.moves.proofs.Moves.{made_starts, made_steps, made_ends}
+use Rattle.std.proofs.Common.{rules, arith, get_or, pos, to_z-of_z, w32, SFits}
+use Rattle.moves.proofs.Making.{made_steps, made_slices, made_answers}
+use Rattle.moves.proofs.Tallied.{follows, pairs_follow}
 use Rattle.moves.proofs.relocate_all.Goals as goal
-
-pub loop-i-init : goal.loop-i-init
-loop-i-init c = made_starts _ _ _ _ _
-
-pub bounds-numbers-i : goal.bounds-numbers-i
-bounds-numbers-i c = omega (arith, c.loop-i.invariant.numbers.long)
-
-pub bounds-places-i : goal.bounds-places-i
-bounds-places-i c = omega (arith, c.loop-i.invariant.places.long)
-
-pub loop-i-smaller : goal.loop-i-smaller
-loop-i-smaller c = omega arith
 
 pub loop-i-preserved : goal.loop-i-preserved
 loop-i-preserved c =
     let fits : SFits w32 (get_or c.args.distances.now c.loop-i.i (pos 0)) = search rules in
-    let moved = rw (to_z-of_z fits) at c.relocate-verdict.ensures in
-    made_steps c.loop-i.invariant (omega arith) (omega arith) (omega arith) moved c.relocate-verdict.auto.addresses c.relocate-verdict.auto.words _ _ c.number.ensures c.place.ensures
+    made_steps c.loop-i.invariant (omega arith) c.requires _ (rw (to_z-of_z fits) at c.relocate.ensures.slices) c.relocate.auto.addresses c.relocate.auto.words _ (rw (to_z-of_z fits) at c.relocate.ensures.answer)
 
-pub shape_of-addresses : goal.shape_of-addresses
-shape_of-addresses c = c.loop-i.invariant.addresses
+pub returns-clause-slices : goal.returns-clause-slices
+returns-clause-slices c = made_slices c.loop-i.invariant (omega arith)
 
-pub shape_of-words : goal.shape_of-words
-shape_of-words c = c.loop-i.invariant.words
+pub returns-clause-answers : goal.returns-clause-answers
+returns-clause-answers c = made_answers c.loop-i.invariant (omega arith)
 
-pub shape_of-numbers : goal.shape_of-numbers
-shape_of-numbers c = c.loop-i.invariant.numbers.long
+pub returns-clause-follows : goal.returns-clause-follows
+returns-clause-follows c = follows _ _ _ _ _ (returns-clause-slices c) (returns-clause-answers c)
 
-pub shape_of-places : goal.shape_of-places
-shape_of-places c = c.loop-i.invariant.places.long
-
-pub returns : goal.returns
-returns c = made_ends c.loop-i.invariant (omega arith)
+pub returns-clause-pairs : goal.returns-clause-pairs
+returns-clause-pairs c = pairs_follow _ _ _ _ _ (returns-clause-slices c) (returns-clause-answers c)

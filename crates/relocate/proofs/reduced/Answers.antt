@@ -1,9 +1,6 @@
 -- `relocate::reduced` meets its contract. Assumes nothing.
-use Rattle.relocate.proofs.Signed.{lifted, lifted_modulo, summed}
+use Rattle.relocate.proofs.Signed.{lifted_modulo, summed}
 use Rattle.relocate.proofs.reduced.Goals as goal
-
-pub overflow_cast-result : goal.overflow_cast-result
-overflow_cast-result c = rw (summed _ c.sum.type_inv c.sum.ensures c.ranges.distance) (lifted _ c.ranges.distance)
 
 pub returns : goal.returns
 returns c = rw (summed _ c.sum.type_inv c.sum.ensures c.ranges.distance) (lifted_modulo _ c.ranges.distance)
