@@ -8,38 +8,48 @@ ghost use Rattle.cells.specs.Cells.{data_words, after_by, kind_of, head_cell, ta
 use line::Task;
 use text::Span;
 
-// A line as it is kept: its task, and by how much it advances the address.
-#[derive(Clone, Copy)]
+/// A line as it is kept: its task, and by how much it advances the address.
+#[derive(Clone, Copy, Debug, PartialEq, Eq, Hash)]
 pub struct Kept {
     pub task: Task,
     pub size: u32,
 }
 
-// How many data words a task has.
+/// How many data words a task has.
 pub fn data_words(task: Task) -> usize
     ensures { result ≡ data_words task }
 {
     match task {
         Task::Value(_, _) => 2,
-        Task::Skipped => 0,
-        Task::End => 0,
-        Task::Org(_) => 0,
-        Task::NoOrg => 0,
-        Task::LabelOnly => 0,
-        Task::Instruction(_) => 0,
-        Task::Space(_) => 0,
+        Task::Skipped
+        | Task::End
+        | Task::Org(_)
+        | Task::NoOrg
+        | Task::LabelOnly
+        | Task::Instruction(_)
+        | Task::Space(_) => 0,
     }
 }
 
-// The address after a line that is read at `address`.
+/// The address after a line that is read at `address`.
 pub fn address_after(kept: Kept, base: u32, address: u32) -> u64
     ensures { result ≡ after_by base address kept }
 {
-    let task = kept.task;
-    if let Task::Org(n) = task {
-        return base as u64 + n as u64;
+    match kept.task {
+        Task::Org(n) => u64::from(base) + u64::from(n),
+        _ => u64::from(address) + u64::from(kept.size),
     }
-    address as u64 + kept.size as u64
+}
+
+// ---- The two cells of a line. They are numbers and no enum: eight bytes a line, in memory of a fixed size.
+
+/// The cells of line k, written.
+pub fn put_cells(cells: &mut [u32], k: usize, head: u32, tail: u32)
+    requires { InCells cells.old k }
+    ensures { cells.new ≡ with_line cells.old k head tail }
+{
+    cells[2 * k] = head;
+    cells[2 * k + 1] = tail;
 }
 
 // ---- The first pass keeps a line.
@@ -66,32 +76,24 @@ fn tail_cell(task: Task) -> u32
     ensures { result ≡ tail_cell task }
 {
     match task {
-        Task::Skipped => 0,
-        Task::End => 0,
-        Task::Org(n) => n,
-        Task::NoOrg => 0,
-        Task::LabelOnly => 0,
+        Task::Org(n) | Task::Value(_, n) => n,
         Task::Instruction(span) => (65536 * span.end + span.start) as u32,
-        Task::Value(_, n) => n,
-        Task::Space(_) => 0,
+        Task::Skipped | Task::End | Task::NoOrg | Task::LabelOnly | Task::Space(_) => 0,
     }
 }
 
-// Keeps line k.
+/// Keeps line k.
 pub fn keep_line(cells: &mut [u32], k: usize, kept: Kept)
     requires { InCells cells.old k × Fits kept }
     ensures { cells.new ≡ with_line cells.old k (head_cell kept) (tail_cell kept.task) }
 {
-    let task = kept.task;
-    let head = 8 * kept.size + kind(task);
-    let tail = tail_cell(task);
-    cells[2 * k] = head;
-    cells[2 * k + 1] = tail;
+    let head = 8 * kept.size + kind(kept.task);
+    put_cells(cells, k, head, tail_cell(kept.task));
 }
 
 // ---- The second pass reads it again.
 
-// The task of a kind and a size, by the second cell.
+// The task of a kind and a size, by the second cell. Of a `match` the compiler makes a table of values.
 fn task_in(kind: u32, size: u32, cell: u32) -> Task
     ensures { result ≡ task_in kind size cell }
 {
@@ -121,7 +123,7 @@ fn task_in(kind: u32, size: u32, cell: u32) -> Task
     Task::Skipped
 }
 
-// What is kept of line k.
+/// What is kept of line k.
 pub fn kept_line(cells: &[u32], k: usize) -> Kept
     requires { InCells cells.now k }
     ensures { result ≡ kept_at cells.now k }
@@ -129,6 +131,8 @@ pub fn kept_line(cells: &[u32], k: usize) -> Kept
     let head = cells[2 * k];
     let tail = cells[2 * k + 1];
     let size = head / 8;
-    let task = task_in(head % 8, size, tail);
-    Kept { task, size }
+    Kept {
+        task: task_in(head % 8, size, tail),
+        size,
+    }
 }

@@ -1,7 +1,7 @@
 -- Laws of the first piece of an instruction's text, and what they come to: the instruction by its parts. Assumes nothing.
+use Rattle.std.specs.Prelude.{Some}
 use mathlib.Core.Path.{◌≡◌, refl, sym, ap, ◌∙◌}
 use mathlib.Core.Bool.{Bool, true, false, and-false, or-false}
-use mathlib.Core.Option.{some}
 use mathlib.Core.List.{[], ◌∷◌}
 use Prim.Native.Nat.{ℕ, suc, ◌+◌, ◌-◌, ◌≤◌, ◌<◌}
 use native.Mathlib.Numerals.{add-one}
@@ -257,7 +257,7 @@ module _ (t : Text) (a n : ℕ) (p : a ≡ leading t) (q : n ≡ a + until ends_
 
 -- ---- the suffix, after the first dot of a piece w
 -- a cut has a first text
-nth_zero : (t : Text) → nth 0 (cut_at 46 t) ≡ some (first_text (cut_at 46 t))
+nth_zero : (t : Text) → nth 0 (cut_at 46 t) ≡ Some (first_text (cut_at 46 t))
 unfolding cut_at nth first_text
 nth_zero t = rw (cut_first (eqb 46) t)
 

@@ -1,4 +1,5 @@
 -- The size goes by the operands' first bytes, and blanks change none: it is found in the text as it stands. Assumes nothing.
+use Rattle.std.specs.Prelude.{Option, None, Some}
 use mathlib.Core.Path.{◌≡◌, refl, sym, ap, ◌∙◌}
 use mathlib.Core.Bool.{Bool, true, false, cond, false≢true}
 use mathlib.Core.List.{List, [], ◌∷◌, ◌++◌, map}
@@ -13,7 +14,7 @@ use Rattle.text.proofs.Trim.{keep_end_none}
 use Rattle.instruction.specs.Split.{operands_in}
 use Rattle.instruction.specs.Size.{is_long_by, size_by}
 use Rattle.instruction.specs.declared.SizeRule.{SizeRule}
-use Rattle.instruction.specs.declared.SizeRule.TheVariants.{Fixed, Immediate, Move}
+use Rattle.instruction.specs.declared.SizeRule.TheVariants.{Immediate, Move}
 use Rattle.instruction.proofs.Joined.{join_more_cut, joined_on_first}
 
 -- ---- the bytes that are no blanks
@@ -136,7 +137,6 @@ plain_initial s = rw (starts_initial 68 s, starts_initial 65 s, starts_initial 4
 
 long_initial : (k : SizeRule) (s t : Text) → is_long_by k (take 1 s) (take 1 t) ≡ is_long_by k s t
 unfolding is_long_by bytes
-long_initial Fixed s t = refl
 long_initial Immediate s t = starts_initial 35 s
 long_initial Move s t = rw (plain_initial s, plain_initial t)
 
@@ -145,11 +145,12 @@ unfolding last_text
 last_initial t [] = refl
 last_initial t (p ∷ ps) = last_initial p ps
 
-size_initial : (k : SizeRule) (ps : List Text) → size_by k (map (take 1) ps) ≡ size_by k ps
+size_initial : (k : Option SizeRule) (ps : List Text) → size_by k (map (take 1) ps) ≡ size_by k ps
 unfolding size_by
-size_initial k [] = refl
-size_initial k (s ∷ []) = refl
-size_initial k (s ∷ t ∷ ps) = rw (last_initial t ps, long_initial k s (last_text t ps))
+size_initial None ps = refl
+size_initial (Some k) [] = refl
+size_initial (Some k) (s ∷ []) = refl
+size_initial (Some k) (s ∷ t ∷ ps) = rw (last_initial t ps, long_initial k s (last_text t ps))
 
-pub size_standing : (k : SizeRule) (s : Text) → size_by k (operands_in s) ≡ size_by k (operands_in (joined (pieces s)))
+pub size_standing : (k : Option SizeRule) (s : Text) → size_by k (operands_in s) ≡ size_by k (operands_in (joined (pieces s)))
 size_standing k s = sym (size_initial k (operands_in s)) ∙ ap (size_by k) (sym (same_initials s)) ∙ size_initial k (operands_in (joined (pieces s)))

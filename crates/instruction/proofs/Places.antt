@@ -1,7 +1,7 @@
 -- What the answer of `split_operands` says of the operands' texts, for callers. Assumes nothing.
+use Rattle.std.specs.Prelude.{Option, None}
 use mathlib.Core.Path.{◌≡◌, refl, sym, ap, ◌∙◌}
 use mathlib.Core.Bool.{Bool, true, false}
-use mathlib.Core.Option.{Option, none}
 use mathlib.Core.List.{List, [], ◌∷◌, map}
 use Prim.Native.Nat.{ℕ, suc, ◌+◌, ◌-◌, ◌≤◌, ◌<◌}
 use native.Mathlib.Omega.{arith}
@@ -119,11 +119,11 @@ module _ {t : Text} {o : Operands} (ps : List Text) (x : OperandsOf t o ps) {A :
         go (u ∷ v ∷ []) n p q = rw (p, q)
         go (u ∷ v ∷ w ∷ qs) n p q = absurd (omega arith)
 
-    pub not_two : (o.count ≡ 2 → ⊥) → two f ps ≡ none
+    pub not_two : (o.count ≡ 2 → ⊥) → two f ps ≡ None
     unfolding two
     not_two d = go ps x.count
       where
-        go : (qs : List Text) → o.count ≡ length qs → two f qs ≡ none
+        go : (qs : List Text) → o.count ≡ length qs → two f qs ≡ None
         go [] n = refl
         go (u ∷ []) n = refl
         go (u ∷ v ∷ []) n = absurd (d n)
@@ -139,11 +139,11 @@ module _ {t : Text} {o : Operands} (ps : List Text) (x : OperandsOf t o ps) {A :
         go (u ∷ []) n p = rw p
         go (u ∷ v ∷ qs) n p = absurd (omega arith)
 
-    pub not_one : (o.count ≡ 1 → ⊥) → one f ps ≡ none
+    pub not_one : (o.count ≡ 1 → ⊥) → one f ps ≡ None
     unfolding one
     not_one d = go ps x.count
       where
-        go : (qs : List Text) → o.count ≡ length qs → one f qs ≡ none
+        go : (qs : List Text) → o.count ≡ length qs → one f qs ≡ None
         go [] n = refl
         go (u ∷ []) n = absurd (d n)
         go (u ∷ v ∷ qs) n = refl
@@ -156,10 +156,10 @@ module _ {t : Text} {o : Operands} (ps : List Text) (x : OperandsOf t o ps) {A :
         go [] n p = absurd (omega arith)
         go (u ∷ qs) n p = rw p
 
-    pub no_operand_lem : o.count ≡ 0 → one_or_more f ps ≡ none
+    pub no_operand_lem : o.count ≡ 0 → one_or_more f ps ≡ None
     unfolding one_or_more
     no_operand_lem c = go ps x.count
       where
-        go : (qs : List Text) → o.count ≡ length qs → one_or_more f qs ≡ none
+        go : (qs : List Text) → o.count ≡ length qs → one_or_more f qs ≡ None
         go [] n = refl
         go (u ∷ qs) n = absurd (omega arith)

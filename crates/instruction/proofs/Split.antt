@@ -1,4 +1,5 @@
 -- Laws of the operands: where they stand in a joined tail, and what the loop of `split_operands` keeps. Assumes nothing.
+use Rattle.std.specs.Prelude.{Option, None, Some, unwrap_or}
 use mathlib.Core.Path.{◌≡◌, refl, sym, ◌∙◌}
 use mathlib.Core.Bool.{Bool, true, false, cond}
 use mathlib.Core.List.{List, [], ◌∷◌}
@@ -7,18 +8,14 @@ use native.Mathlib.Numerals.{add-one}
 use native.Mathlib.Omega.{arith}
 use borrow.Author.Tests.{eq-eqb, ne_eqb}
 use lib.Dec.{eqb}
-use lib.ListN.{length, take, drop, length-drop, length-take}
+use lib.ListN.{length, take, drop, length-drop}
 use lib.Seq.{length-take-le, take_all}
-use Rattle.rules.specs.Text.{Text, leading, trim_end, trim, cut_at, first_text}
-use Rattle.text.specs.Find.{index_of, further, found_of}
+use Rattle.rules.specs.Text.{Text, leading, trim, cut_at, first_text}
+use Rattle.text.specs.Find.{index_of, further}
 use Rattle.text.specs.declared.Span.{Span}
-use Rattle.text.specs.declared.Found.{Found}
-use Rattle.text.specs.declared.Found.TheVariants.{At, Nothing}
-use Rattle.text.proofs.Trim.{drop_leading, trim_within}
-use Rattle.text.proofs.Kept.{rest_is}
 use Rattle.text.proofs.Find.{Unindexed, IndexedFrom, found_from, found_nowhere_from}
-use Rattle.text.specs.Spans.{part}
-use Rattle.instruction.specs.Split.{span, trimmed_span, keep_span, spans, last_span, operands, summary, operands_at, next_operand, with_span}
+use Rattle.text.specs.Spans.{part, PartIn, trimmed_span}
+use Rattle.instruction.specs.Split.{span, keep_span, spans, last_span, operands, summary, operands_at, next_operand, with_span}
 use Rattle.instruction.specs.declared.Operands.{Operands}
 
 -- ---- the parts between commas
@@ -32,32 +29,36 @@ module _ (t : Text) (at : ℕ) (h : at ≤ length t) where
   none_left u = u.parts ∙ rw (take_all (length t - at) (drop at t) (rw length-drop (omega arith)))
 
   -- `part_end` answers the text's end
-  pub end_last : found_of (further at (index_of 44 (drop at t))) ≡ Nothing → length t ≡ at + length (first_text (cut_at 44 (drop at t)))
+  end_last : further at (index_of 44 (drop at t)) ≡ None → length t ≡ at + length (first_text (cut_at 44 (drop at t)))
   unfolding first_text
   end_last f = rw ((found_nowhere_from 44 t at f).parts, length-drop) (omega arith)
 
   -- `part_end` answers a comma's place
-  pub end_comma : (i : ℕ) → found_of (further at (index_of 44 (drop at t))) ≡ At i → i ≡ at + length (first_text (cut_at 44 (drop at t)))
+  end_comma : (i : ℕ) → further at (index_of 44 (drop at t)) ≡ Some i → i ≡ at + length (first_text (cut_at 44 (drop at t)))
   unfolding first_text
   end_comma i f =
       let x : IndexedFrom 44 t at i = found_from 44 t at i f in
       let l : length (take (i - at) (drop at t)) ≡ i - at = length-take-le (i - at) (drop at t) (rw length-drop (omega (arith, x.within))) in
       rw (x.parts, l) (omega (arith, x.from))
 
+  pub end_found : (o : Option ℕ) → o ≡ further at (index_of 44 (drop at t)) → unwrap_or o (length t) ≡ at + length (first_text (cut_at 44 (drop at t)))
+  end_found None q = end_last (sym q)
+  end_found (Some i) q = end_comma i (sym q)
+
   ends : (e : ℕ) → e ≡ at + length (first_text (cut_at 44 (drop at t))) → Ends t at e
   unfolding first_text
-  ends e q = go (found_of (further at (index_of 44 (drop at t)))) refl
+  ends e q = go (further at (index_of 44 (drop at t))) refl
     where
-      go : (y : Found) → found_of (further at (index_of 44 (drop at t))) ≡ y → Ends t at e
-      go Nothing f = let z : e ≡ length t = q ∙ sym (end_last f) in rw z (last refl (none_left (found_nowhere_from 44 t at f)))
-      go (At i) f = let z : e ≡ i = q ∙ sym (end_comma i f) in let x : IndexedFrom 44 t at i = found_from 44 t at i f in rw z (comma x.within x.parts)
+      go : (y : Option ℕ) → further at (index_of 44 (drop at t)) ≡ y → Ends t at e
+      go None f = let z : e ≡ length t = q ∙ sym (end_last f) in rw z (last refl (none_left (found_nowhere_from 44 t at f)))
+      go (Some i) f = let z : e ≡ i = q ∙ sym (end_comma i f) in let x : IndexedFrom 44 t at i = found_from 44 t at i f in rw z (comma x.within x.parts)
 
-  pub end_within : (e : ℕ) → e ≡ at + length (first_text (cut_at 44 (drop at t))) → (at ≤ e) × (e ≤ length t)
+  pub end_within : (e : ℕ) → e ≡ at + length (first_text (cut_at 44 (drop at t))) → PartIn t at e
   end_within e q = go (ends e q)
     where
-      go : Ends t at e → (at ≤ e) × (e ≤ length t)
-      go (last z c) = (omega arith, omega arith)
-      go (comma z c) = (omega arith, omega arith)
+      go : Ends t at e → PartIn t at e
+      go (last z c) = record { ordered = omega arith; inside = omega arith }
+      go (comma z c) = record { ordered = omega arith; inside = omega arith }
 
 -- ---- the returns of `with_operand`, one after the other
 module _ (o : Operands) (s : Span) where
@@ -82,18 +83,6 @@ module _ (o : Operands) (s : Span) where
         go zero u v = absurd (u refl)
         go (suc zero) u v = absurd (v refl)
         go (suc (suc n)) u v = refl
-
--- ---- what `trimmed_part` counts
-pub kept_trim : (p : Text) (k n : ℕ) → k ≡ leading p → n ≡ length (trim_end (take (length p - k) (drop k p))) → n ≡ length (trim p)
-unfolding trim
-kept_trim p k n e q = q ∙ rw (rest_is p k, e, drop_leading p)
-
-module _ (t : Text) (at e : ℕ) (h : (at ≤ e) × (e ≤ length t)) {k n : ℕ} (p : k ≡ leading (part t at e)) (q : n ≡ length (trim_end (take (length (part t at e) - k) (drop k (part t at e))))) where
-  pub trimmed_within : at + k + n ≤ length t
-  trimmed_within = omega (arith, kept_trim (part t at e) k n p q, trim_within (part t at e), length-take (e - at) (drop at t), length-drop at t)
-
-  pub trimmed_is : span (at + k) (at + k + n) ≡ trimmed_span at (part t at e)
-  trimmed_is = rw (kept_trim (part t at e) k n p q, p)
 
 -- ---- the loop of `split_operands`
 -- operands added one after the other
@@ -144,7 +133,7 @@ pub splitting_start : (t : Text) → Splitting t (operands 0 (span 0 0) (span 0 
 unfolding operands_at
 splitting_start t = record { upto = omega arith; few = omega arith; left = all_summary (spans 0 (cut_at 44 t)) }
 
-module _ {t : Text} {o : Operands} {at : ℕ} (inv : Splitting t o at) {e : ℕ} (q : e ≡ at + length (first_text (cut_at 44 (drop at t)))) {s : Span} (r : s ≡ trimmed_span at (part t at e)) where
+module _ {t : Text} {o : Operands} {at : ℕ} (inv : Splitting t o at) {e : ℕ} (q : e ≡ at + length (first_text (cut_at 44 (drop at t)))) {s : Span} (r : s ≡ trimmed_span t at e) where
   -- what `with_operand` asks
   pub splitting_asks : (o.count ≤ s.start) × (s.start ≤ s.end)
   splitting_asks = rw r (omega (arith, inv.few), omega arith)
@@ -167,7 +156,7 @@ module _ {t : Text} {o : Operands} {at : ℕ} (inv : Splitting t o at) {e : ℕ}
       go : Ends t at e → Splitting t u (e + 1)
       go (last z c) = absurd (d z)
       go (comma z c) =
-          let w : (at ≤ e) × (e ≤ length t) = end_within t at inv.upto e q in
+          let w : PartIn t at e = end_within t at inv.upto e q in
           let l : length (part t at e) ≡ e - at = length-take-le (e - at) (drop at t) (rw length-drop (omega arith)) in
           let n : at + (e - at) + 1 ≡ e + 1 = omega arith in
           record {

@@ -1,12 +1,12 @@
 -- Laws of pieces joined by one space, and what the loop of `join_pieces` keeps. Assumes nothing.
+use borrow.Rule.Slice.PartMut.{put_mid}
 use mathlib.Core.Path.{◌≡◌, refl, sym, ap, ◌∙◌}
 use mathlib.Core.Bool.{Bool, true, false}
 use mathlib.Core.List.{List, [], ◌∷◌, ◌++◌, append_assoc, append-nil}
 use Prim.Native.Nat.{ℕ, zero, suc, ◌+◌, ◌-◌, ◌≤◌, ◌<◌}
-use native.Mathlib.Numerals.{add-one}
 use native.Mathlib.Omega.{arith}
-use lib.ListN.{length, take, drop, get_or, set, length-set, length-append, length-drop, take-append-drop}
-use lib.Seq.{length-take-le, take-length, drop-drop, paste, paste-zero, paste-suc}
+use lib.ListN.{length, take, drop, set, length-append, length-drop, take-append-drop}
+use lib.Seq.{length-take-le, drop-drop}
 use Rattle.rules.specs.Text.{Text, blank, on_first, cut_where, drop_empty, pieces, join_more, joined}
 use Rattle.rules.specs.Assemble.{over}
 use Rattle.text.specs.Pieces.{next_piece}
@@ -16,7 +16,7 @@ use Rattle.text.proofs.Pieces.{Next, next_start_lem, next_some, next_none}
 use Rattle.text.specs.Spans.{part}
 use Rattle.text.specs.Spans.{over_from}
 use Rattle.instruction.specs.Tail.{space, spaced}
-use Rattle.text.proofs.Over.{put_front, set_put, put_nil, length_put}
+use Rattle.text.proofs.Over.{set_put, put_nil, length_put}
 use Rattle.instruction.proofs.Lists.{take_over_from, drop_over_from, over_after}
 
 -- ---- joined pieces are no longer than the text
@@ -55,29 +55,10 @@ pub joined_le : (s : Text) → length (joined (pieces s)) ≤ length s
 unfolding pieces
 joined_le s = omega (arith, joined_more (drop_empty (cut_where blank s)), drop_empty_le (cut_where blank s), (cut_length s).1)
 
--- ---- the loop of `copy_piece`
--- what it keeps: so far the slice is as it was, with i bytes of p put over its places from n on
-pub record Copied (p old : Text) (n i : ℕ) (out : Text) : Type 0 where
-  pub room : n + length p ≤ length old
-  pub upto : i ≤ length p
-  pub long : length out ≡ length old
-  pub so_far : out ≡ paste old n p i
-
-pub copied_start : (p old : Text) (n : ℕ) → n + length p ≤ length old → Copied p old n 0 old
-copied_start p old n h = record { room = h; upto = omega arith; long = refl; so_far = paste-zero old n p }
-
-module _ {p old : Text} {n i : ℕ} {out : Text} (inv : Copied p old n i out) where
-  pub copied_more : i < length p → Copied p old n (i + 1) (set out (n + i) (get_or p i 0))
-  copied_more h =
-      record {
-        room = inv.room;
-        upto = omega arith;
-        long = length-set out (n + i) (get_or p i 0) ∙ inv.long;
-        so_far = rw (add-one i, inv.so_far) (paste-suc old n p i 0 (omega (arith, inv.room)) h);
-      }
-
-  pub copied_all : length p ≤ i → out ≡ over_from n p old
-  copied_all h = let e : i ≡ length p = omega (arith, inv.upto) in inv.so_far ∙ rw (e, take-length p) (sym (put_front n (n + length p) p old refl (omega (arith, inv.room))))
+-- ---- `copy_piece`
+pub piece_put : (n : ℕ) (p old : Text) {new : Text} → new ≡ p → put_mid n (n + length p - n) old new ≡ over_from n p old
+unfolding over_from
+piece_put n p old e = let k : n + length p - n ≡ length p = omega arith in rw (e, k, drop-drop (length p) n old)
 
 -- ---- `put_space` and `add_piece`
 pub space_zero : (n : ℕ) → n ≡ 0 → 0 ≡ n + length (space n)

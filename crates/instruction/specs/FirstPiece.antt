@@ -1,6 +1,5 @@
 -- The first piece of an instruction's text: the mnemonic's place, the suffix, and where the tail starts. Assumes nothing.
-use Rattle.std.specs.Prelude.{ℕ, ◌+◌, ◌≤◌, ◌≡◌, Bool, ◌||◌, cond, List, [], ◌∷◌, eqb, length, drop}
-use Rattle.std.proofs.Math.Option.{Option, none, some}
+use Rattle.std.specs.Prelude.{ℕ, ◌+◌, ◌≤◌, ◌≡◌, Bool, ◌||◌, cond, List, [], ◌∷◌, eqb, length, drop, Option, None, Some}
 use Rattle.rules.specs.Text.{Text, bytes, blank, leading, cut_at, pieces, same, nth, first_text, other_texts}
 use Rattle.text.specs.Spans.{part}
 use Rattle.instruction.specs.declared.Suffix.{Suffix}
@@ -21,8 +20,8 @@ suffix_by [] = Empty
 suffix_by (b ∷ s) = cond (same (b ∷ s) (bytes "L")) Long (cond (same (b ∷ s) (bytes "W")) Word Other)
 
 unfoldable pub suffix_of : Option Text → Suffix
-suffix_of none = None
-suffix_of (some s) = suffix_by s
+suffix_of None = None
+suffix_of (Some s) = suffix_by s
 
 -- by the text after the mnemonic's dot
 abbrev pub suffix_in : Text → Suffix

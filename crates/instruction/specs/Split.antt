@@ -13,10 +13,6 @@ operands_in t = drop_empty (map trim (cut_at 44 t))
 abbrev pub span : ℕ → ℕ → Span
 span a b = record { start = a; end = b }
 
--- where a text from position i on stands without its outer blanks
-abbrev pub trimmed_span : ℕ → Text → Span
-trimmed_span i p = span (i + leading p) (i + leading p + length (trim p))
-
 -- the place of a text at i, unless it is empty, before others
 unfoldable pub keep_span : ℕ → Text → List Span → List Span
 keep_span i [] ss = ss

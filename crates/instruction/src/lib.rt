@@ -3,56 +3,49 @@
 // What an instruction's text says: its mnemonic and suffix, its operands, its size.
 // The operands are those of the joined tail: the text itself where it stands joined already, else a normalised copy.
 // The size is the same without: it goes by the first bytes of operands.
-ghost use Rattle.std.specs.Prelude.{◌≡◌, [], ◌∷◌, ◌+◌, ◌≤◌, ◌<◌, length, drop};
+ghost use Rattle.std.specs.Prelude.{◌≡◌, Some, [], ◌∷◌, ◌+◌, ◌≤◌, ◌<◌, length, drop};
 ghost use Rattle.rules.specs.Text.{uppers, cut_at, pieces, joined, first_text};
 ghost use Rattle.rules.specs.Line.{instruction_of, is_plain, size};
 ghost use Rattle.rules.specs.Assemble.{over};
 ghost use Rattle.text.specs.Pieces.{until};
-ghost use Rattle.text.specs.Spans.{part};
 ghost use Rattle.instruction.specs.FirstPiece.{suffix_text, suffix_of, suffix_in, ends_name, head_of};
 ghost use Rattle.text.specs.Spans.{over_from};
 ghost use Rattle.instruction.specs.Tail.{space, spaced};
 ghost use Rattle.instruction.specs.Joined.{is_single, is_joined};
-ghost use Rattle.instruction.specs.Split.{operands_in, trimmed_span, operands_at, with_span};
-ghost use Rattle.instruction.specs.Size.{sized_by, has_operands, is_long_by, size_by, may_be_long};
+ghost use Rattle.instruction.specs.Split.{operands_in, operands_at, with_span};
+ghost use Rattle.instruction.specs.Size.{sized_by, is_long_by, size_by, may_be_long};
 
 use text::Span;
 
 // ---- The first piece: mnemonic and suffix.
 
-// What stands after the mnemonic's dot, up to the next dot.
-#[derive(Clone, Copy)]
+/// What stands after the mnemonic's dot, up to the next dot.
+#[derive(Clone, Copy, Debug, PartialEq, Eq, Hash)]
 pub enum Suffix {
-    // There is no dot.
+    /// There is no dot.
     None,
-    // Nothing.
+    /// Nothing.
     Empty,
-    // Exactly `L`.
+    /// Exactly `L`.
     Long,
-    // Exactly `W`.
+    /// Exactly `W`.
     Word,
     Other,
 }
 
-// The mnemonic's place, and where the tail starts; the suffix stands between them.
-#[derive(Clone, Copy)]
+/// The mnemonic's place, and where the tail starts; the suffix stands between them.
+#[derive(Clone, Copy, Debug, PartialEq, Eq, Hash)]
 pub struct Head {
     pub start: usize,
     pub end: usize,
     pub tail: usize,
 }
 
-// A dot or a blank.
+// A dot or a blank: a letter is neither, by the first test.
 fn ends_name(b: u8) -> bool
     ensures { result ≡ ends_name b }
 {
-    if 46 < b {
-        return false;
-    }
-    if b == b'.' {
-        return true;
-    }
-    text::is_blank(b)
+    b <= b'.' && (b == b'.' || text::is_blank(b))
 }
 
 // The first position from `at` on that has a dot or a blank, or the text's end.
@@ -60,28 +53,23 @@ fn mnemonic_end(t: &[u8], at: usize) -> usize
     requires { at ≤ length t.now }
     ensures { result ≡ at + until ends_name (drop at t.now) }
 {
-    let mut i = at;
-    while i < t.len() {
+    for i in at..t.len() {
         if ends_name(t[i]) {
             return i;
         }
-        i += 1;
     }
-    i
+    t.len()
 }
 
-// The first piece, cut at its first dot; what stands after it is stepped over only where there is one.
+/// The first piece, cut at its first dot; what stands after it is stepped over only where there is one.
 pub fn read_head(t: &[u8]) -> Head
     ensures { result ≡ head_of t.now }
 {
     let start = text::leading_blanks(t);
     let end = mnemonic_end(t, start);
-    if end < t.len() {
-        if t[end] == b'.' {
-            let after = end + 1;
-            let tail = text::skip_piece(t, after);
-            return Head { start, end, tail };
-        }
+    if end < t.len() && t[end] == b'.' {
+        let tail = text::skip_piece(t, end + 1);
+        return Head { start, end, tail };
     }
     Head {
         start,
@@ -90,7 +78,7 @@ pub fn read_head(t: &[u8]) -> Head
     }
 }
 
-// The text up to the first dot, as a suffix.
+// The text up to the first dot, as a suffix. Slice patterns were tried: their arms do not name the bytes for a proof.
 fn read_suffix(t: &[u8]) -> Suffix
     ensures { result ≡ suffix_in t.now }
 {
@@ -110,7 +98,7 @@ fn read_suffix(t: &[u8]) -> Suffix
     Suffix::Other
 }
 
-// The same where the text is one byte.
+// The same where the text is one byte. Of a `match` the compiler makes a table of values.
 fn byte_suffix(b: u8) -> Suffix
     ensures { result ≡ suffix_in (b ∷ []) }
 {
@@ -126,18 +114,15 @@ fn byte_suffix(b: u8) -> Suffix
     Suffix::Other
 }
 
-// The suffix of an instruction whose head was read: it stands after the mnemonic, where there is a dot.
+/// The suffix of an instruction whose head was read: it stands after the mnemonic, where there is a dot.
 pub fn suffix_of(t: &[u8], head: Head) -> Suffix
     requires { head ≡ head_of t.now }
     ensures { result ≡ suffix_of (suffix_text t.now) }
 {
-    let end = head.end;
-    let tail = head.tail;
-    if end == tail {
+    if head.end == head.tail {
         return Suffix::None;
     }
-    let after = end + 1;
-    read_suffix(&t[after..tail])
+    read_suffix(&t[head.end + 1..head.tail])
 }
 
 // ---- The tail: the other pieces, joined by one space.
@@ -147,11 +132,7 @@ fn copy_piece(p: &[u8], out: &mut [u8], n: usize)
     requires { n + length p.now ≤ length out.old }
     ensures { out.new ≡ over_from n p.now out.old }
 {
-    let mut i = 0;
-    while i < p.len() {
-        out[n + i] = p[i];
-        i += 1;
-    }
+    out[n..n + p.len()].copy_from_slice(p);
 }
 
 // A space after the first n bytes of `out`, unless there are none; the length with it.
@@ -178,7 +159,7 @@ fn add_piece(p: &[u8], out: &mut [u8], n: usize) -> usize
     m + p.len()
 }
 
-// The pieces from `at` on, joined by one space, at the front of `out`; their length.
+/// The pieces from `at` on, joined by one space, at the front of `out`; their length.
 pub fn join_pieces(t: &[u8], at: usize, out: &mut [u8]) -> usize
     requires { (at ≤ length t.now) × (length t.now ≤ length out.old) }
     ensures value { result ≡ length (joined (pieces (drop at t.now))) }
@@ -210,32 +191,26 @@ fn is_single(t: &[u8], i: usize) -> bool
     if b != 32 {
         return !text::is_blank(b);
     }
-    let next = i + 1;
-    if next == t.len() {
-        return false;
-    }
-    !text::is_blank(t[next])
+    i + 1 < t.len() && !text::is_blank(t[i + 1])
 }
 
-// From `at` on each blank is a single space between pieces: with none in front, the text is its own joined tail.
+/// From `at` on each blank is a single space between pieces: with none in front, the text is its own joined tail.
 pub fn is_joined(t: &[u8], at: usize) -> bool
     requires { at ≤ length t.now }
     ensures { result ≡ is_joined (drop at t.now) }
 {
-    let mut i = at;
-    while i < t.len() {
+    for i in at..t.len() {
         if !is_single(t, i) {
             return false;
         }
-        i += 1;
     }
     true
 }
 
 // ---- The operands of a joined tail.
 
-// How many, and where the first, the second and the last stand.
-#[derive(Clone, Copy)]
+/// How many, and where the first, the second and the last stand; of one operand all three are that one's place.
+#[derive(Clone, Copy, Debug, PartialEq, Eq, Hash)]
 pub struct Operands {
     pub count: usize,
     pub first: Span,
@@ -251,29 +226,25 @@ fn with_operand(o: Operands, span: Span) -> Operands
     if span.start == span.end {
         return o;
     }
-    if o.count == 0 {
-        return Operands {
+    match o.count {
+        0 => Operands {
             count: 1,
             first: span,
             second: span,
             last: span,
-        };
-    }
-    let first = o.first;
-    if o.count == 1 {
-        return Operands {
+        },
+        1 => Operands {
             count: 2,
-            first,
+            first: o.first,
             second: span,
             last: span,
-        };
-    }
-    let second = o.second;
-    Operands {
-        count: o.count + 1,
-        first,
-        second,
-        last: span,
+        },
+        n => Operands {
+            count: n + 1,
+            first: o.first,
+            second: o.second,
+            last: span,
+        },
     }
 }
 
@@ -282,28 +253,10 @@ fn part_end(t: &[u8], at: usize) -> usize
     requires { at ≤ length t.now }
     ensures { result ≡ at + length (first_text (cut_at 44 (drop at t.now))) }
 {
-    let text::Found::At(i) = text::find_byte_from(t, at, b',') else {
-        return t.len();
-    };
-    i
+    text::find_byte_from(t, at, b',').unwrap_or(t.len())
 }
 
-// The part from `at` to before `end`, without its outer blanks.
-fn trimmed_part(t: &[u8], at: usize, end: usize) -> Span
-    requires { (at ≤ end) × (end ≤ length t.now) }
-    ensures { result ≡ trimmed_span at (part t.now at end) }
-{
-    let p = &t[at..end];
-    let blanks = text::leading_blanks(p);
-    let kept = text::kept_length(&p[blanks..]);
-    let start = at + blanks;
-    Span {
-        start,
-        end: start + kept,
-    }
-}
-
-// The text cut at commas, trimmed, empties removed.
+/// The text cut at commas, trimmed, empties removed.
 pub fn split_operands(t: &[u8]) -> Operands
     ensures { result ≡ operands_at t.now }
 {
@@ -317,7 +270,7 @@ pub fn split_operands(t: &[u8]) -> Operands
     let mut at = 0;
     loop {
         let end = part_end(t, at);
-        found = with_operand(found, trimmed_part(t, at, end));
+        found = with_operand(found, text::trimmed_span(t, at, end));
         if end == t.len() {
             return found;
         }
@@ -328,64 +281,42 @@ pub fn split_operands(t: &[u8]) -> Operands
 // ---- The size.
 
 // Starts with D, A or (.
+#[tactic(auto, using(crate::proofs::Size::plain_none, crate::proofs::Size::plain_some))]
 fn is_plain(t: &[u8]) -> bool
     ensures { result ≡ is_plain t.now }
 {
-    if t.len() == 0 {
+    let Some(&b) = t.first() else {
         return false;
-    }
-    let b = t[0];
-    if b == b'D' {
-        return true;
-    }
-    if b == b'A' {
-        return true;
-    }
-    b == b'('
+    };
+    b == b'D' || b == b'A' || b == b'('
 }
 
 // Which operands decide the size.
-#[derive(Clone, Copy)]
+#[derive(Clone, Copy, Debug, PartialEq, Eq, Hash)]
 enum SizeRule {
-    // 2 whatever the operands.
-    Fixed,
     // 4 where the first starts with #.
     Immediate,
     // 4 where the first or the last is no register.
     Move,
 }
 
-// Which operands decide, by the mnemonic and the suffix.
-fn sized(mnemonic: &[u8], suffix: Suffix) -> SizeRule
+// Which operands decide, by the mnemonic and the suffix; without any it is 2.
+fn sized(mnemonic: &[u8], suffix: Suffix) -> Option<SizeRule>
     ensures { result ≡ sized_by (uppers mnemonic.now) suffix }
 {
     if text::same_upper(mnemonic, b"MULS") {
-        return SizeRule::Immediate;
+        return Some(SizeRule::Immediate);
     }
     let Suffix::Long = suffix else {
-        return SizeRule::Fixed;
+        return None;
     };
     if text::same_upper(mnemonic, b"CMP") {
-        return SizeRule::Immediate;
+        return Some(SizeRule::Immediate);
     }
-    if text::same_upper(mnemonic, b"MOVE") {
-        return SizeRule::Move;
+    if text::same_upper(mnemonic, b"MOVE") || text::same_upper(mnemonic, b"MOVEA") {
+        return Some(SizeRule::Move);
     }
-    if text::same_upper(mnemonic, b"MOVEA") {
-        return SizeRule::Move;
-    }
-    SizeRule::Fixed
-}
-
-// Some operand decides.
-fn has_operands(rule: SizeRule) -> bool
-    ensures { result ≡ has_operands rule }
-{
-    match rule {
-        SizeRule::Fixed => false,
-        SizeRule::Immediate => true,
-        SizeRule::Move => true,
-    }
+    None
 }
 
 // The first and the last operand ask for 4 bytes.
@@ -393,54 +324,37 @@ fn takes_four(rule: SizeRule, first: &[u8], last: &[u8]) -> bool
     ensures { result ≡ is_long_by rule first.now last.now }
 {
     match rule {
-        SizeRule::Fixed => false,
         SizeRule::Immediate => text::starts_with(first, b"#"),
-        SizeRule::Move => {
-            if !is_plain(first) {
-                return true;
-            }
-            !is_plain(last)
-        }
+        SizeRule::Move => !is_plain(first) || !is_plain(last),
     }
 }
 
 // The size of an instruction whose operands stand in `tail`.
 fn size_of(rule: SizeRule, o: Operands, tail: &[u8]) -> u32
     requires { o ≡ operands_at tail.now }
-    ensures { result ≡ size_by rule (operands_in tail.now) }
+    ensures { result ≡ size_by (Some rule) (operands_in tail.now) }
 {
     if o.count < 2 {
         return 2;
     }
-    let a = o.first.start;
-    let b = o.first.end;
-    let c = o.last.start;
-    let d = o.last.end;
-    if takes_four(rule, &tail[a..b], &tail[c..d]) {
-        return 4;
-    }
-    2
+    let first = &tail[o.first.start..o.first.end];
+    let last = &tail[o.last.start..o.last.end];
+    if takes_four(rule, first, last) { 4 } else { 2 }
 }
 
 // The first byte leaves open that an operand decides: MULS, CMP, MOVE or MOVEA may stand there, or after blanks.
+#[tactic(auto, unfolding(crate::specs::Size::may_be_long))]
 fn may_be_long(t: &[u8]) -> bool
     ensures { result ≡ may_be_long t.now }
 {
-    if t.len() == 0 {
+    let Some(&b) = t.first() else {
         return false;
-    }
-    let b = t[0];
+    };
     let u = text::upper_case(b);
-    if u == b'M' {
-        return true;
-    }
-    if u == b'C' {
-        return true;
-    }
-    text::is_blank(b)
+    u == b'M' || u == b'C' || text::is_blank(b)
 }
 
-// How many bytes an instruction takes; no copy is needed, for blanks do not change an operand's first byte.
+/// How many bytes an instruction takes; no copy is needed, for blanks do not change an operand's first byte.
 pub fn instruction_size(t: &[u8]) -> u32
     ensures { result ≡ size (instruction_of t.now) }
 {
@@ -448,14 +362,10 @@ pub fn instruction_size(t: &[u8]) -> u32
         return 2;
     }
     let head = read_head(t);
-    let a = head.start;
-    let b = head.end;
     let suffix = suffix_of(t, head);
-    let rule = sized(&t[a..b], suffix);
-    if !has_operands(rule) {
+    let Some(rule) = sized(&t[head.start..head.end], suffix) else {
         return 2;
-    }
-    let start = head.tail;
-    let tail = &t[start..];
+    };
+    let tail = &t[head.tail..];
     size_of(rule, split_operands(tail), tail)
 }

@@ -1,37 +1,35 @@
 -- What the code's answers say of a line, step by step: steps 5 and 6, step 4, then steps 1 to 3 by the line's outline. Assumes nothing.
+use Rattle.std.specs.Prelude.{Option, None, Some, IfSome, Result}
 use mathlib.Core.Path.{◌≡◌, refl, sym, ap, ◌∙◌}
 use mathlib.Core.Bool.{Bool, true, false, false≢true}
-use mathlib.Core.Option.{some}
-use mathlib.Core.List.{[]}
+use mathlib.Core.List.{List, [], append-nil}
 use Prim.Native.Nat.{ℕ, suc, ◌+◌, ◌-◌, ◌≤◌, ◌<◌}
 use native.Mathlib.Omega.{arith}
 use lib.Dec.{eqb}
 use lib.ListN.{length, take, drop, get_or}
 use lib.Seq.{length-take-le}
 use Rattle.rules.specs.Text.{Text, bytes, uppers, leading, trim_end, trim, pieces, starts, nth}
-use Rattle.rules.specs.Line.{name, Line as Said, line as line_with, reading_in, number_in, is_data, data_line, rest_line, after_label, label_line, trimmed_line, line_of}
+use Rattle.rules.specs.Line.{Name, name, Line as Said, line as line_with, reading_in, number_in, is_data, data_line, rest_line, after_label, label_line, trimmed_line, line_of}
 use Rattle.text.specs.declared.Span.{Span}
 use Rattle.text.specs.Pieces.{until}
-use Rattle.text.specs.Spans.{part, PartIn}
+use Rattle.text.specs.Spans.{part, span_text, PartIn, SpanIn, trimmed_span}
 use Rattle.text.proofs.Find.{Indexed, indexed, unindexed}
 use Rattle.text.proofs.Spans.{part_rest, part_front, length_part}
 use Rattle.text.proofs.Trim.{leading_le, trim_end_le, take_trim_end}
 use Rattle.numeral.specs.Number.{number_of}
-use Rattle.numeral.specs.declared.unsigned.Number.{Number}
+use Rattle.numeral.specs.declared.Failure.{Failure}
 use Rattle.outline.specs.Lines.{line_from}
 use Rattle.outline.specs.Outline.{OutlineLineGives}
 use Rattle.outline.specs.declared.Outline.{Outline}
 use Rattle.outline.proofs.Lines.{line_end_le, line_length}
 use Rattle.outline.proofs.Defines.{colon_trimmed}
-use Rattle.line.specs.Line.{names_at, task_at, NamesIn, TaskIn, Says, from, ReadLineGives}
-use Rattle.line.specs.Steps.{Trimmed, Whole, trimmed_part, span_from, no_names, with_name, plain_line, org_of, SplitLabelGives}
-use Rattle.line.specs.declared.Names.{Names}
+use Rattle.line.specs.Line.{names_of, task_at, TaskIn, Says, from, ReadLineGives}
+use Rattle.line.specs.Steps.{Trimmed, Whole, span_from, line_by, org_of, SplitLabelGives}
 use Rattle.line.specs.declared.Split.{Split}
 use Rattle.line.specs.declared.Task.{Task}
 use Rattle.line.specs.declared.Task.TheVariants.{Skipped, End, LabelOnly, Instruction}
 use Rattle.line.specs.declared.Line.{Line}
 use Rattle.line.proofs.Parts.{kept_is, trim_kept, Trims, trims}
-use Rattle.line.proofs.Labels.{more_names, no_names_in}
 use Rattle.line.proofs.Clauses.{rest_data, rest_instruction, after_some, after_none, label_none, label_some, first_none, first_note, first_end, first_org, first_label}
 use Rattle.line.proofs.Texts.{index_front, index_past, data_part}
 use Rattle.line.proofs.Shift.{label_later}
@@ -41,34 +39,39 @@ use Rattle.line.proofs.Data.{org_is, org_in}
 says_same : {source : Text} {x y : Said} {r : Line} → x ≡ y → Says source y r → Says source x r
 says_same e s = record { says = s.says ∙ sym e; names_in = s.names_in; task_in = s.task_in }
 
--- ---- steps 5 and 6
-module _ {source : Text} {ns : Names} {a e : ℕ} (tr : Trimmed source a e) (h : NamesIn source 1 ns) where
-  pub says_data : {r : Line} → is_data (part source a e) ≡ true → Says source (data_line (names_at source ns) a (part source a e)) r → Says source (rest_line (names_at source ns) a (part source a e)) r
-  says_data c s = says_same (rest_data (names_at source ns) a (part source a e) c) s
+-- the label of step 4 alone
+module _ {source : Text} {o : Option Span} {k : Task} (h : IfSome o (SpanIn source)) (t : TaskIn source k) where
+  says_one : Says source (line_with (names_of source o) (task_at source k)) (line_by o None k)
+  says_one = record { says = ap (λ (ns : List Name). line_with ns (task_at source k)) (append-nil (names_of source o)); names_in = record { first = h; second = Prim.tt }; task_in = t }
 
-  pub says_instruction : is_data (part source a e) ≡ false → Says source (rest_line (names_at source ns) a (part source a e)) (record { names = ns; task = Instruction (span_from a e) })
-  says_instruction c = says_same (rest_instruction (names_at source ns) a (part source a e) c) (record { says = refl; names_in = more_names h; task_in = tr.placed })
+-- ---- steps 5 and 6
+module _ {source : Text} (o : Option Span) {s : Span} (tr : Trimmed source s) (h : IfSome o (SpanIn source)) where
+  pub says_data : {r : Line} → is_data (span_text source s) ≡ true → Says source (data_line (names_of source o) s.start (span_text source s)) r → Says source (rest_line (names_of source o) s.start (span_text source s)) r
+  says_data c g = says_same (rest_data (names_of source o) s.start (span_text source s) c) g
+
+  pub says_instruction : {r : Line} → is_data (span_text source s) ≡ false → r ≡ line_by o None (Instruction s) → Says source (rest_line (names_of source o) s.start (span_text source s)) r
+  says_instruction c q = rw q (says_same (rest_instruction (names_of source o) s.start (span_text source s) c) (says_one {k = Instruction s} h tr.placed))
 
   -- with neither in the whole line
-  pub says_undefined : {y : Bool} → (is_data (part source a e) ≡ true → y ≡ true) → y ≡ false → Says source (rest_line (names_at source ns) a (part source a e)) (record { names = ns; task = Instruction (span_from a e) })
-  says_undefined {y} q c = says_instruction (go (is_data (part source a e)) refl)
+  pub says_undefined : {y : Bool} {r : Line} → (is_data (span_text source s) ≡ true → y ≡ true) → y ≡ false → r ≡ line_by o None (Instruction s) → Says source (rest_line (names_of source o) s.start (span_text source s)) r
+  says_undefined {y} q c e = says_instruction (go (is_data (span_text source s)) refl) e
     where
-      go : (x : Bool) → is_data (part source a e) ≡ x → is_data (part source a e) ≡ false
+      go : (x : Bool) → is_data (span_text source s) ≡ x → is_data (span_text source s) ≡ false
       go true d = absurd (false≢true (sym c ∙ q d))
       go false d = d
 
 -- ---- step 4
 -- no colon: the whole text goes on without a label
-pub split_whole : {source : Text} {a e k : ℕ} {ns : Names} → Whole source a e k → e ≤ k → ns ≡ no_names → SplitLabelGives source a e (record { names = ns; start = a; end = e })
-split_whole {source} {a} {e} w h z =
-    rw z (record {
-      names_in = no_names_in source;
+pub split_whole : {source : Text} {a e k : ℕ} → Whole source a e k → e ≤ k → SplitLabelGives source a e (record { label = None; rest = span_from a e })
+split_whole {source} {a} {e} w h =
+    record {
+      label_in = Prim.tt;
       rest_in = w.trimmed;
       from_start = omega arith;
       to_end = omega arith;
       done = λ o. absurd (omega (arith, w.filled));
       on = λ o. label_none a (part source a e) (unindexed 58 (part source a e) (w.nowhere h)).cut;
-    })
+    }
 
 -- the text's first colon at k, and n bytes left of what is before it
 pub record Labelled (source : Text) (a e k n : ℕ) : Type 0 where
@@ -80,7 +83,7 @@ module _ {source : Text} {a e k n : ℕ} (x : Labelled source a e k n) where
   abbrev text : Text
   text = part source a e
 
-  trimmed : Trimmed source a e
+  trimmed : Trimmed source (span_from a e)
   trimmed = x.whole.trimmed
 
   found : Indexed 58 text (k - a)
@@ -115,29 +118,29 @@ module _ {source : Text} {a e k n : ℕ} (x : Labelled source a e k n) where
       let m : a + (k - a) + 1 ≡ k + 1 = omega (arith, before_in) in
       label_some a text found.cut ∙ rw (l, m, after_text, label_text_lem, rest.text, rest.starts)
 
-  pub split_label : {none ns : Names} {r : Span} → none ≡ no_names → ns ≡ with_name none a (a + n) → r ≡ trimmed_part source (k + 1) e → SplitLabelGives source a e (record { names = ns; start = r.start; end = r.end })
-  split_label {none} {ns} {r} z w q =
+  pub split_label : {r : Span} → r ≡ trimmed_span source (k + 1) e → SplitLabelGives source a e (record { label = Some (span_from a (a + n)); rest = r })
+  split_label {r} q =
       let rest : Trims source (k + 1) e r = trims source (k + 1) e after_in r q in
       let l : length (part source r.start r.end) ≡ r.end - r.start = length_part source r.start r.end rest.trimmed.placed in
-      rw (w, z) (record {
-        names_in = record { few = omega arith; first = label_in; second = label_in };
+      record {
+        label_in = label_in;
         rest_in = rest.trimmed;
         from_start = omega (arith, rest.starts, before_in);
         to_end = rest.to_end;
         done = λ o. after_label_lem r rest ∙ after_none _ _ _ (omega arith);
         on = λ o. after_label_lem r rest ∙ after_some _ _ _ (omega arith);
-      })
+      }
 
 module _ {source : Text} {a e : ℕ} {s : Split} (g : SplitLabelGives source a e s) where
-  pub says_label : s.start ≡ s.end → Says source (label_line a (part source a e)) (record { names = s.names; task = LabelOnly })
-  says_label c = says_same (g.done c) (record { says = refl; names_in = more_names g.names_in; task_in = Prim.tt })
+  pub says_label : {l : Line} → s.rest.start ≡ s.rest.end → l ≡ line_by s.label None LabelOnly → Says source (label_line a (part source a e)) l
+  says_label c q = rw q (says_same (g.done c) (says_one {k = LabelOnly} g.label_in Prim.tt))
 
-  pub says_labelled : {l : Line} → (s.start ≡ s.end → ⊥) → Says source (rest_line (names_at source s.names) s.start (part source s.start s.end)) l → Says source (label_line a (part source a e)) l
+  pub says_labelled : {l : Line} → (s.rest.start ≡ s.rest.end → ⊥) → Says source (rest_line (names_of source s.label) s.rest.start (span_text source s.rest)) l → Says source (label_line a (part source a e)) l
   says_labelled c r = says_same (g.on (omega (arith, g.rest_in.placed))) r
 
   -- DC. or DS. in the rest is in the text
-  pub rest_told : {y : Bool} → (is_data (part source a e) ≡ true → y ≡ true) → is_data (part source s.start s.end) ≡ true → y ≡ true
-  rest_told q d = q (data_part source a e s.start s.end g.from_start g.to_end d)
+  pub rest_told : {y : Bool} → (is_data (part source a e) ≡ true → y ≡ true) → is_data (span_text source s.rest) ≡ true → y ≡ true
+  rest_told q d = q (data_part source a e s.rest.start s.rest.end g.from_start g.to_end d)
 
 -- ---- steps 1 to 3
 module _ {source : Text} {at : ℕ} {o : Outline} (g : OutlineLineGives source at o) (h : at ≤ length source) where
@@ -173,7 +176,7 @@ module _ {source : Text} {at : ℕ} {o : Outline} {n : ℕ} (x : Outlined source
   trims_line : Trims source at o.end (span_from o.start (o.start + n))
   trims_line = trims source at o.end (line_in x.outline x.within) (span_from o.start (o.start + n)) (rw (line_part, x.outline.starts, kept))
 
-  pub inner_trimmed : Trimmed source o.start (o.start + n)
+  pub inner_trimmed : Trimmed source (span_from o.start (o.start + n))
   inner_trimmed = trims_line.trimmed
 
   line_is : line_of line ≡ trimmed_line (leading line) inner
@@ -181,10 +184,10 @@ module _ {source : Text} {at : ℕ} {o : Outline} {n : ℕ} (x : Outlined source
   line_is = rw (trims_line.text, line_part)
 
   -- a line without labels
-  plain : (k : Task) {r : Line} → r ≡ plain_line k → trimmed_line (leading line) inner ≡ line_with [] (task_at source k) → TaskIn source k → ReadLineGives source at r
-  plain k q e t = rw q (says_same (ap (from at) (line_is ∙ e)) (record { says = refl; names_in = more_names (no_names_in source); task_in = t }))
+  plain : (k : Task) {r : Line} → r ≡ line_by None None k → trimmed_line (leading line) inner ≡ line_with [] (task_at source k) → TaskIn source k → ReadLineGives source at r
+  plain k q e t = rw q (says_same (ap (from at) (line_is ∙ e)) (record { says = refl; names_in = record { first = Prim.tt; second = Prim.tt }; task_in = t }))
 
-  pub says_empty : {r : Line} → length inner ≡ 0 → r ≡ plain_line Skipped → ReadLineGives source at r
+  pub says_empty : {r : Line} → length inner ≡ 0 → r ≡ line_by None None Skipped → ReadLineGives source at r
   says_empty z q = plain Skipped q (first_none (leading line) inner z) Prim.tt
 
   -- what stands from the text on, and the colon in it
@@ -216,19 +219,19 @@ module _ {source : Text} {at : ℕ} {o : Outline} {n : ℕ} (x : Outlined source
           trimmed = inner_trimmed;
           filled = omega (arith, inner_some, length_part source o.start (o.start + n) inner_trimmed.placed);
           after = omega (arith, colon_is);
-          first = λ l. let i : until (eqb 58) rest ≡ o.colon - o.start = omega (arith, colon_is) in rw front (index_front 58 n rest (omega (arith, colon_is)) front_le ∙ ap some i);
+          first = λ l. let i : until (eqb 58) rest ≡ o.colon - o.start = omega (arith, colon_is) in rw front (index_front 58 n rest (omega (arith, colon_is)) front_le ∙ ap Some i);
           nowhere = λ l. rw front (index_past 58 n rest (omega (arith, colon_is)));
         }
 
-    pub says_note : {r : Line} → get_or inner 0 0 ≡ 59 → r ≡ plain_line Skipped → ReadLineGives source at r
+    pub says_note : {r : Line} → get_or inner 0 0 ≡ 59 → r ≡ line_by None None Skipped → ReadLineGives source at r
     says_note e q = plain Skipped q (first_note (leading line) inner inner_some e) Prim.tt
 
     module _ (d : get_or inner 0 0 ≡ 59 → ⊥) {u : Bool} (p : u ≡ starts (bytes "END") (uppers inner)) where
-      pub says_end : {r : Line} → u ≡ true → r ≡ plain_line End → ReadLineGives source at r
+      pub says_end : {r : Line} → u ≡ true → r ≡ line_by None None End → ReadLineGives source at r
       says_end e q = plain End q (first_end (leading line) inner inner_some d (sym p ∙ e)) Prim.tt
 
       module _ (e : u ≡ false) {v : Bool} (g : v ≡ starts (bytes "ORG") (uppers inner)) where
-        pub says_org : {m : Number} {k : Task} {r : Line} → v ≡ true → m ≡ number_of (reading_in (nth 1 (pieces inner))) → k ≡ org_of m → r ≡ plain_line k → ReadLineGives source at r
+        pub says_org : {m : Result ℕ Failure} {k : Task} {r : Line} → v ≡ true → m ≡ number_of (reading_in (nth 1 (pieces inner))) → k ≡ org_of m → r ≡ line_by None None k → ReadLineGives source at r
         unfolding number_in
         says_org c w y q =
             plain _ q (first_org (leading line) inner inner_some d (sym p ∙ e) (sym g ∙ c) ∙ rw (y, w) (ap (line_with []) (sym (org_is source (reading_in (nth 1 (pieces inner))))))) (rw (y, w) (org_in source (reading_in (nth 1 (pieces inner)))))

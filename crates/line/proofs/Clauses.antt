@@ -7,6 +7,10 @@ use native.Mathlib.Omega.{arith}
 use borrow.Author.Tests.{eq-eqb, ne_eqb}
 use lib.ListN.{length, get_or}
 use Rattle.rules.specs.Text.{Text, bytes, uppers, leading, trim, pieces, uncut, around, first_cut, starts, nth}
+use Rattle.rules.specs.Assemble.{is_end}
+use Rattle.line.specs.Line.{task_at}
+use Rattle.line.specs.declared.Task.{Task}
+use Rattle.line.specs.declared.Task.TheVariants.{Skipped, End, Org, NoOrg, LabelOnly, Instruction, Value, Space}
 use Rattle.rules.specs.Directive.{piece_directive, directive_of}
 use Rattle.rules.specs.Line.{Name, name, skipped, end, label_only, instruction, line, number_in, instruction_of, data_task, data_pieces, nonempty, is_data, data_line, rest_line, after_label, label_line, org_task, trimmed_line}
 
@@ -86,3 +90,15 @@ module _ (i : ℕ) where
   unfolding trimmed_line
   first_label [] l d e o = absurd (omega arith)
   first_label (b ∷ t) l d e o = rw (ne_eqb b 59 d, e, o, trimmed_line)
+
+-- ---- END alone ends the passes
+pub end_alone : (source : Text) (k : Task) → (k ≡ End → ⊥) → false ≡ is_end (task_at source k)
+unfolding is_end
+end_alone source Skipped d = refl
+end_alone source End d = absurd (d refl)
+end_alone source (Org v) d = refl
+end_alone source NoOrg d = refl
+end_alone source LabelOnly d = refl
+end_alone source (Instruction s) d = refl
+end_alone source (Value n v) d = refl
+end_alone source (Space n) d = refl

@@ -1,27 +1,24 @@
 -- Laws of steps 3 and 5: the tasks by their numbers, and the line of a label and a directive. Assumes nothing.
+use Rattle.std.specs.Prelude.{Option, None, Some, IfSome, Result}
 use mathlib.Core.Path.{◌≡◌, refl, ap, ◌∙◌}
-use mathlib.Core.Bool.{Bool, true, false, not, ◌||◌, cond}
-use mathlib.Core.Option.{none}
-use mathlib.Core.List.{append-nil}
+use mathlib.Core.Bool.{Bool, true, false, ◌||◌, cond}
 use Prim.Native.Nat.{ℕ, ◌+◌, ◌-◌, ◌≤◌, ◌<◌}
 use native.Mathlib.Omega.{arith}
-use borrow.Author.Tests.{not-true, not-false}
 use lib.ListN.{length, take, drop}
 use lib.Seq.{length-take-le}
 use Rattle.rules.specs.Text.{Text, bytes, uppers, pieces, contains, nth}
 use Rattle.rules.specs.Number.{Reading, read, failed, value_of}
 use Rattle.rules.specs.Line.{value_reading_in, data_size, data_value, sized, data_task, nonempty, data_line, org_task}
-use Rattle.text.specs.Spans.{part, PartIn}
+use Rattle.text.specs.declared.Span.{Span}
+use Rattle.text.specs.Spans.{span_text, PartIn, SpanIn}
 use Rattle.text.proofs.Spans.{part_front, length_part}
 use Rattle.numeral.specs.Number.{number_of}
-use Rattle.numeral.specs.declared.unsigned.Number.{Number}
-use Rattle.line.specs.Line.{names_at, task_at, NamesIn, TaskIn, Says}
-use Rattle.line.specs.Steps.{Trimmed, with_name, org_of, data_by, data_of, PieceHeadGives}
-use Rattle.line.specs.declared.Names.{Names}
+use Rattle.numeral.specs.declared.Failure.{Failure}
+use Rattle.line.specs.Line.{names_of, task_at, TaskIn, Says}
+use Rattle.line.specs.Steps.{Trimmed, span_from, line_by, org_of, data_by, data_of, PieceHeadGives}
 use Rattle.line.specs.declared.Task.{Task}
 use Rattle.line.specs.declared.Task.TheVariants.{Space}
 use Rattle.line.specs.declared.DataHead.{DataHead}
-use Rattle.line.proofs.Labels.{names_more, names_in, more_names}
 use Rattle.line.proofs.Directive.{nonempty_some}
 
 -- ---- step 3 by its number
@@ -62,7 +59,7 @@ module _ (source t d : Text) where
       r : Reading ℕ
       r = value_reading_in (nth 1 (pieces d))
 
-      go : (x : Bool) → task_at source (cond x (data_by (data_size (uppers t)) (number_of r)) (Space (data_size (uppers t)))) ≡ sized (data_size (uppers t)) (cond x (value_of r) none)
+      go : (x : Bool) → task_at source (cond x (data_by (data_size (uppers t)) (number_of r)) (Space (data_size (uppers t)))) ≡ sized (data_size (uppers t)) (cond x (value_of r) None)
       go true = by_is source (data_size (uppers t)) r
       go false = refl
 
@@ -75,35 +72,38 @@ module _ (source t d : Text) where
 
 -- as the code makes it: of size s, with a value only where `DC.` stands
 module _ (t d : Text) {s : ℕ} (p : s ≡ data_size (uppers t)) {y : Bool} (q : y ≡ contains (bytes "DC.") (uppers t)) where
-  pub task_none : not y ≡ true → Space s ≡ data_of t d
-  task_none e = rw (p, ← q, not-true y e)
+  pub task_none : y ≡ false → Space s ≡ data_of t d
+  task_none e = rw (p, ← q, e)
 
-  pub task_some : {v : Number} → not y ≡ false → v ≡ number_of (value_reading_in (nth 1 (pieces d))) → data_by s v ≡ data_of t d
-  task_some e w = rw (p, ← q, not-false y e, w)
+  pub task_some : {v : Result ℕ Failure} → y ≡ true → v ≡ number_of (value_reading_in (nth 1 (pieces d))) → data_by s v ≡ data_of t d
+  task_some e w = rw (p, ← q, e, w)
 
 -- ---- the line
-module _ {source : Text} {ns : Names} {a e : ℕ} (tr : Trimmed source a e) (h : NamesIn source 1 ns) {hd : DataHead} (x : PieceHeadGives (part source a e) hd)
-    {k : Task} (y : k ≡ data_of (part source a e) (drop hd.directive (part source a e))) where
-  task_is : task_at source k ≡ data_task (part source a e) (drop hd.directive (part source a e))
-  task_is = ap (task_at source) y ∙ data_is source (part source a e) (drop hd.directive (part source a e))
+module _ {source : Text} (o : Option Span) {r : Span} (tr : Trimmed source r) (h : IfSome o (SpanIn source)) {hd : DataHead} (x : PieceHeadGives (span_text source r) hd)
+    {k : Task} (y : k ≡ data_of (span_text source r) (drop hd.directive (span_text source r))) where
+  task_is : task_at source k ≡ data_task (span_text source r) (drop hd.directive (span_text source r))
+  task_is = ap (task_at source) y ∙ data_is source (span_text source r) (drop hd.directive (span_text source r))
 
   task_in : TaskIn source k
-  task_in = rw y (data_in source (part source a e) (drop hd.directive (part source a e)))
+  task_in = rw y (data_in source (span_text source r) (drop hd.directive (span_text source r)))
 
-  pub data_bare : hd.label ≤ 0 → Says source (data_line (names_at source ns) a (part source a e)) (record { names = ns; task = k })
+  pub label_end : r.start + hd.label ≤ length source
+  label_end = omega (arith, x.label_in, length_part source r.start r.end tr.placed, tr.placed)
+
+  pub data_bare : hd.label ≤ 0 → Says source (data_line (names_of source o) r.start (span_text source r)) (line_by o None k)
   unfolding nonempty
   data_bare l =
       let z : hd.label ≡ 0 = omega arith in
-      record { says = rw (x.says (names_at source ns) a, z, append-nil (names_at source ns), task_is); names_in = more_names h; task_in = task_in }
+      record { says = rw (x.says (names_of source o) r.start, z, task_is); names_in = record { first = h; second = Prim.tt }; task_in = task_in }
 
-  pub data_named : {r : Names} → r ≡ with_name ns a (a + hd.label) → 0 < hd.label → Says source (data_line (names_at source ns) a (part source a e)) (record { names = r; task = k })
-  data_named w l =
-      let t : Text = part source a e in
-      let m : hd.label ≤ e - a = omega (arith, x.label_in, length_part source a e tr.placed) in
-      let p : PartIn source a (a + hd.label) = record { ordered = omega arith; inside = omega (arith, tr.placed) } in
+  pub data_named : 0 < hd.label → Says source (data_line (names_of source o) r.start (span_text source r)) (line_by o (Some (span_from r.start (r.start + hd.label))) k)
+  data_named l =
+      let t : Text = span_text source r in
+      let m : hd.label ≤ r.end - r.start = omega (arith, x.label_in, length_part source r.start r.end tr.placed) in
+      let p : PartIn source r.start (r.start + hd.label) = record { ordered = omega arith; inside = label_end } in
       let g : 0 < length (take hd.label t) = rw (length-take-le hd.label t x.label_in) l in
-      rw w (record {
-        says = rw (x.says (names_at source ns) a, nonempty_some a (take hd.label t) g, part_front source a e hd.label m, names_more h p, task_is);
-        names_in = names_in h p;
+      record {
+        says = rw (x.says (names_of source o) r.start, nonempty_some r.start (take hd.label t) g, part_front source r.start r.end hd.label m, task_is);
+        names_in = record { first = h; second = p };
         task_in = task_in;
-      })
+      }

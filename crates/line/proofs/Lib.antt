@@ -1,6 +1,5 @@
 pub mod Parts
 pub mod Next
-pub mod Labels
 pub mod Clauses
 pub mod Shift
 pub mod Directive

@@ -1,7 +1,7 @@
 -- Laws of the next piece of a text: whether there is one, the second of two, and what it reads as. Assumes nothing.
+use Rattle.std.specs.Prelude.{Option, None, Some}
 use mathlib.Core.Path.{◌≡◌, refl, ap, ◌∙◌}
 use mathlib.Core.Bool.{Bool, true, false}
-use mathlib.Core.Option.{Option, none, some}
 use mathlib.Core.List.{[], ◌∷◌}
 use Prim.Native.Nat.{ℕ, ◌+◌, ◌-◌, ◌≤◌, ◌<◌}
 use native.Mathlib.Omega.{arith}
@@ -67,11 +67,11 @@ module _ (t : Text) (at : ℕ) (f s : Span) (p : f ≡ next_piece t at) (q : s �
   unfolding nth
   second_is = go (ltb s.start s.end) refl
     where
-      some_part : (p : Text) → 0 < length p → some p ≡ piece_in p
+      some_part : (p : Text) → 0 < length p → Some p ≡ piece_in p
       some_part [] k = absurd (omega arith)
       some_part (b ∷ p) k = refl
 
-      none_part : (p : Text) → length p ≡ 0 → none ≡ piece_in p
+      none_part : (p : Text) → length p ≡ 0 → None ≡ piece_in p
       none_part [] k = refl
       none_part (b ∷ p) k = absurd (omega arith)
 

@@ -7,11 +7,10 @@ use lib.ListN.{length, take, drop, length-take}
 use lib.Seq.{take-take}
 use Rattle.rules.specs.Text.{Text, leading, trim_end, trim}
 use Rattle.text.specs.declared.Span.{Span}
-use Rattle.text.specs.Spans.{part, PartIn}
+use Rattle.text.specs.Spans.{part, PartIn, trimmed_span}
 use Rattle.text.proofs.Trim.{first_none, leading_none, leading_trim, drop_leading, trim_part, trim_le, trim_within}
-use Rattle.text.proofs.Kept.{rest_is}
 use Rattle.text.proofs.Spans.{part_rest, part_front, length_part}
-use Rattle.line.specs.Steps.{Trimmed, trimmed_part}
+use Rattle.line.specs.Steps.{Trimmed}
 
 -- the length that is left, by what stands after the leading blanks
 pub kept_is : (t : Text) (s n : ℕ) → s ≡ leading t → n ≡ length (trim_end (drop s t)) → n ≡ length (trim t)
@@ -44,7 +43,7 @@ trim_front_le n t = omega (arith, trim_le (take n t), length-take n t)
 pub record Trims (t : Text) (a e : ℕ) (r : Span) : Type 0 where
   pub starts : r.start ≡ a + leading (part t a e)
   pub to_end : r.end ≤ e
-  pub trimmed : Trimmed t r.start r.end
+  pub trimmed : Trimmed t r
   pub text : part t r.start r.end ≡ trim (part t a e)
 
 module _ (t : Text) (a e : ℕ) (p : PartIn t a e) where
@@ -57,21 +56,7 @@ module _ (t : Text) (a e : ℕ) (p : PartIn t a e) where
       let l : length (trim x) ≤ e - (a + leading x) = omega (arith, trim_in) in
       sym (trim_part x ∙ rw (part_rest t a e (leading x)) (part_front t (a + leading x) e (length (trim x)) l))
 
-  -- as the code finds it: s blanks lead, and n bytes are left
-  module _ {s n : ℕ} (q : s ≡ leading (part t a e)) (r : n ≡ length (trim_end (take (length (part t a e) - s) (drop s (part t a e))))) where
-    kept : n ≡ length (trim (part t a e))
-    kept = kept_is (part t a e) s n q (rw (rest_is (part t a e) s) at r)
-
-    pub kept_in : a + s + n ≤ length t
-    kept_in = omega (arith, trim_in, kept)
-
-    pub trimmed_part_is : ◌≡◌ {A = Span} (record { start = a + s; end = a + s + n }) (trimmed_part t a e)
-    trimmed_part_is = rw (q, kept)
-
-  pub lead_in : {s : ℕ} → s ≡ leading (part t a e) → a + s ≤ length t
-  lead_in q = omega (arith, trim_in)
-
-  pub trims : (r : Span) → r ≡ trimmed_part t a e → Trims t a e r
+  pub trims : (r : Span) → r ≡ trimmed_span t a e → Trims t a e r
   trims r q =
       rw q (record {
         starts = refl;

@@ -1,7 +1,7 @@
 -- Laws of a line's text, from what is told of the line: its first colon, and that it has DC. or DS. only if the line has. Assumes nothing.
+use Rattle.std.specs.Prelude.{None, Some}
 use mathlib.Core.Path.{◌≡◌, refl, ap, ◌∙◌}
 use mathlib.Core.Bool.{Bool, true, false, ◌||◌, false≢true}
-use mathlib.Core.Option.{none, some}
 use mathlib.Core.List.{[], ◌∷◌}
 use Prim.Native.Nat.{ℕ, zero, suc, ◌-◌, ◌≤◌, ◌<◌}
 use native.Mathlib.Omega.{arith}
@@ -18,23 +18,23 @@ use Rattle.text.proofs.Find.{index_here, index_later}
 use Rattle.text.proofs.Spans.{part_part, contains_part}
 
 -- ---- a byte's index in the front of a text, by the bytes before it
-pub index_front : (c n : ℕ) (t : Text) → until (eqb c) t < n → n ≤ length t → index_of c (take n t) ≡ some (until (eqb c) t)
+pub index_front : (c n : ℕ) (t : Text) → until (eqb c) t < n → n ≤ length t → index_of c (take n t) ≡ Some (until (eqb c) t)
 index_front c zero t h l = absurd (omega arith)
 index_front c (suc n) [] h l = absurd (omega arith)
 index_front c (suc n) (b ∷ s) h l = go (eqb c b) refl (index_front c n s)
   where
-    go : (y : Bool) → eqb c b ≡ y → (until (eqb c) s < n → n ≤ length s → index_of c (take n s) ≡ some (until (eqb c) s)) → index_of c (b ∷ take n s) ≡ some (until (eqb c) (b ∷ s))
+    go : (y : Bool) → eqb c b ≡ y → (until (eqb c) s < n → n ≤ length s → index_of c (take n s) ≡ Some (until (eqb c) s)) → index_of c (b ∷ take n s) ≡ Some (until (eqb c) (b ∷ s))
     go true e ih = rw (index_here c b (take n s) (eqb_sym b c ∙ e), until_here (eqb c) b s e)
     go false e ih =
-        rw (index_later c b (take n s) (eqb_sym b c ∙ e), until_later (eqb c) b s e, ih (omega (arith, until_later (eqb c) b s e)) (omega arith)) (ap some (omega arith))
+        rw (index_later c b (take n s) (eqb_sym b c ∙ e), until_later (eqb c) b s e, ih (omega (arith, until_later (eqb c) b s e)) (omega arith)) (ap Some (omega arith))
 
-pub index_past : (c n : ℕ) (t : Text) → n ≤ until (eqb c) t → index_of c (take n t) ≡ none
+pub index_past : (c n : ℕ) (t : Text) → n ≤ until (eqb c) t → index_of c (take n t) ≡ None
 unfolding index_of
 index_past c zero t h = refl
 index_past c (suc n) [] h = refl
 index_past c (suc n) (b ∷ s) h = go (eqb c b) refl (index_past c n s)
   where
-    go : (y : Bool) → eqb c b ≡ y → (n ≤ until (eqb c) s → index_of c (take n s) ≡ none) → index_of c (b ∷ take n s) ≡ none
+    go : (y : Bool) → eqb c b ≡ y → (n ≤ until (eqb c) s → index_of c (take n s) ≡ None) → index_of c (b ∷ take n s) ≡ None
     go true e ih = absurd (omega (arith, until_here (eqb c) b s e))
     go false e ih = rw (index_later c b (take n s) (eqb_sym b c ∙ e), ih (omega (arith, until_later (eqb c) b s e)))
 

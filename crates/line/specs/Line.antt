@@ -1,5 +1,5 @@
 -- What the code answers about a line, read against the source. Assumes nothing.
-use Rattle.std.specs.Prelude.{◌≡◌, ℕ, zero, suc, ◌+◌, ◌≤◌, List, [], ◌∷◌, map}
+use Rattle.std.specs.Prelude.{◌≡◌, ℕ, ◌+◌, ◌≤◌, List, [], ◌∷◌, ◌++◌, map, Option, None, Some, IfSome}
 use Rattle.rules.specs.Text.{Text}
 use Rattle.rules.specs.Line.{Name, name, Task as SaidTask, skipped, end, org, no_org, label_only, instruction, value, space, instruction_of, Line as Said, line_of}
 use Rattle.text.specs.declared.Span.{Span}
@@ -14,14 +14,13 @@ use Rattle.line.specs.declared.Line.{Line}
 abbrev pub name_at : Text → Span → Name
 name_at source s = name s.start (span_text source s)
 
--- as many of the two labels as the count says
-abbrev pub names_for : Text → ℕ → Span → Span → List Name
-names_for source zero a b = []
-names_for source (suc zero) a b = name_at source a ∷ []
-names_for source (suc (suc n)) a b = name_at source a ∷ name_at source b ∷ []
+-- a label, where there is one
+abbrev pub names_of : Text → Option Span → List Name
+names_of source None = []
+names_of source (Some s) = name_at source s ∷ []
 
 abbrev pub names_at : Text → Names → List Name
-names_at source ns = names_for source ns.count ns.first ns.second
+names_at source ns = names_of source ns.first ++ names_of source ns.second
 
 abbrev pub task_at : Text → Task → SaidTask
 task_at source Skipped = skipped
@@ -36,11 +35,10 @@ task_at source (Space n) = space n
 abbrev pub line_at : Text → Line → Said
 line_at source r = record { names = names_at source r.names; task = task_at source r.task }
 
--- labels, at most so many, that lie in the source
-pub record NamesIn (source : Text) (most : ℕ) (ns : Names) : Type 0 where
-  pub few : ns.count ≤ most
-  pub first : SpanIn source ns.first
-  pub second : SpanIn source ns.second
+-- labels that lie in the source
+pub record NamesIn (source : Text) (ns : Names) : Type 0 where
+  pub first : IfSome ns.first (SpanIn source)
+  pub second : IfSome ns.second (SpanIn source)
 
 -- an instruction's text lies in the source, and data have a size of at most 4
 abbrev pub TaskIn : Text → Task → Type 0
@@ -56,7 +54,7 @@ TaskIn source (Space n) = n ≤ 4
 -- the answer says what the rules say, its labels' starts counted in the source
 pub record Says (source : Text) (said : Said) (r : Line) : Type 0 where
   pub says : line_at source r ≡ said
-  pub names_in : NamesIn source 2 r.names
+  pub names_in : NamesIn source r.names
   pub task_in : TaskIn source r.task
 
 -- what the rules say of a line, with its labels' starts counted from i bytes before it

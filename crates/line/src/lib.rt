@@ -1,117 +1,63 @@
 #![tactic(auto)]
 
 // What a line says: paper 01's six steps, answered by value: the labels that it records and its task, with places in the source.
-ghost use Rattle.std.specs.Prelude.{◌≡◌, true, ◌||◌, ◌≤◌, length, take, drop};
+ghost use Rattle.std.specs.Prelude.{◌≡◌, true, ◌||◌, ◌≤◌, length, take, drop, IfSome, None};
 ghost use Rattle.rules.specs.Text.{Text, uppers, leading, trim, pieces, uncut, first_cut, contains, nth};
 ghost use Rattle.rules.specs.Line.{reading_in, value_reading_in, data_size, is_directive, data_line, is_data, rest_line, label_line};
 ghost use Rattle.rules.specs.Assemble.{is_end};
-ghost use Rattle.text.specs.Spans.{part, PartIn};
+ghost use Rattle.text.specs.Spans.{part, span_text, SpanIn};
 ghost use Rattle.numeral.specs.Number.{number_of};
 ghost use Rattle.outline.specs.Outline.{OutlineLineGives};
-ghost use Rattle.line.specs.Line.{names_at, task_at, NamesIn, Says, ReadLineGives};
-ghost use Rattle.line.specs.Steps.{Trimmed, Whole, piece_in, trimmed_part, no_names, with_name, plain_line, org_of, data_of, PieceHeadGives, SplitLabelGives};
+ghost use Rattle.line.specs.Line.{names_of, task_at, Says, ReadLineGives};
+ghost use Rattle.line.specs.Steps.{Trimmed, Whole, piece_in, line_by, org_of, data_of, PieceHeadGives, SplitLabelGives};
 
-use numeral::unsigned::Number;
+use numeral::Failure;
 use outline::Outline;
 use text::Span;
 
-// The labels of a line: as many of the two as the count says.
-#[derive(Clone, Copy)]
+/// The labels of a line: step 4's, before a colon, and step 5's, before a directive.
+#[derive(Clone, Copy, Debug, PartialEq, Eq, Hash)]
 pub struct Names {
-    pub count: usize,
-    pub first: Span,
-    pub second: Span,
+    pub first: Option<Span>,
+    pub second: Option<Span>,
 }
 
-// What a line asks of the passes.
-#[derive(Clone, Copy)]
+/// What a line asks of the passes.
+#[derive(Clone, Copy, Debug, PartialEq, Eq, Hash)]
 pub enum Task {
-    // Nothing: it is empty or a comment.
+    /// Nothing: it is empty or a comment.
     Skipped,
-    // That no further line is read.
+    /// That no further line is read.
     End,
-    // Another address, by ORG's number.
+    /// Another address, by ORG's number.
     Org(u32),
-    // ORG without a number.
+    /// ORG without a number.
     NoOrg,
-    // Nothing but its label.
+    /// Nothing but its label.
     LabelOnly,
-    // The words of the instruction whose text stands there.
+    /// The words of the instruction whose text stands there.
     Instruction(Span),
-    // Data: its size and its value.
+    /// Data: its size and its value.
     Value(u32, u32),
-    // Data without a value: its size.
+    /// Data without a value: its size.
     Space(u32),
 }
 
-// A line: its labels and its task.
-#[derive(Clone, Copy)]
+/// A line: its labels and its task.
+#[derive(Clone, Copy, Debug, PartialEq, Eq, Hash)]
 pub struct Line {
     pub names: Names,
     pub task: Task,
 }
 
-// Whether a task ends the passes.
+/// Whether a task ends the passes.
 pub fn is_end(task: Task) -> bool
     ensures { (source : Text) → result ≡ is_end (task_at source task) }
 {
-    match task {
-        Task::End => true,
-        Task::Skipped => false,
-        Task::Org(_) => false,
-        Task::NoOrg => false,
-        Task::LabelOnly => false,
-        Task::Instruction(_) => false,
-        Task::Value(_, _) => false,
-        Task::Space(_) => false,
-    }
+    matches!(task, Task::End)
 }
 
-// ---- Labels, and parts of the line.
-
-// No label yet.
-fn no_names() -> Names
-    ensures { result ≡ no_names }
-{
-    let none = Span { start: 0, end: 0 };
-    Names {
-        count: 0,
-        first: none,
-        second: none,
-    }
-}
-
-// One label more.
-fn with_name(names: Names, start: usize, end: usize) -> Names
-    ensures { result ≡ with_name names start end }
-{
-    let span = Span { start, end };
-    if names.count == 0 {
-        return Names {
-            count: 1,
-            first: span,
-            second: span,
-        };
-    }
-    let first = names.first;
-    Names {
-        count: 2,
-        first,
-        second: span,
-    }
-}
-
-// A part of the source without its outer blanks.
-fn trimmed_part(source: &[u8], from: usize, to: usize) -> Span
-    requires { PartIn source.now from to }
-    ensures { result ≡ trimmed_part source.now from to }
-{
-    let t = &source[from..to];
-    let lead = text::leading_blanks(t);
-    let start = from + lead;
-    let end = start + text::kept_length(&t[lead..]);
-    Span { start, end }
-}
+// ---- Parts of the line.
 
 // The length of the trimmed text before a colon.
 fn label_length(t: &[u8], colon: usize) -> usize
@@ -128,21 +74,19 @@ fn second_piece(t: &[u8], at: usize) -> &[u8]
 {
     let first = text::next_piece(t, at);
     let second = text::next_piece(t, first.end);
-    let start = second.start;
-    let end = second.end;
-    &t[start..end]
+    &t[second.start..second.end]
 }
 
-// ORG's number, the second piece from `at` on; without such a piece it has no digits.
-pub fn second_number(t: &[u8], at: usize) -> Number
+/// ORG's number, the second piece from `at` on; without such a piece it has no digits.
+pub fn second_number(t: &[u8], at: usize) -> Result<u32, Failure>
     requires { at ≤ length t.now }
     ensures { result ≡ number_of (reading_in (nth 1 (pieces (drop at t.now)))) }
 {
     numeral::unsigned::parse_u32(second_piece(t, at))
 }
 
-// DC's value, the second piece from `at` on; without such a piece it has no digits.
-pub fn second_value(t: &[u8], at: usize) -> Number
+/// DC's value, the second piece from `at` on; without such a piece it has no digits.
+pub fn second_value(t: &[u8], at: usize) -> Result<u32, Failure>
     requires { at ≤ length t.now }
     ensures { result ≡ number_of (value_reading_in (nth 1 (pieces (drop at t.now)))) }
 {
@@ -155,36 +99,31 @@ pub fn second_value(t: &[u8], at: usize) -> Number
 fn contains_either(t: &[u8], p: &[u8], q: &[u8]) -> bool
     ensures { result ≡ (contains p.now (uppers t.now) || contains q.now (uppers t.now)) }
 {
-    if text::contains_upper(t, p) {
-        return true;
-    }
-    text::contains_upper(t, q)
+    text::contains_upper(t, p) || text::contains_upper(t, q)
 }
 
 // The piece starts DC or DS.
+#[tactic(auto, unfolding(rules::specs::Line::is_directive, rules::specs::Text::bytes))]
 fn is_directive(piece: &[u8]) -> bool
     ensures { result ≡ is_directive piece.now }
 {
-    if text::starts_upper(piece, b"DC") {
-        return true;
-    }
-    text::starts_upper(piece, b"DS")
+    text::starts_upper(piece, b"DC") || text::starts_upper(piece, b"DS")
 }
 
 // The size by what the text contains.
+#[tactic(auto, unfolding(rules::specs::Line::data_size, rules::specs::Text::bytes))]
 fn data_size(t: &[u8]) -> u32
     ensures { result ≡ data_size (uppers t.now) }
 {
     if contains_either(t, b"DC.L", b"DS.L") {
-        return 4;
+        4
+    } else if contains_either(t, b"DC.W", b"DS.W") {
+        2
+    } else if contains_either(t, b"DC.B", b"DS.B") {
+        1
+    } else {
+        2
     }
-    if contains_either(t, b"DC.W", b"DS.W") {
-        return 2;
-    }
-    if contains_either(t, b"DC.B", b"DS.B") {
-        return 1;
-    }
-    2
 }
 
 // The data of a text: its size, and the value by its directive, from `at` on.
@@ -197,13 +136,13 @@ fn data_task(t: &[u8], at: usize) -> Task
         return Task::Space(size);
     }
     match second_value(t, at) {
-        Number::Value(v) => Task::Value(size, v),
-        Number::Failed(_) => Task::Space(size),
+        Ok(value) => Task::Value(size, value),
+        Err(_) => Task::Space(size),
     }
 }
 
-// Step 5 on a text: the length of the label in front, 0 without one, and where the directive starts.
-#[derive(Clone, Copy)]
+/// Step 5 on a text: the length of the label in front, 0 without one, and where the directive starts.
+#[derive(Clone, Copy, Debug, PartialEq, Eq, Hash)]
 pub struct DataHead {
     pub label: usize,
     pub directive: usize,
@@ -233,12 +172,12 @@ fn piece_head(t: &[u8]) -> DataHead
     }
 }
 
-// The label and the directive of any text.
+/// The label and the directive of any text.
 pub fn data_head(t: &[u8]) -> DataHead
     requires { leading t.now ≡ 0 }
     ensures { PieceHeadGives t.now result }
 {
-    let text::Found::At(colon) = text::find_byte(t, b':') else {
+    let Some(colon) = text::find_byte(t, b':') else {
         return piece_head(t);
     };
     let label = label_length(t, colon);
@@ -248,48 +187,66 @@ pub fn data_head(t: &[u8]) -> DataHead
     }
 }
 
-// Step 5, after the labels of step 4.
-fn data_line(source: &[u8], names: Names, start: usize, end: usize) -> Line
-    requires { Trimmed source.now start end × NamesIn source.now 1 names }
-    ensures { Says source.now (data_line (names_at source.now names) start (part source.now start end)) result }
+// Step 5 on `rest`, after the label of step 4.
+fn data_line(source: &[u8], label: Option<Span>, rest: Span) -> Line
+    requires { Trimmed source.now rest × IfSome label (SpanIn source.now) }
+    ensures { Says source.now (data_line (names_of source.now label) rest.start (span_text source.now rest)) result }
 {
-    let t = &source[start..end];
+    let start = rest.start;
+    let t = &source[start..rest.end];
     let head = data_head(t);
-    let label = head.label;
+    let length = head.label;
     let task = data_task(t, head.directive);
-    if 0 < label {
-        return Line {
-            names: with_name(names, start, start + label),
-            task,
-        };
+    let second = if 0 < length {
+        Some(Span {
+            start,
+            end: start + length,
+        })
+    } else {
+        None
+    };
+    Line {
+        names: Names {
+            first: label,
+            second,
+        },
+        task,
     }
-    Line { names, task }
 }
 
 // ---- The six steps.
 
-// Steps 5 and 6, after the labels of step 4; without DC. or DS. in the line there is none in its rest.
-fn rest_line(source: &[u8], names: Names, start: usize, end: usize, defines: bool) -> Line
-    requires { Trimmed source.now start end × NamesIn source.now 1 names × (is_data (part source.now start end) ≡ true → defines ≡ true) }
-    ensures { Says source.now (rest_line (names_at source.now names) start (part source.now start end)) result }
+// A line with the label of step 4 alone.
+fn line_with(label: Option<Span>, task: Task) -> Line
+    ensures { result ≡ line_by label None task }
 {
-    if defines {
-        if contains_either(&source[start..end], b"DC.", b"DS.") {
-            return data_line(source, names, start, end);
-        }
-    }
     Line {
-        names,
-        task: Task::Instruction(Span { start, end }),
+        names: Names {
+            first: label,
+            second: None,
+        },
+        task,
     }
 }
 
-// The labels of step 4, and the rest of the line, from `start` to before `end`.
-#[derive(Clone, Copy)]
+// Steps 5 and 6 on `rest`, after the label of step 4; without DC. or DS. in the line there is none in its rest.
+fn rest_line(source: &[u8], label: Option<Span>, rest: Span, defines: bool) -> Line
+    requires { Trimmed source.now rest × IfSome label (SpanIn source.now) × (is_data (span_text source.now rest) ≡ true → defines ≡ true) }
+    ensures { Says source.now (rest_line (names_of source.now label) rest.start (span_text source.now rest)) result }
+{
+    if defines {
+        if contains_either(&source[rest.start..rest.end], b"DC.", b"DS.") {
+            return data_line(source, label, rest);
+        }
+    }
+    line_with(label, Task::Instruction(rest))
+}
+
+// The label of step 4, and the rest of the line.
+#[derive(Clone, Copy, Debug, PartialEq, Eq, Hash)]
 struct Split {
-    names: Names,
-    start: usize,
-    end: usize,
+    label: Option<Span>,
+    rest: Span,
 }
 
 // Step 4's cut at the colon, of a line's text from `start` to before `end`.
@@ -299,18 +256,18 @@ fn split_label(source: &[u8], start: usize, end: usize, colon: usize) -> Split
 {
     if end <= colon {
         return Split {
-            names: no_names(),
-            start,
-            end,
+            label: None,
+            rest: Span { start, end },
         };
     }
-    let label = text::kept_length(&source[start..colon]);
-    let names = with_name(no_names(), start, start + label);
-    let rest = trimmed_part(source, colon + 1, end);
+    let length = text::kept_length(&source[start..colon]);
+    let label = Span {
+        start,
+        end: start + length,
+    };
     Split {
-        names,
-        start: rest.start,
-        end: rest.end,
+        label: Some(label),
+        rest: text::trimmed_span(source, colon + 1, end),
     }
 }
 
@@ -320,58 +277,42 @@ fn label_line(source: &[u8], start: usize, end: usize, colon: usize, defines: bo
     ensures { Says source.now (label_line start (part source.now start end)) result }
 {
     let split = split_label(source, start, end, colon);
-    let names = split.names;
-    let from = split.start;
-    let to = split.end;
-    if from == to {
-        return Line {
-            names,
-            task: Task::LabelOnly,
-        };
+    let rest = split.rest;
+    if rest.start == rest.end {
+        return line_with(split.label, Task::LabelOnly);
     }
-    rest_line(source, names, from, to, defines)
+    rest_line(source, split.label, rest, defines)
 }
 
 // Step 3.
-fn org_task(number: Number) -> Task
+fn org_task(number: Result<u32, Failure>) -> Task
     ensures { result ≡ org_of number }
 {
     match number {
-        Number::Value(v) => Task::Org(v),
-        Number::Failed(_) => Task::NoOrg,
+        Ok(value) => Task::Org(value),
+        Err(_) => Task::NoOrg,
     }
 }
 
-// A line without labels.
-fn plain_line(task: Task) -> Line
-    ensures { result ≡ plain_line task }
-{
-    Line {
-        names: no_names(),
-        task,
-    }
-}
-
-// The line that starts at `at`, whose outline is `o`: steps 1 to 3, then the others.
+/// The line that starts at `at`, whose outline is `o`: steps 1 to 3, then the others.
 pub fn read_line(source: &[u8], at: usize, o: Outline) -> Line
     requires { OutlineLineGives source.now at o × (at ≤ length source.now) }
     ensures { ReadLineGives source.now at result }
 {
     let start = o.start;
-    let stop = o.end;
-    let end = start + text::kept_length(&source[start..stop]);
+    let end = start + text::kept_length(&source[start..o.end]);
     let t = &source[start..end];
     if t.len() == 0 {
-        return plain_line(Task::Skipped);
+        return line_with(None, Task::Skipped);
     }
     if t[0] == b';' {
-        return plain_line(Task::Skipped);
+        return line_with(None, Task::Skipped);
     }
     if text::starts_upper(t, b"END") {
-        return plain_line(Task::End);
+        return line_with(None, Task::End);
     }
     if text::starts_upper(t, b"ORG") {
-        return plain_line(org_task(second_number(t, 0)));
+        return line_with(None, org_task(second_number(t, 0)));
     }
     label_line(source, start, end, o.colon, o.defines)
 }

@@ -42,8 +42,8 @@ module _ {s : Text} {at i : ℕ} (inv : Begun s at i) where
   unfolding leading
   begun_none e = let h = rw e at inv.same in omega arith
 
-  pub begun_ended : length s ≤ i → i ≡ at + leading (line_from s at)
-  begun_ended h = begun_none (line_ended s i h)
+  pub begun_ended : length s ≤ i → length s ≡ at + leading (line_from s at)
+  begun_ended h = let z = begun_none (line_ended s i h) in let w = inv.within in omega arith
 
   module _ (h : i < length s) where
     pub begun_over : get_or s i 0 ≡ 10 → i ≡ at + leading (line_from s at)
@@ -232,8 +232,11 @@ module _ {s : Text} {at start i colon : ℕ} {d : Bool} (inv : Looked s at start
     looked_all f = record { starts = inv.begun; colons = colon_all; directive = defines_all_seen; ends = f }
 
   -- how it comes to be over
-  pub ended : length s ≤ i → (line_from s i ≡ []) × (i ≡ line_end s at)
-  ended h = (line_ended s i h, stepped_all (eqb 10) s at i h inv.inside)
+  pub ended : length s ≤ i → OutlineLineGives s at (outline_by start (length s) colon d (length s))
+  ended h =
+      let w = inv.within in
+      let z : i ≡ length s = omega arith in
+      rw z at (looked_all (line_ended s i h) (z ∙ stepped_all (eqb 10) s at i (sym z) inv.inside))
 
-  pub over : i < length s → get_or s i 0 ≡ 10 → (line_from s i ≡ []) × (i ≡ line_end s at)
-  over h e = (line_over s i h (is_ten (get_or s i 0) e), stepped_stop (eqb 10) s at i h (is_ten (get_or s i 0) e) inv.inside)
+  pub over : i < length s → get_or s i 0 ≡ 10 → OutlineLineGives s at (outline_by start (length s) colon d i)
+  over h e = looked_all (line_over s i h (is_ten (get_or s i 0) e)) (stepped_stop (eqb 10) s at i h (is_ten (get_or s i 0) e) inv.inside)

@@ -12,17 +12,15 @@ fn after_blanks(source: &[u8], at: usize) -> usize
     requires { at ≤ length source.now }
     ensures { result ≡ at + leading (line_from source.now at) }
 {
-    let mut i = at;
-    while i < source.len() {
+    for i in at..source.len() {
         if source[i] == 10 {
             return i;
         }
         if !text::is_blank(source[i]) {
             return i;
         }
-        i += 1;
     }
-    i
+    source.len()
 }
 
 // The same, the usual blank first.
@@ -30,28 +28,21 @@ fn text_start(source: &[u8], at: usize) -> usize
     requires { at ≤ length source.now }
     ensures { result ≡ at + leading (line_from source.now at) }
 {
-    let mut i = at;
-    while i < source.len() {
+    for i in at..source.len() {
         if source[i] != b' ' {
             return after_blanks(source, i);
         }
-        i += 1;
     }
-    i
+    source.len()
 }
 
 // The two bytes are DC or DS, in either case.
+#[tactic(auto, unfolding(crate::specs::Outline::is_define))]
 fn is_define(p: u8, q: u8) -> bool
     ensures { result ≡ is_define p q }
 {
-    if text::upper_case(p) != b'D' {
-        return false;
-    }
     let c = text::upper_case(q);
-    if c == b'C' {
-        return true;
-    }
-    c == b'S'
+    text::upper_case(p) == b'D' && (c == b'C' || c == b'S')
 }
 
 // DC or DS stands before i, from `start` on.
@@ -59,10 +50,7 @@ fn has_define(source: &[u8], start: usize, i: usize) -> bool
     requires { (start ≤ i) × (i ≤ length source.now) }
     ensures { result ≡ is_define (back source.now start i 2) (back source.now start i 1) }
 {
-    if i < start + 2 {
-        return false;
-    }
-    is_define(source[i - 2], source[i - 1])
+    start + 2 <= i && is_define(source[i - 2], source[i - 1])
 }
 
 // DC. or DS. is there, with a dot at i.
@@ -70,32 +58,27 @@ fn next_define(source: &[u8], start: usize, i: usize, defines: bool) -> bool
     requires { (start ≤ i) × (i ≤ length source.now) }
     ensures { result ≡ (defines || is_define (back source.now start i 2) (back source.now start i 1)) }
 {
-    if defines {
-        return true;
-    }
-    has_define(source, start, i)
+    defines || has_define(source, start, i)
 }
 
-// The first colon, `none` where there is none yet, with one more at i.
+// The first colon, `none` where there is none yet, with one more at i: a place past all others in place of an `Option`,
+// so that the loop of `outline_line` keeps one number.
 fn next_colon(none: usize, colon: usize, i: usize) -> usize
     ensures { result ≡ next_colon none colon i }
 {
-    if colon != none {
-        return colon;
-    }
-    i
+    if colon != none { colon } else { i }
 }
 
-// What one look at a line finds.
-#[derive(Clone, Copy)]
+/// What one look at a line finds.
+#[derive(Clone, Copy, Debug, PartialEq, Eq, Hash)]
 pub struct Outline {
-    // Where its text starts, after the blanks that lead.
+    /// Where its text starts, after the blanks that lead.
     pub start: usize,
-    // Its first colon; its end where there is none.
+    /// Its first colon; its end where there is none.
     pub colon: usize,
-    // Whether DC. or DS. is in it.
+    /// Whether DC. or DS. is in it.
     pub defines: bool,
-    // Where it ends.
+    /// Where it ends.
     pub end: usize,
 }
 
@@ -103,33 +86,24 @@ pub struct Outline {
 fn outline_by(start: usize, none: usize, colon: usize, defines: bool, end: usize) -> Outline
     ensures { result ≡ outline_by start none colon defines end }
 {
-    if colon == none {
-        return Outline {
-            start,
-            colon: end,
-            defines,
-            end,
-        };
-    }
     Outline {
         start,
-        colon,
+        colon: if colon == none { end } else { colon },
         defines,
         end,
     }
 }
 
-// The outline of the line that starts at `at`. No byte over the colon's matters.
+/// The outline of the line that starts at `at`. No byte over the colon's matters.
 pub fn outline_line(source: &[u8], at: usize) -> Outline
     requires { at ≤ length source.now }
     ensures { OutlineLineGives source.now at result }
 {
     let none = source.len();
     let start = text_start(source, at);
-    let mut i = start;
     let mut colon = none;
     let mut defines = false;
-    while i < source.len() {
+    for i in start..source.len() {
         let b = source[i];
         if b <= b':' {
             if b == 10 {
@@ -142,7 +116,6 @@ pub fn outline_line(source: &[u8], at: usize) -> Outline
                 defines = next_define(source, start, i, defines);
             }
         }
-        i += 1;
     }
-    outline_by(start, none, colon, defines, i)
+    outline_by(start, none, colon, defines, source.len())
 }

@@ -67,9 +67,9 @@ module _ (f : ℕ → Bool) where
   Stepped t at i = i + until f (drop i t) ≡ at + until f (drop at t)
 
   module _ (t : Text) (at i : ℕ) where
-    pub stepped_all : length t ≤ i → Stepped t at i → i ≡ at + until f (drop at t)
+    pub stepped_all : length t ≡ i → Stepped t at i → length t ≡ at + until f (drop at t)
     unfolding until
-    stepped_all h inv = omega (arith, rw (drop_of_length-le t h) at inv)
+    stepped_all h inv = let l : length t ≤ i = omega arith in omega (arith, rw (drop_of_length-le t l) at inv)
 
     module _ (h : i < length t) where
       pub stepped_stop : f (get_or t i 0) ≡ true → Stepped t at i → i ≡ at + until f (drop at t)

@@ -2,4 +2,4 @@
 use Rattle.cells.proofs.kept_line.Goals as goal
 
 pub returns : goal.returns
-returns c = rw c.task_in-task.ensures
+returns c = rw c.task_in.ensures

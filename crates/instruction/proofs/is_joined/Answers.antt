@@ -2,6 +2,7 @@
 use borrow.Author.Rules.{rules}
 use Rattle.instruction.proofs.Joined.{judging_start, judging_end, judging_stop, judging_more}
 use Rattle.std.proofs.Common.{ap, not}
+use Rattle.std.proofs.Common.{arith}
 use Rattle.instruction.proofs.is_joined.Goals as goal
 
 pub loop-i-init : goal.loop-i-init
@@ -14,4 +15,4 @@ pub loop-i-preserved : goal.loop-i-preserved
 loop-i-preserved c = judging_more c.loop-i.invariant (search rules) c.is_single.ensures (ap not c.if-not-is_single.false)
 
 pub returns : goal.returns
-returns c = judging_end c.loop-i.invariant (search rules)
+returns c = judging_end c.loop-i.invariant (omega arith)

@@ -1,18 +1,18 @@
 -- `data_head` parts label and directive at a colon, else by the pieces. Assumes nothing.
 use mathlib.Core.Path.{sym, refl, ◌∙◌}
 use native.Mathlib.Omega.{arith}
-use Rattle.text.proofs.Find.{found_at, found_nowhere}
+use Rattle.text.proofs.Find.{indexed, unindexed}
 use Rattle.line.proofs.Directive.{head_colon}
 use Rattle.line.proofs.data_head.Goals as goal
 
 pub piece_head-requires : goal.piece_head-requires
-piece_head-requires c = (c.requires, (found_nowhere _ _ (sym c.find_byte.ensures ∙ c.in_default.is)).cut)
+piece_head-requires c = (c.requires, (unindexed _ _ (sym c.find_byte.ensures ∙ c.in_default.is)).cut)
 
 pub label_length-label-requires : goal.label_length-label-requires
-label_length-label-requires c = omega (arith, found_at _ _ _ (sym c.find_byte.ensures ∙ c.in-At.is))
+label_length-label-requires c = omega (arith, indexed _ _ _ (sym c.find_byte.ensures ∙ c.in-Some.is))
 
 pub overflow_add-result : goal.overflow_add-result
-overflow_add-result c = omega (arith, found_at _ _ _ (sym c.find_byte.ensures ∙ c.in-At.is))
+overflow_add-result c = omega (arith, indexed _ _ _ (sym c.find_byte.ensures ∙ c.in-Some.is))
 
 pub returns : goal.returns
-returns c = head_colon _ _ _ _ c.requires (found_at _ _ _ (sym c.find_byte.ensures ∙ c.in-At.is)) c.label_length-label.ensures refl
+returns c = head_colon _ _ _ _ c.requires (indexed _ _ _ (sym c.find_byte.ensures ∙ c.in-Some.is)) c.label_length-label.ensures refl

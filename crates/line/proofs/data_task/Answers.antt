@@ -2,17 +2,16 @@
 use mathlib.Core.Path.{sym, ◌∙◌}
 use Rattle.rules.specs.Text.{bytes}
 use Rattle.line.proofs.Data.{task_none, task_some}
-use Rattle.std.proofs.Common.{ap, not}
 use Rattle.line.proofs.data_task.Goals as goal
 
 pub returns-then-not-contains_upper : goal.returns-then-not-contains_upper
 unfolding bytes
-returns-then-not-contains_upper c = task_none _ _ c.data_size-size.ensures c.contains_upper.ensures (ap not c.if-not-contains_upper.true)
+returns-then-not-contains_upper c = task_none _ _ c.data_size-size.ensures c.contains_upper.ensures c.if-not-contains_upper.true
 
-pub returns-in-Value : goal.returns-in-Value
+pub returns-in-Ok : goal.returns-in-Ok
 unfolding bytes
-returns-in-Value c = task_some _ _ c.data_size-size.ensures c.contains_upper.ensures (ap not c.if-not-contains_upper.false) (sym c.in-Value.is ∙ c.second_value.ensures)
+returns-in-Ok c = task_some _ _ c.data_size-size.ensures c.contains_upper.ensures c.if-not-contains_upper.false (sym c.in-Ok.is ∙ c.second_value.ensures)
 
-pub returns-in-Failed : goal.returns-in-Failed
+pub returns-in-Err : goal.returns-in-Err
 unfolding bytes
-returns-in-Failed c = task_some _ _ c.data_size-size.ensures c.contains_upper.ensures (ap not c.if-not-contains_upper.false) (sym c.in-Failed.is ∙ c.second_value.ensures)
+returns-in-Err c = task_some _ _ c.data_size-size.ensures c.contains_upper.ensures c.if-not-contains_upper.false (sym c.in-Err.is ∙ c.second_value.ensures)

@@ -25,18 +25,18 @@ pub slice_bounds-t-end : goal.slice_bounds-t-end
 slice_bounds-t-end c = (inner_trimmed (read c)).placed.inside
 
 pub returns-then-t-eq0 : goal.returns-then-t-eq0
-returns-then-t-eq0 c = says_empty (read (goal.at.returns-then-t-eq0 c).After-kept_length) c.if-t-eq0.true c.plain_line.ensures
+returns-then-t-eq0 c = says_empty (read (goal.at.returns-then-t-eq0 c).After-kept_length) c.if-t-eq0.true c.line_with.ensures
 
 pub returns-then-t-eq59 : goal.returns-then-t-eq59
-returns-then-t-eq59 c = says_note (read (goal.at.returns-then-t-eq59 c).After-kept_length) c.if-t-eq0.false c.if-t-eq59.true c.plain_line-then-t-eq59.ensures
+returns-then-t-eq59 c = says_note (read (goal.at.returns-then-t-eq59 c).After-kept_length) c.if-t-eq0.false c.if-t-eq59.true c.line_with-then-t-eq59.ensures
 
 pub returns-then-starts_upper : goal.returns-then-starts_upper
 unfolding bytes
-returns-then-starts_upper c = says_end (read (goal.at.returns-then-starts_upper c).After-kept_length) c.if-t-eq0.false c.if-t-eq59.false c.starts_upper.ensures c.if-starts_upper.true c.plain_line-then-starts_upper.ensures
+returns-then-starts_upper c = says_end (read (goal.at.returns-then-starts_upper c).After-kept_length) c.if-t-eq0.false c.if-t-eq59.false c.starts_upper.ensures c.if-starts_upper.true c.line_with-then-starts_upper.ensures
 
 pub returns-then-starts_upper-2 : goal.returns-then-starts_upper-2
 unfolding bytes
-returns-then-starts_upper-2 c = says_org (read (goal.at.returns-then-starts_upper-2 c).After-kept_length) c.if-t-eq0.false c.if-t-eq59.false c.starts_upper.ensures c.if-starts_upper.false c.starts_upper-2.ensures c.if-starts_upper-2.true c.second_number.ensures c.org_task.ensures c.plain_line-then-starts_upper-2.ensures
+returns-then-starts_upper-2 c = says_org (read (goal.at.returns-then-starts_upper-2 c).After-kept_length) c.if-t-eq0.false c.if-t-eq59.false c.starts_upper.ensures c.if-starts_upper.false c.starts_upper-2.ensures c.if-starts_upper-2.true c.second_number.ensures c.org_task.ensures c.line_with-then-starts_upper-2.ensures
 
 pub label_line-requires : goal.label_line-requires
 label_line-requires c = (line_whole (read (goal.at.label_line-requires c).After-kept_length) c.if-t-eq0.false, line_told (read (goal.at.label_line-requires c).After-kept_length))

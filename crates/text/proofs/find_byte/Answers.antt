@@ -1,5 +1,4 @@
 -- `find_byte` looks from the start on. Assumes nothing.
-use borrow.Author.Rules.{rules}
 use Rattle.text.proofs.Find.{found_whole}
 use Rattle.text.proofs.find_byte.Goals as goal
 

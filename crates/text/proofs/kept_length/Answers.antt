@@ -1,20 +1,16 @@
 -- `kept_length` leaves out blanks from the end on. Assumes nothing.
-use Prim.Native.Nat.{◌≤◌}
-use native.Mathlib.Omega.{arith}
-use borrow.Author.Rules.{rules}
-use lib.ListN.{length}
-use Rattle.text.proofs.Kept.{TrimsTo, kept_start, kept_more, kept_stop, kept_end}
-use Rattle.std.proofs.Common.{ap, not}
+use Rattle.std.proofs.Common.{arith}
+use Rattle.text.proofs.Kept.{kept_start, kept_more, kept_stop, kept_end}
 use Rattle.text.proofs.kept_length.Goals as goal
 
-pub loop-n-init : goal.loop-n-init
-loop-n-init c = (omega arith, search kept_start)
+pub loop-i-init : goal.loop-i-init
+loop-i-init c = kept_start _
 
 pub returns-then-not-is_blank : goal.returns-then-not-is_blank
-returns-then-not-is_blank c = kept_stop _ _ (omega arith) (omega arith) c.is_blank.ensures (ap not c.if-not-is_blank.true) c.loop-n.invariant.1
+returns-then-not-is_blank c = kept_stop _ _ (omega arith) (omega arith) c.is_blank.ensures c.if-not-is_blank.true c.loop-i.invariant
 
-pub loop-n-preserved : goal.loop-n-preserved
-loop-n-preserved c = (omega arith, kept_more _ _ (omega arith) (omega arith) c.is_blank.ensures (ap not c.if-not-is_blank.false) c.loop-n.invariant.1)
+pub loop-i-preserved : goal.loop-i-preserved
+loop-i-preserved c = kept_more _ _ (omega arith) (omega arith) c.is_blank.ensures c.if-not-is_blank.false c.loop-i.invariant
 
 pub returns : goal.returns
-returns c = search kept_end
+returns c = kept_end _ _ c.loop-i-test.false c.loop-i.invariant

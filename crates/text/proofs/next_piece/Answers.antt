@@ -1,5 +1,4 @@
 -- `next_piece` steps over blanks, and over the piece after them. Assumes nothing.
-use borrow.Author.Rules.{rules}
 use Rattle.text.proofs.Pieces.{next_within}
 use Rattle.text.proofs.next_piece.Goals as goal
 

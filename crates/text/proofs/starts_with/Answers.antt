@@ -1,9 +1,7 @@
 -- `starts_with` compares byte by byte, once the text is long enough. Assumes nothing.
-use Prim.Native.Nat.{◌-◌}
 use mathlib.Core.Path.{refl, sym}
 use borrow.Author.Rules.{rules}
-use lib.ListN.{length}
-use Rattle.text.proofs.Compare.{Matched, matched_start, matched_all, matched_not, matched_more, starts_short}
+use Rattle.text.proofs.Compare.{matched_start, matched_all, matched_not, matched_more, starts_short}
 use Rattle.text.proofs.starts_with.Goals as goal
 
 pub returns-then-t-p : goal.returns-then-t-p

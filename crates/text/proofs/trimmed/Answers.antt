@@ -1,5 +1,4 @@
 -- `trimmed` lends the part between the outer blanks. Assumes nothing.
-use borrow.Author.Rules.{rules}
 use Rattle.text.proofs.Kept.{from_leading, to_kept, trimmed_is}
 use Rattle.text.proofs.trimmed.Goals as goal
 

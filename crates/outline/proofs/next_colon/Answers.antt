@@ -1,9 +1,0 @@
--- `next_colon` keeps the first colon. Assumes nothing.
-use borrow.Author.Tests.{eq-eqb, ne_eqb}
-use Rattle.outline.proofs.next_colon.Goals as goal
-
-pub returns-then-colon-none : goal.returns-then-colon-none
-returns-then-colon-none c = rw (ne_eqb _ _ c.if-colon-none.true)
-
-pub returns : goal.returns
-returns c = rw (eq-eqb _ _ c.if-colon-none.false)
