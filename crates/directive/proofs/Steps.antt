@@ -1,36 +1,33 @@
 -- A line's number by paper 01's steps, as the code's tests decide them. Assumes nothing.
+use Rattle.std.specs.Prelude.{Option, None, Some, Result}
 use Prim.Native.Nat.{ℕ, ◌+◌}
 use mathlib.Core.Path.{◌≡◌, refl, sym, ap, ◌∙◌}
-use mathlib.Core.Bool.{Bool, true, false, not}
-use mathlib.Core.Option.{none, some}
+use mathlib.Core.Bool.{Bool, true, false}
 use mathlib.Core.List.{[], ◌∷◌}
 use native.Mathlib.Numerals.{add-one}
 use native.Mathlib.Omega.{arith}
 use lib.ListN.{length, get_or, drop}
-use borrow.Author.Tests.{eq-eqb, ne_eqb, not-true, not-false}
+use borrow.Author.Tests.{eq-eqb, ne_eqb}
 use Rattle.rules.specs.Text.{Text, bytes, uppers, leading, trim, pieces, Cut, uncut, around, first_cut, starts, contains, nth}
 use Rattle.rules.specs.Line.{reading_in, value_reading_in}
 use Rattle.rules.specs.Directive.{data_reading, after_colon, trimmed_reading, line_reading}
 use Rattle.text.proofs.Find.{Indexed}
 use Rattle.text.proofs.Trim.{leading_trim}
 use Rattle.numeral.specs.Number.{number_of}
-use Rattle.numeral.specs.declared.unsigned.Number.{Number}
+use Rattle.numeral.specs.declared.Failure.{Failure}
 use Rattle.line.specs.Steps.{PieceHeadGives}
 use Rattle.line.specs.declared.DataHead.{DataHead}
-use Rattle.directive.specs.Directive.{as_line_number, line_number_of}
-use Rattle.directive.specs.declared.LineNumber.{LineNumber}
-use Rattle.directive.specs.declared.LineNumber.TheVariants.{Nothing}
+use Rattle.directive.specs.Directive.{line_number_of}
 
 -- ---- step 5
 module _ (t : Text) {y : Bool} (q : y ≡ contains (bytes "DC.") (uppers t)) where
-  pub no_number : not y ≡ true → Nothing ≡ line_number_of (data_reading t)
+  pub no_number : y ≡ false → None ≡ line_number_of (data_reading t)
   unfolding data_reading
-  no_number e = rw (← q, not-true y e)
+  no_number e = rw (← q, e)
 
-  pub data_number : {h : DataHead} {m : Number} {r : LineNumber} → not y ≡ false → PieceHeadGives t h → m ≡ number_of (value_reading_in (nth 1 (pieces (drop h.directive t)))) → r ≡ as_line_number m
-      → r ≡ line_number_of (data_reading t)
+  pub data_number : {h : DataHead} {m : Result ℕ Failure} → y ≡ true → PieceHeadGives t h → m ≡ number_of (value_reading_in (nth 1 (pieces (drop h.directive t)))) → Some m ≡ line_number_of (data_reading t)
   unfolding data_reading
-  data_number e g p k = k ∙ ap as_line_number p ∙ rw (← q, not-false y e, g.directs)
+  data_number e g p = ap Some p ∙ rw (← q, e, g.directs)
 
 -- ---- step 4
 module _ (t : Text) where
@@ -51,23 +48,23 @@ module _ (t : Text) where
       go (around l r) e = rw (e, after_colon) (leading_trim r)
 
 -- ---- steps 1 to 3 on the trimmed line
-empty : (t : Text) → length t ≡ 0 → trimmed_reading t ≡ none
+empty : (t : Text) → length t ≡ 0 → trimmed_reading t ≡ None
 unfolding trimmed_reading
 empty [] z = refl
 empty (b ∷ s) z = absurd (omega arith)
 
-note : (t : Text) → get_or t 0 0 ≡ 59 → trimmed_reading t ≡ none
+note : (t : Text) → get_or t 0 0 ≡ 59 → trimmed_reading t ≡ None
 unfolding trimmed_reading
 note [] d = absurd (omega arith)
 note (b ∷ s) d = rw (eq-eqb b 59 d)
 
-ends : (t : Text) → (get_or t 0 0 ≡ 59 → ⊥) → starts (bytes "END") (uppers t) ≡ true → trimmed_reading t ≡ none
+ends : (t : Text) → (get_or t 0 0 ≡ 59 → ⊥) → starts (bytes "END") (uppers t) ≡ true → trimmed_reading t ≡ None
 unfolding trimmed_reading
 ends [] d e = refl
 ends (b ∷ s) d e = rw (ne_eqb b 59 d, e)
 
 org : (t : Text) → (length t ≡ 0 → ⊥) → (get_or t 0 0 ≡ 59 → ⊥) → starts (bytes "END") (uppers t) ≡ false → starts (bytes "ORG") (uppers t) ≡ true
-    → trimmed_reading t ≡ some (reading_in (nth 1 (pieces t)))
+    → trimmed_reading t ≡ Some (reading_in (nth 1 (pieces t)))
 unfolding trimmed_reading
 org [] z d e o = absurd (z refl)
 org (b ∷ s) z d e o = rw (ne_eqb b 59 d, e, o)
@@ -87,22 +84,22 @@ module _ (line : Text) {t : Text} (w : t ≡ trim line) where
   unfolding line_reading
   by_trimmed = rw w
 
-  none_said : trimmed_reading t ≡ none → Nothing ≡ line_number_of (line_reading line)
+  none_said : trimmed_reading t ≡ None → None ≡ line_number_of (line_reading line)
   none_said e = rw (by_trimmed, e)
 
-  pub says_empty : length t ≡ 0 → Nothing ≡ line_number_of (line_reading line)
+  pub says_empty : length t ≡ 0 → None ≡ line_number_of (line_reading line)
   says_empty z = none_said (empty t z)
 
-  pub says_note : get_or t 0 0 ≡ 59 → Nothing ≡ line_number_of (line_reading line)
+  pub says_note : get_or t 0 0 ≡ 59 → None ≡ line_number_of (line_reading line)
   says_note d = none_said (note t d)
 
   module _ (z : length t ≡ 0 → ⊥) (d : get_or t 0 0 ≡ 59 → ⊥) {u : Bool} (p : u ≡ starts (bytes "END") (uppers t)) where
-    pub says_end : u ≡ true → Nothing ≡ line_number_of (line_reading line)
+    pub says_end : u ≡ true → None ≡ line_number_of (line_reading line)
     says_end e = none_said (ends t d (sym p ∙ e))
 
     module _ (e : u ≡ false) {v : Bool} (g : v ≡ starts (bytes "ORG") (uppers t)) where
-      pub says_org : {m : Number} {r : LineNumber} → v ≡ true → m ≡ number_of (reading_in (nth 1 (pieces t))) → r ≡ as_line_number m → r ≡ line_number_of (line_reading line)
-      says_org o q k = k ∙ ap as_line_number q ∙ sym (ap line_number_of (by_trimmed ∙ org t z d (sym p ∙ e) (sym g ∙ o)))
+      pub says_org : {m : Result ℕ Failure} → v ≡ true → m ≡ number_of (reading_in (nth 1 (pieces t))) → Some m ≡ line_number_of (line_reading line)
+      says_org o q = ap Some q ∙ sym (ap line_number_of (by_trimmed ∙ org t z d (sym p ∙ e) (sym g ∙ o)))
 
-      pub says_rest : {s : Text} {r : LineNumber} → v ≡ false → s ≡ after_colon t → r ≡ line_number_of (data_reading s) → r ≡ line_number_of (line_reading line)
+      pub says_rest : {s : Text} {r : Option (Result ℕ Failure)} → v ≡ false → s ≡ after_colon t → r ≡ line_number_of (data_reading s) → r ≡ line_number_of (line_reading line)
       says_rest o q k = k ∙ ap (λ x. line_number_of (data_reading x)) q ∙ sym (ap line_number_of (by_trimmed ∙ other t z d (sym p ∙ e) (sym g ∙ o)))

@@ -1,19 +1,19 @@
 -- Prefixes: `$` and `0x`, what they take off a text, and the reader that goes by them. Assumes nothing.
-use Rattle.std.proofs.Common.{◌≡◌, ℕ, ◌-◌, ◌≤◌, Bool, true, false, eqb, [], ◌∷◌, length, get_or, take, drop, sym, refl, ◌∙◌, arith, length-drop, take_all, ne_eqb, eqb-true}
-use mathlib.Core.Option.{Option, none, some}
+use Rattle.std.specs.Prelude.{Option, None, Some}
+use Rattle.std.proofs.Common.{◌≡◌, ℕ, ◌-◌, ◌<◌, ◌≤◌, Bool, true, false, eqb, [], ◌∷◌, length, get_or, take, drop, sym, refl, ◌∙◌, arith, length-drop, take_all, ne_eqb, eqb-true}
 use lib.ListN.{get_or-eq_default}
 use borrow.Author.Tests.{eqb-false}
 use Rattle.rules.specs.Text.{Text, bytes, after}
-use Rattle.rules.specs.Number.{hex_tail, by_prefix}
+use Rattle.rules.specs.Number.{hex_tail}
 use Rattle.numeral.specs.Number.{prefix_length}
 
 -- how a text starts
 data Start : Text → Type 0 where
-  plain : {t : Text} → hex_tail t ≡ none → Start t
+  plain : {t : Text} → hex_tail t ≡ None → Start t
   dollar : (s : Text) → Start (36 ∷ s)
   zero_x : (s : Text) → Start (48 ∷ 120 ∷ s)
 
-pub after_not : (a : ℕ) (p : Text) (b : ℕ) (s : Text) → (b ≡ a → ⊥) → after (a ∷ p) (b ∷ s) ≡ none
+pub after_not : (a : ℕ) (p : Text) (b : ℕ) (s : Text) → (b ≡ a → ⊥) → after (a ∷ p) (b ∷ s) ≡ None
 unfolding after
 after_not a p b s n = rw (ne_eqb a b (λ e. n (sym e)), after)
 
@@ -40,7 +40,7 @@ start (b ∷ s) = go (eqb b 36) refl (eqb b 48) refl
     go false e true f = rw (eqb-true b 48 f) (zero_then s)
     go false e false f = plain (no_dollar b s (eqb-false b 36 e) ∙ after_not 48 (120 ∷ []) b s (eqb-false b 48 f))
 
-plain_length : (t : Text) → hex_tail t ≡ none → prefix_length t ≡ 0
+plain_length : (t : Text) → hex_tail t ≡ None → prefix_length t ≡ 0
 unfolding prefix_length
 plain_length t e = rw (e, prefix_length)
 
@@ -52,11 +52,11 @@ zero_x_length : (s : Text) → prefix_length (48 ∷ 120 ∷ s) ≡ 2
 unfolding prefix_length hex_tail bytes after
 zero_x_length s = omega arith
 
-dollar_tail : (s : Text) → hex_tail (36 ∷ s) ≡ some s
+dollar_tail : (s : Text) → hex_tail (36 ∷ s) ≡ Some s
 unfolding hex_tail bytes after
 dollar_tail s = refl
 
-zero_x_tail : (s : Text) → hex_tail (48 ∷ 120 ∷ s) ≡ some s
+zero_x_tail : (s : Text) → hex_tail (48 ∷ 120 ∷ s) ≡ Some s
 unfolding hex_tail bytes after
 zero_x_tail s = refl
 
@@ -78,7 +78,7 @@ neither t n m = go t (start t) n m
     go t (dollar s) n m = absurd (n refl)
     go t (zero_x s) n m = absurd (m refl refl)
 
-pub no_byte : (t : Text) → length t ≡ 0 → 0 ≡ prefix_length t
+pub no_byte : (t : Text) → length t < 1 → 0 ≡ prefix_length t
 unfolding prefix_length hex_tail bytes after
 no_byte [] h = refl
 no_byte (b ∷ s) h = absurd (omega arith)
@@ -87,18 +87,18 @@ pub one_byte : (t : Text) → length t ≡ 1 → (get_or t 0 0 ≡ 36 → ⊥) �
 one_byte t h n = neither t n (λ e f. omega (arith, get_or-eq_default t 0 {n = 1} (omega arith)))
 
 -- without a prefix there is no tail; else the tail is the text without as many bytes
-pub unprefixed : (t : Text) → prefix_length t ≡ 0 → hex_tail t ≡ none
+pub unprefixed : (t : Text) → prefix_length t ≡ 0 → hex_tail t ≡ None
 unprefixed t h = go t (start t) h
   where
-    go : (t : Text) → Start t → prefix_length t ≡ 0 → hex_tail t ≡ none
+    go : (t : Text) → Start t → prefix_length t ≡ 0 → hex_tail t ≡ None
     go t (plain e) h = e
     go t (dollar s) h = absurd (omega (arith, dollar_length s))
     go t (zero_x s) h = absurd (omega (arith, zero_x_length s))
 
-pub prefixed : (t : Text) → (prefix_length t ≡ 0 → ⊥) → hex_tail t ≡ some (drop (prefix_length t) t)
+pub prefixed : (t : Text) → (prefix_length t ≡ 0 → ⊥) → hex_tail t ≡ Some (drop (prefix_length t) t)
 prefixed t n = go t (start t) n
   where
-    go : (t : Text) → Start t → (prefix_length t ≡ 0 → ⊥) → hex_tail t ≡ some (drop (prefix_length t) t)
+    go : (t : Text) → Start t → (prefix_length t ≡ 0 → ⊥) → hex_tail t ≡ Some (drop (prefix_length t) t)
     go t (plain e) n = absurd (n (plain_length t e))
     go t (dollar s) n = rw (dollar_length s) (dollar_tail s)
     go t (zero_x s) n = rw (zero_x_length s) (zero_x_tail s)
@@ -107,20 +107,17 @@ pub prefix_in : (t : Text) → prefix_length t ≤ length t
 unfolding prefix_length
 prefix_in t = go (hex_tail t)
   where
-    go : (o : Option Text) → elim o [ none ↦ 0 | some u ↦ length t - length u ] ≤ length t
-    go none = omega arith
-    go (some u) = omega arith
+    go : (o : Option Text) → elim o [ None ↦ 0 | Some u ↦ length t - length u ] ≤ length t
+    go None = omega arith
+    go (Some u) = omega arith
 
 -- the rest of a text, as a slice has it
 pub rest : (n : ℕ) (t : Text) → take (length t - n) (drop n t) ≡ drop n t
 rest n t = take_all (length t - n) (drop n t) (simp length-drop (omega arith))
 
--- the reader by the prefix, where the code has its length n
-module _ {A : Type 0} (f : ℕ → Text → A) (t : Text) (n : ℕ) (e : n ≡ prefix_length t) where
-  pub decimal : n ≡ 0 → by_prefix f t ≡ f 10 t
-  unfolding by_prefix
-  decimal h = rw (unprefixed t (sym e ∙ h), by_prefix)
+-- what follows the prefix, where the code has its length n
+pub tail_plain : (t : Text) → 0 ≡ prefix_length t → None ≡ hex_tail t
+tail_plain t e = sym (unprefixed t (sym e))
 
-  pub hexadecimal : (n ≡ 0 → ⊥) → by_prefix f t ≡ f 16 (take (length t - n) (drop n t))
-  unfolding by_prefix
-  hexadecimal h = rw (rest n t, e, prefixed t (λ k. h (e ∙ k)), by_prefix)
+pub tail_hex : (t : Text) (n : ℕ) → n ≡ prefix_length t → (n ≡ 0 → ⊥) → Some (take (length t - n) (drop n t)) ≡ hex_tail t
+tail_hex t n e h = rw (rest n t, e, prefixed t (λ k. h (e ∙ k)))

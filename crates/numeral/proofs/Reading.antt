@@ -6,7 +6,7 @@ use Rattle.rules.specs.Encode.{all_digits}
 use Rattle.numeral.specs.Number.{failure_of, number_of, digits_only, past_bound}
 use Rattle.numeral.specs.declared.Failure.{Failure}
 use Rattle.numeral.specs.declared.Failure.TheVariants.{NoDigits, BadDigit}
-use Rattle.numeral.specs.declared.unsigned.Number.TheVariants.{Value, Failed}
+use Rattle.std.specs.Prelude.{Ok, Err}
 use Rattle.numeral.proofs.Prefix.{rest}
 
 pub nothing : (t : Text) → length t ≡ 0 → t ≡ []
@@ -37,7 +37,7 @@ pub record Midway (radix bound : ℕ) (t : Text) (v i : ℕ) : Type 0 where
   pub same : some_digits radix t ≡ digits radix v (drop i t)
 
 module _ (radix bound : ℕ) (t : Text) where
-  pub empty : length t ≡ 0 → Failed NoDigits ≡ number_of (ranged (below bound) (some_digits radix t))
+  pub empty : length t ≡ 0 → Err NoDigits ≡ number_of (ranged (below bound) (some_digits radix t))
   unfolding some_digits ranged
   empty h = rw (nothing t h)
 
@@ -50,13 +50,13 @@ module _ (radix bound : ℕ) (t : Text) where
   begin h = record { reached = omega arith; fits = omega arith; small = λ k. omega arith; same = all_left t h }
 
 module _ {radix bound : ℕ} {t : Text} {v i : ℕ} (r : Midway radix bound t v i) where
-  pub end : (length t ≡ 0 → ⊥) → length t ≤ i → Value v ≡ number_of (ranged (below bound) (some_digits radix t))
+  pub end : (length t ≡ 0 → ⊥) → length t ≤ i → Ok v ≡ number_of (ranged (below bound) (some_digits radix t))
   unfolding digits ranged below
   end h k = rw (r.same, drop_of_length-le t k, ranged, lt-ltb v bound (r.small (omega arith)))
 
   -- the byte at i has the digit value d
   module _ (d : ℕ) (h : i < length t) (e : d ≡ digit_value (get_or t i 0)) where
-    pub bad_digit_lem : radix ≤ d → Failed BadDigit ≡ number_of (ranged (below bound) (some_digits radix t))
+    pub bad_digit_lem : radix ≤ d → Err BadDigit ≡ number_of (ranged (below bound) (some_digits radix t))
     unfolding digits ranged
     bad_digit_lem k = rw (r.same, drop-cons t i 0, ← e, le-ltb d radix k, digits)
 
@@ -64,30 +64,11 @@ module _ {radix bound : ℕ} {t : Text} {v i : ℕ} (r : Midway radix bound t v 
     unfolding digits
     next k = rw (r.same, add-one i, drop-cons t i 0, e, lt-ltb (digit_value (get_or t i 0)) radix (rw e at k), digits)
 
-    pub past : {x : Failure} → d < radix → bound ≤ v * radix + d → x ≡ failure_of (past_bound radix (take (length t - (i + 1)) (drop (i + 1) t))) → Failed x ≡ number_of (ranged (below bound) (some_digits radix t))
-    past k l q = rw (next k, too_large radix bound (v * radix + d) (drop (i + 1) t) l) (ap Failed (rw (rest (i + 1) t) at q))
+    pub past : {x : Failure} → d < radix → bound ≤ v * radix + d → x ≡ failure_of (past_bound radix (take (length t - (i + 1)) (drop (i + 1) t))) → Err x ≡ number_of (ranged (below bound) (some_digits radix t))
+    past k l q = rw (next k, too_large radix bound (v * radix + d) (drop (i + 1) t) l) (ap Err (rw (rest (i + 1) t) at q))
 
     pub step : bound ≤ 2 ^ 32 → d < radix → v * radix + d < bound → Midway radix bound t (v * radix + d) (i + 1)
     step b k l = record { reached = omega arith; fits = omega arith; small = λ p. l; same = next k }
-
--- ---- the test of all bytes at byte i: the rest decides
-pub record Testing (radix : ℕ) (t : Text) (i : ℕ) : Type 0 where
-  pub reached : i ≤ length t
-  pub same : digits_only radix t ≡ digits_only radix (drop i t)
-
-module _ {radix : ℕ} {t : Text} {i : ℕ} (r : Testing radix t i) where
-  pub all_digits_lem : length t ≤ i → true ≡ digits_only radix t
-  unfolding digits_only
-  all_digits_lem h = rw (r.same, drop_of_length-le t h)
-
-  module _ (d : ℕ) (h : i < length t) (e : d ≡ digit_value (get_or t i 0)) where
-    pub other_byte : radix ≤ d → false ≡ digits_only radix t
-    unfolding digits_only
-    other_byte k = rw (r.same, drop-cons t i 0, ← e, le-ltb d radix k)
-
-    pub one_more : d < radix → Testing radix t (i + 1)
-    unfolding digits_only
-    one_more k = record { reached = omega arith; same = rw (r.same, add-one i, drop-cons t i 0, ← e, lt-ltb d radix k) }
 
 -- JMP's digits are decimal
 pub decimal_digits : (t : Text) → digits_only 10 t ≡ all_digits t

@@ -1,11 +1,12 @@
 -- Signed numbers as the code computes with them: in reach of a byte, their low bits, and the byte's sign reading. Assumes nothing.
-use Rattle.std.proofs.Common.{◌≡◌, ℕ, zero, suc, ◌-◌, ◌%◌, ◌^◌, ◌<◌, ◌≤◌, Bool, true, false, cond, T, ltb, ℤ, pos, negsuc, ◌+ℤ◌, ◌-ℤ◌, neg_ℤ, nat_abs, refl, ap, ◌∙◌, arith, to_z-of_z, w32, w64, Fits, SFits, to_z, of_z, ltb-false, ltb-true, le-ltb, lt-ltb}
+use Rattle.std.specs.Prelude.{None, Some}
+use Rattle.std.proofs.Common.{◌≡◌, ℕ, zero, suc, ◌-◌, ◌%◌, ◌^◌, ◌<◌, Bool, true, false, cond, ltb, ℤ, pos, negsuc, ◌-ℤ◌, refl, ap, ◌∙◌, arith, to_z-of_z, w32, SFits, to_z, of_z, ltb-false, ltb-true, le-ltb, lt-ltb}
 use mathlib.Core.Bool.{false≢true}
-use mathlib.Core.Option.{none, some}
 use lib.Bits.{bit_and, and_mask}
 use lib.IntN.{sub_ℕ}
-use lib.Signed.{lt_z, mag, non_neg}
+use lib.Signed.{lt_z, mag}
 use mir.Facts.{to_z_pos}
+use Rattle.std.specs.Int.{int_rem_euclid}
 use Rattle.rules.specs.Number.{within, modulo}
 use Rattle.manual.specs.Manual.{sign_by, sign_of}
 
@@ -22,24 +23,16 @@ unfolding modulo
 low_three (pos n) = and_mask (n % 256) 3 ∙ omega arith
 low_three (negsuc n) = and_mask (256 - suc (n % 256)) 3 ∙ omega arith
 
--- a number lifted by 2^31 is not negative, and keeps its low byte
-pub lifted : (z : ℤ) → SFits w32 z → T (non_neg (z +ℤ pos 2147483648)) × Fits w32 (nat_abs (z +ℤ pos 2147483648))
-lifted (pos n) f = let k : n < 2 ^ 31 = f.sfits in (tt, record { fits = omega arith })
-lifted (negsuc n) f = let k : n < 2 ^ 31 = f.sfits in rw (le-ltb 2147483648 (suc n) (omega arith)) (tt, record { fits = omega arith })
-
-pub lifted_fits : (z : ℤ) → SFits w32 z → SFits w64 (z +ℤ pos 2147483648)
-lifted_fits (pos n) f = let k : n < 2 ^ 31 = f.sfits in record { sfits = omega arith }
-lifted_fits (negsuc n) f = let k : n < 2 ^ 31 = f.sfits in rw (le-ltb 2147483648 (suc n) (omega arith)) (record { sfits = omega arith })
-
-pub lifted_byte : (z : ℤ) → SFits w32 z → nat_abs (z +ℤ pos 2147483648) % 256 ≡ modulo 256 z
+-- the remainder modulo 256, 0 or more, is the low byte
+pub euclid_byte : (z : ℤ) → int_rem_euclid z (pos 256) ≡ pos (modulo 256 z)
 unfolding modulo
-lifted_byte (pos n) f = omega arith
-lifted_byte (negsuc n) f = let k : n < 2 ^ 31 = f.sfits in rw (le-ltb 2147483648 (suc n) (omega arith)) (omega arith)
+euclid_byte (pos n) = refl
+euclid_byte (negsuc n) = ap pos (omega arith)
 
--- the negative of a number up to 2^31 fits 32 bits
-pub negative_fits : (v : ℕ) → v ≤ 2 ^ 31 → mag (neg_ℤ (pos v)) < 2 ^ 31
-negative_fits zero h = omega arith
-negative_fits (suc n) h = omega arith
+pub byte_small : (z : ℤ) → modulo 256 z < 256
+unfolding modulo
+byte_small (pos n) = omega arith
+byte_small (negsuc n) = omega arith
 
 -- the difference of two addresses that the code computes
 difference_is : (a b : ℕ) → pos a -ℤ pos b ≡ sub_ℕ a b
@@ -61,12 +54,12 @@ module _ (a b : ℕ) (h : a < 2 ^ 31) (k : b < 2 ^ 31) where
   difference_read = rw difference (to_z-of_z difference_fits)
 
 -- the code's tests of a byte's range
-pub too_low : (z : ℤ) → lt_z z (negsuc 127) ≡ true → within 128 z ≡ none
+pub too_low : (z : ℤ) → lt_z z (negsuc 127) ≡ true → within 128 z ≡ None
 unfolding within
 too_low (pos n) e = absurd (false≢true e)
 too_low (negsuc n) e = rw (le-ltb n 128 (ltb-true 127 n e))
 
-pub too_high : (z : ℤ) → lt_z (pos 127) z ≡ true → within 128 z ≡ none
+pub too_high : (z : ℤ) → lt_z (pos 127) z ≡ true → within 128 z ≡ None
 unfolding within
 too_high (pos n) e = rw (le-ltb n 128 (ltb-true 127 n e))
 too_high (negsuc n) e = absurd (false≢true e)
@@ -75,7 +68,7 @@ pub in_range : (z : ℤ) → lt_z z (negsuc 127) ≡ false → lt_z (pos 127) z 
 in_range (pos n) e f = let l = ltb-false 127 n f in omega arith
 in_range (negsuc n) e f = let l = ltb-false 127 n e in omega arith
 
-pub within_range : (z : ℤ) → mag z < 128 → within 128 z ≡ some z
+pub within_range : (z : ℤ) → mag z < 128 → within 128 z ≡ Some z
 unfolding within
 within_range (pos n) h = rw (lt-ltb n 128 h)
 within_range (negsuc n) h = rw (lt-ltb n 128 h)

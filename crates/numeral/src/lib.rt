@@ -5,13 +5,13 @@ pub mod digit; // digit.rt: the digit value of a byte
 pub mod unsigned; // unsigned.rt: numbers of 32 and 16 bits
 pub mod signed; // signed.rt: numbers with a sign, displacements, low bits
 
-// What failed in a number that can't be read.
-#[derive(Clone, Copy)]
+/// What failed in a number that can't be read.
+#[derive(Clone, Copy, Debug, PartialEq, Eq, Hash)]
 pub enum Failure {
-    // Nothing after the prefix and an allowed sign.
+    /// Nothing after the prefix and an allowed sign.
     NoDigits,
-    // A byte that is no digit of the radix.
+    /// A byte that is no digit of the radix.
     BadDigit,
-    // Too large or too small for the type.
+    /// Too large or too small for the type.
     OutOfRange,
 }

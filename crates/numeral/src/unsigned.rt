@@ -1,184 +1,148 @@
 // Unsigned numbers: digits below a bound, with a plus sign, after a prefix, as an immediate.
-ghost use Rattle.std.specs.Prelude.{◌≡◌, ◌^◌, ◌≤◌, ◌||◌};
+ghost use Rattle.std.specs.Prelude.{◌≡◌, ◌^◌, ◌≤◌, ◌||◌, [], ◌∷◌};
 ghost use Rattle.rules.specs.Number.{some_digits, ranged, below, unsigned_reading, hex_tail, by_prefix, reading32, reading16, immediate};
+ghost use Rattle.std.specs.Option.{option_map};
+ghost use Rattle.rules.specs.Text.{after};
 ghost use Rattle.rules.specs.Encode.{all_digits, is_some};
-ghost use Rattle.numeral.specs.Number.{failure_of, number_of, immediate_of, digits_only, past_bound, plus_length, prefix_length};
+ghost use Rattle.numeral.specs.Number.{failure_of, number_of, immediate_of, digits_only, past_bound, prefix_length};
 
 use crate::Failure;
 use crate::digit::digit_value;
 
-// A number, which its reader's bound bounds, or what failed.
-#[derive(Clone, Copy)]
-pub enum Number {
-    Value(u32),
-    Failed(Failure),
-}
-
-// The same for an operand; without `#` it is no immediate, and nothing failed.
-#[derive(Clone, Copy)]
-pub enum Immediate {
-    Value(u32),
-    Failed(Failure),
-    NotImmediate,
-}
-
-// One or more digits. Their value is taken up to the first that is not below the bound, so that no number of digits overflows; the
-// bytes after it are only looked at.
-pub fn read_digits(t: &[u8], radix: u32, bound: u64) -> Number
+/// One or more digits of the radix, their value below the bound.
+// Their value is taken up to the first that is not below the bound, so that no number of digits overflows; the bytes after it are only
+// looked at.
+pub fn read_digits(t: &[u8], radix: u32, bound: u64) -> Result<u32, Failure>
     requires { (radix ≤ 16) × (bound ≤ 2 ^ 32) }
     ensures { result ≡ number_of (ranged (below bound) (some_digits radix t.now)) }
 {
-    if t.len() == 0 {
-        return Number::Failed(Failure::NoDigits);
+    if t.is_empty() {
+        return Err(Failure::NoDigits);
     }
-    let r = radix as u64;
+    let r = u64::from(radix);
     let mut v: u64 = 0;
-    let mut i = 0;
-    while i < t.len() {
-        let d = digit_value(t[i]) as u64;
+    for i in 0..t.len() {
+        let d = u64::from(digit_value(t[i]));
         if d >= r {
-            return Number::Failed(Failure::BadDigit);
+            return Err(Failure::BadDigit);
         }
         v = v * r + d;
-        i += 1;
         if v >= bound {
-            return Number::Failed(past_bound(&t[i..], radix));
+            return Err(past_bound(&t[i + 1..], radix));
         }
     }
-    Number::Value(v as u32)
+    Ok(v as u32)
 }
 
 // What failed where the value has left the type: a bad digit, however late, comes before a value out of range.
+#[tactic(auto, unfolding(crate::specs::Number::past_bound))]
 fn past_bound(rest: &[u8], radix: u32) -> Failure
     ensures { result ≡ failure_of (past_bound radix rest.now) }
 {
     if all_digits(rest, radix) {
-        return Failure::OutOfRange;
+        Failure::OutOfRange
+    } else {
+        Failure::BadDigit
     }
-    Failure::BadDigit
 }
 
 // Whether all bytes are digits of the radix; so too where there is no byte.
+#[tactic(auto, unfolding(crate::specs::Number::digits_only))]
 fn all_digits(t: &[u8], radix: u32) -> bool
     ensures { result ≡ digits_only radix t.now }
 {
-    let mut i = 0;
-    while i < t.len() {
-        if digit_value(t[i]) as u32 >= radix {
-            return false;
-        }
-        i += 1;
-    }
-    true
+    t.iter().all(|&b| u32::from(digit_value(b)) < radix)
 }
 
-// How many bytes a plus sign takes: 1, or 0 where there is none.
-fn plus_length(t: &[u8]) -> usize
-    ensures { result ≡ plus_length t.now }
+/// What follows the byte `b` in front; None where another byte or none stands there.
+#[tactic(auto, using(crate::proofs::Lead::found, crate::proofs::Lead::other, crate::proofs::Lead::no_byte))]
+pub fn after_byte(t: &[u8], b: u8) -> Option<&[u8]>
+    ensures { option_map (λ rest. rest.now) result ≡ after (b ∷ []) t.now }
 {
-    if 0 < t.len() {
-        if t[0] == b'+' {
-            return 1;
-        }
+    match t {
+        [first, rest @ ..] if *first == b => Some(rest),
+        _ => None,
     }
-    0
 }
 
-// Digits after an optional plus sign.
-pub fn read_number(t: &[u8], radix: u32, bound: u64) -> Number
+/// Digits after an optional plus sign.
+pub fn read_number(t: &[u8], radix: u32, bound: u64) -> Result<u32, Failure>
     requires { (radix ≤ 16) × (bound ≤ 2 ^ 32) }
     ensures { result ≡ number_of (unsigned_reading radix bound t.now) }
 {
-    let n = plus_length(t);
-    read_digits(&t[n..], radix, bound)
+    read_digits(after_byte(t, b'+').unwrap_or(t), radix, bound)
 }
 
-// How many bytes a hexadecimal prefix takes: 1 for `$`, 2 for `0x`, 0 where there is none.
+/// How many bytes a hexadecimal prefix takes: 1 for `$`, 2 for `0x`, 0 where there is none.
+#[tactic(auto, using(crate::proofs::Prefix::one, crate::proofs::Prefix::two, crate::proofs::Prefix::neither, crate::proofs::Prefix::no_byte, crate::proofs::Prefix::one_byte))]
 pub fn prefix_length(t: &[u8]) -> usize
     ensures { result ≡ prefix_length t.now }
 {
-    if t.len() == 0 {
-        return 0;
+    match t {
+        [b'$', ..] => 1,
+        [b'0', b'x', ..] => 2,
+        _ => 0,
     }
-    if t[0] == b'$' {
-        return 1;
-    }
-    if t.len() == 1 {
-        return 0;
-    }
-    if t[0] != b'0' {
-        return 0;
-    }
-    if t[1] != b'x' {
-        return 0;
-    }
-    2
 }
 
-// Hexadecimal after a prefix, else decimal.
-fn read_prefixed(t: &[u8], bound: u64) -> Number
+/// What follows a hexadecimal prefix; None where there is none.
+#[tactic(auto, using(crate::proofs::Prefix::prefix_in, crate::proofs::Prefix::tail_plain, crate::proofs::Prefix::tail_hex))]
+pub fn hex_tail(t: &[u8]) -> Option<&[u8]>
+    ensures { option_map (λ rest. rest.now) result ≡ hex_tail t.now }
+{
+    match prefix_length(t) {
+        0 => None,
+        n => Some(&t[n..]),
+    }
+}
+
+// Hexadecimal after a prefix, else decimal. Two calls, so that each loop over digits has its radix as a constant.
+#[tactic(auto, unfolding(rules::specs::Number::by_prefix))]
+fn read_prefixed(t: &[u8], bound: u64) -> Result<u32, Failure>
     requires { bound ≤ 2 ^ 32 }
     ensures { result ≡ number_of (by_prefix (λ x s. unsigned_reading x bound s) t.now) }
 {
-    let n = prefix_length(t);
-    if n == 0 {
-        return read_number(t, 10, bound);
+    match hex_tail(t) {
+        Some(rest) => read_number(rest, 16, bound),
+        None => read_number(t, 10, bound),
     }
-    read_number(&t[n..], 16, bound)
 }
 
-// A number of ORG or DC.
-pub fn parse_u32(t: &[u8]) -> Number
+/// A number of ORG or DC, 32 bits.
+#[tactic(auto, unfolding(rules::specs::Number::reading32))]
+pub fn parse_u32(t: &[u8]) -> Result<u32, Failure>
     ensures { result ≡ number_of (reading32 t.now) }
 {
-    read_prefixed(t, 4294967296)
+    read_prefixed(t, 1 << 32)
 }
 
-// A number of 16 bits, as JMP has it.
-pub fn parse_u16(t: &[u8]) -> Number
+/// A number of 16 bits, as JMP has it.
+#[tactic(auto, unfolding(rules::specs::Number::reading16))]
+pub fn parse_u16(t: &[u8]) -> Result<u32, Failure>
     ensures { result ≡ number_of (reading16 t.now) }
 {
-    read_prefixed(t, 65536)
+    read_prefixed(t, 1 << 16)
 }
 
-// An immediate of 16 bits.
-pub fn parse_immediate_u16(t: &[u8]) -> Immediate
+/// An immediate of 16 bits; None where the operand is no immediate.
+#[tactic(auto, unfolding(rules::specs::Number::immediate, rules::specs::Text::bytes))]
+pub fn parse_immediate_u16(t: &[u8]) -> Option<Result<u32, Failure>>
     ensures { result ≡ immediate_of (immediate reading16 t.now) }
 {
-    if t.len() == 0 {
-        return Immediate::NotImmediate;
-    }
-    if t[0] != b'#' {
-        return Immediate::NotImmediate;
-    }
-    match parse_u16(&t[1..]) {
-        Number::Value(v) => Immediate::Value(v),
-        Number::Failed(f) => Immediate::Failed(f),
-    }
+    Some(parse_u16(after_byte(t, b'#')?))
 }
 
-// An immediate of 32 bits.
-pub fn parse_immediate_u32(t: &[u8]) -> Immediate
+/// An immediate of 32 bits; None where the operand is no immediate.
+#[tactic(auto, unfolding(rules::specs::Number::immediate, rules::specs::Text::bytes))]
+pub fn parse_immediate_u32(t: &[u8]) -> Option<Result<u32, Failure>>
     ensures { result ≡ immediate_of (immediate reading32 t.now) }
 {
-    if t.len() == 0 {
-        return Immediate::NotImmediate;
-    }
-    if t[0] != b'#' {
-        return Immediate::NotImmediate;
-    }
-    match parse_u32(&t[1..]) {
-        Number::Value(v) => Immediate::Value(v),
-        Number::Failed(f) => Immediate::Failed(f),
-    }
+    Some(parse_u32(after_byte(t, b'#')?))
 }
 
-// Whether JMP takes its operand for a number, and not for a label.
+/// Whether JMP takes its operand for a number, and not for a label.
 pub fn looks_numeric(t: &[u8]) -> bool
     ensures { result ≡ (is_some (hex_tail t.now) || all_digits t.now) }
 {
-    if prefix_length(t) != 0 {
-        return true;
-    }
-    all_digits(t, 10)
+    prefix_length(t) != 0 || all_digits(t, 10)
 }

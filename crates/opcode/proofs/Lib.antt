@@ -1,4 +1,3 @@
-mod Registers
-mod Mnemonics
-mod OperandKinds
+pub mod Registers
+pub mod Mnemonics
 pub mod Callers

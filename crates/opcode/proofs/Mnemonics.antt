@@ -1,19 +1,17 @@
 -- Mnemonics found by name: a search may be narrowed to those that pass a test that the text passes, and goes name by name. Assumes nothing.
+use Rattle.std.specs.Prelude.{Option, None, Some}
 use mathlib.Core.Path.{◌≡◌, refl, sym, ap, ◌∙◌}
 use mathlib.Core.Bool.{Bool, true, false, not, ◌||◌}
-use mathlib.Core.Option.{none, some}
 use mathlib.Core.List.{List, [], ◌∷◌}
 use Prim.Native.Nat.{ℕ, suc, ◌<◌}
 use native.Mathlib.Omega.{arith}
 use borrow.Author.Tests.{eq-eqb, ne_eqb, eqb-true, eqb-false}
-use lib.ListN.{length, drop, get_or, drop_of_length-le}
-use lib.Dec.{T, eqb, leb, ltb, leb→le, ltb→lt}
-use lib.Seq.{drop-cons}
+use lib.ListN.{length, get_or}
+use lib.Dec.{eqb}
 use Rattle.rules.specs.Text.{Text, bytes, upper, uppers, same, starts}
-use Rattle.rules.specs.Encode.{Mnemonic, mnemonic, nop, branches, other_mnemonics, mnemonics, operation_in}
+use Rattle.rules.specs.Encode.{Mnemonic, mnemonic, moveq, move, movea, muls, subq, dbra, jmp, branches, other_mnemonics, mnemonics, operation_in}
 use Rattle.opcode.specs.Operation.{operation_of, those, of_length, is_branch, other_three}
 use Rattle.opcode.specs.declared.mnemonic.Operation.{Operation}
-use Rattle.opcode.specs.declared.mnemonic.Operation.TheVariants.{Unknown}
 
 -- texts that compare the same are equal
 same_equal : (s t : Text) → same s t ≡ true → s ≡ t
@@ -35,49 +33,12 @@ narrow f (n ∷ ns) m e = go (same m n.name) refl (f n.name) refl (narrow f ns m
   where
     go :
         (x : Bool) → same m n.name ≡ x → (y : Bool) → f n.name ≡ y → operation_in ns m ≡ operation_in (those f ns) m
-        → elim x [ true ↦ some n.operation | false ↦ operation_in ns m ]
+        → elim x [ true ↦ Some n.operation | false ↦ operation_in ns m ]
         ≡ operation_in (elim y [ true ↦ n ∷ those f ns | false ↦ those f ns ]) m
     go true p true q r = rw (p, operation_in)
     go true p false q r = let s : m ≡ n.name = same_equal m n.name p in let z : ◌≡◌ {A = ℕ} 0 1 = cc in absurd (omega arith)
     go false p true q r = rw (p, operation_in) r
     go false p false q r = r
-
--- the k-th mnemonic
-abbrev pub at : ℕ → List Mnemonic → Mnemonic
-at k ns = get_or ns k (mnemonic [] nop)
-
--- a text has been compared with the first k names
-pub record Passed (ns : List Mnemonic) (k : ℕ) : Type 0 where
-  pub text : Text
-  pub past : operation_in ns text ≡ operation_in (drop k ns) text
-
-abbrev pub start : (ns : List Mnemonic) → Text → Passed ns 0
-start ns m = record { text = uppers m; past = refl }
-
-module _ {ns : List Mnemonic} {k : ℕ} (p : Passed ns k) (l : T (ltb k (length ns))) {b : Bool} (e : b ≡ same p.text (at k ns).name) where
-  -- the names left are the k-th and the others
-  split : drop k ns ≡ at k ns ∷ drop (suc k) ns
-  split = drop-cons ns k _ (ltb→lt k (length ns) l)
-
-  pub differs : b ≡ false → operation_in ns p.text ≡ operation_in (drop (suc k) ns) p.text
-  unfolding operation_in
-  differs h = let q : same p.text (at k ns).name ≡ false = cc in p.past ∙ rw (split, q, operation_in)
-
-  abbrev pub skip : b ≡ false → Passed ns (suc k)
-  skip h = record { text = p.text; past = differs h }
-
-  pub hit : b ≡ true → operation_of (some (at k ns).operation) ≡ operation_of (operation_in ns p.text)
-  unfolding operation_in
-  hit h =
-      let q : same p.text (at k ns).name ≡ true = cc in
-      let r : operation_in ns p.text ≡ some (at k ns).operation = p.past ∙ rw (split, q, operation_in) in ap operation_of (sym r)
-
--- all names passed
-pub unknown : {ns : List Mnemonic} {k : ℕ} (p : Passed ns k) → T (leb (length ns) k) → Unknown ≡ operation_of (operation_in ns p.text)
-unfolding operation_in
-unknown {ns} {k} p l =
-    let e : drop k ns ≡ [] = drop_of_length-le ns (leb→le (length ns) k l) in
-    let r : operation_in ns p.text ≡ none = p.past ∙ rw e in ap operation_of (sym r)
 
 -- ---- a text in upper case, by its length and its first byte
 length_uppers : (m : Text) → length (uppers m) ≡ length m
@@ -99,6 +60,15 @@ the_branches : those is_branch mnemonics ≡ branches
 unfolding those mnemonics other_mnemonics branches bytes starts
 the_branches = refl
 
+-- the names of four and of five bytes
+pub the_four : those (of_length 4) mnemonics ≡ mnemonic (bytes "MOVE") move ∷ mnemonic (bytes "MULS") muls ∷ mnemonic (bytes "SUBQ") subq ∷ mnemonic (bytes "DBRA") dbra ∷ mnemonic (bytes "JUMP") jmp ∷ []
+unfolding those mnemonics other_mnemonics branches bytes
+the_four = refl
+
+pub the_five : those (of_length 5) mnemonics ≡ mnemonic (bytes "MOVEQ") moveq ∷ mnemonic (bytes "MOVEA") movea ∷ []
+unfolding those mnemonics other_mnemonics branches bytes
+the_five = refl
+
 module _ (m : Text) where
   pub by_length : (k : ℕ) → length m ≡ k → of_length k (uppers m) ≡ true
   by_length k e = eq-eqb _ k (length_uppers m ∙ e)
@@ -118,12 +88,12 @@ module _ (m : Text) where
 
   -- what is found among those that pass a test that the text passes is found among all
   pub among :
-      (f : Text → Bool) → f (uppers m) ≡ true → {r : Operation} → r ≡ operation_of (operation_in (those f mnemonics) (uppers m))
+      (f : Text → Bool) → f (uppers m) ≡ true → {r : Option Operation} → r ≡ operation_of (operation_in (those f mnemonics) (uppers m))
       → r ≡ operation_of (operation_in mnemonics (uppers m))
   among f t e = e ∙ sym (ap operation_of (narrow f mnemonics (uppers m) t))
 
   pub among_branches :
-      is_branch (uppers m) ≡ true → {r : Operation} → r ≡ operation_of (operation_in branches (uppers m)) → r ≡ operation_of (operation_in mnemonics (uppers m))
+      is_branch (uppers m) ≡ true → {r : Option Operation} → r ≡ operation_of (operation_in branches (uppers m)) → r ≡ operation_of (operation_in mnemonics (uppers m))
   among_branches t e = among is_branch t (rw the_branches e)
 
 -- no mnemonic has another length
@@ -136,7 +106,7 @@ no_others = refl
 
 pub none_fits :
     (m : Text) → (length m ≡ 3 → ⊥) → (length m ≡ 4 → ⊥) → (length m ≡ 5 → ⊥) → (length m ≡ 7 → ⊥)
-    → Unknown ≡ operation_of (operation_in mnemonics (uppers m))
+    → None ≡ operation_of (operation_in mnemonics (uppers m))
 unfolding operation_in
 none_fits m a b c d =
     among m other_length (rw (not_length m 3 a, not_length m 4 b, not_length m 5 c, not_length m 7 d)) (rw no_others)

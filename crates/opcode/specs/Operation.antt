@@ -1,30 +1,50 @@
 -- The operation that paper 01 finds, as the code's enum, and the mnemonics told apart by tests of their names. Assumes nothing.
-use Rattle.std.specs.Prelude.{ℕ, Bool, true, false, not, ◌&&◌, List, [], ◌∷◌, eqb, length}
-use Rattle.std.proofs.Math.Option.{Option, none, some}
+use Rattle.std.specs.Prelude.{ℕ, Bool, true, false, not, ◌&&◌, List, [], ◌∷◌, eqb, length, Option}
+use Rattle.std.specs.Option.{option_map}
 use Rattle.rules.specs.Text.{Text, bytes, starts}
 use Rattle.rules.specs.Encode.{Mnemonic, moveq, move, movea, muls, tst, subq, asl, dbra, nop, simhalt, add, sub, cmp, jmp, branch}
 use Rattle.rules.specs.Encode.{Operation as Ruled}
 use Rattle.opcode.specs.declared.mnemonic.Operation.{Operation}
-use Rattle.opcode.specs.declared.mnemonic.Operation.TheVariants.{Moveq, Move, Movea, Muls, Tst, Subq, Asl, Dbra, Nop, Simhalt, Add, Sub, Cmp, Jmp, Branch, Unknown}
+use Rattle.opcode.specs.declared.mnemonic.Operation.TheVariants.{Moveq, Move, Movea, Muls, Tst, Subq, Asl, Dbra, Nop, Simhalt, Add, Sub, Cmp, Jmp, Branch}
 
--- variant by variant; nothing found is Unknown
-abbrev pub operation_of : Option Ruled → Operation
-operation_of none = Unknown
-operation_of (some moveq) = Moveq
-operation_of (some move) = Move
-operation_of (some movea) = Movea
-operation_of (some muls) = Muls
-operation_of (some tst) = Tst
-operation_of (some subq) = Subq
-operation_of (some asl) = Asl
-operation_of (some dbra) = Dbra
-operation_of (some nop) = Nop
-operation_of (some simhalt) = Simhalt
-operation_of (some add) = Add
-operation_of (some sub) = Sub
-operation_of (some cmp) = Cmp
-operation_of (some jmp) = Jmp
-operation_of (some (branch c)) = Branch c
+-- variant by variant
+abbrev pub coded : Ruled → Operation
+coded moveq = Moveq
+coded move = Move
+coded movea = Movea
+coded muls = Muls
+coded tst = Tst
+coded subq = Subq
+coded asl = Asl
+coded dbra = Dbra
+coded nop = Nop
+coded simhalt = Simhalt
+coded add = Add
+coded sub = Sub
+coded cmp = Cmp
+coded jmp = Jmp
+coded (branch c) = Branch c
+
+-- back from the code's enum
+abbrev pub ruled : Operation → Ruled
+ruled Moveq = moveq
+ruled Move = move
+ruled Movea = movea
+ruled Muls = muls
+ruled Tst = tst
+ruled Subq = subq
+ruled Asl = asl
+ruled Dbra = dbra
+ruled Nop = nop
+ruled Simhalt = simhalt
+ruled Add = add
+ruled Sub = sub
+ruled Cmp = cmp
+ruled Jmp = jmp
+ruled (Branch c) = branch c
+
+abbrev pub operation_of : Option Ruled → Option Operation
+operation_of o = option_map coded o
 
 -- the mnemonics whose names pass a test
 unfoldable pub those : (Text → Bool) → List Mnemonic → List Mnemonic

@@ -1,80 +1,54 @@
 #![tactic(auto)]
 
 // Sums in square brackets (W-211): the readers of sums, products and atoms, which call each other, and what a text says as a number of DC.
-ghost use Rattle.std.specs.Prelude.{◌≡◌, ℕ, ◌≤◌, ◌+◌, ◌^◌, length, drop};
+ghost use Rattle.std.specs.Prelude.{◌≡◌, ℕ, ◌≤◌, ◌+◌, ◌^◌, length, drop, Some};
+ghost use Rattle.std.specs.Option.{option_map};
 ghost use Rattle.rules.specs.Number.{ranged, below};
 ghost use Rattle.rules.specs.Line.{value_reading};
-ghost use Rattle.rules.specs.Sum.{Expression, Parse, applied, is_times, is_sign, is_operator, plain_number, number_first, paren_closed, atom_of, product_of, sum_of, exact_value, sum_reading};
+ghost use Rattle.rules.specs.Sum.{Parse, stepped, is_times, is_sign, is_operator, plain_number, number_first, paren_closed, atom_of, product_of, sum_of, exact_value, bracketed, sum_reading};
 ghost use Rattle.text.specs.Pieces.{until};
 ghost use Rattle.numeral.specs.Number.{number_of};
-ghost use Rattle.sum.specs.Sum.{worth_of, step_of, failed_number, InText, Says};
+ghost use Rattle.sum.specs.Sum.{step_of, Says};
 
 use numeral::Failure;
-use numeral::unsigned::Number;
 
 // How deep parentheses nest at most.
 const MAX_NESTING: usize = 16;
 
-// The worth of what was read: a value, or that a number or a step in it is out of range.
-#[derive(Clone, Copy)]
-pub enum Worth {
-    Value(u32),
-    Outside,
-}
-
-// What was read from a place on: its worth and where it ends, or that it is malformed. What is out of range is read on, since a bad
-// digit behind it comes first.
-#[derive(Clone, Copy)]
-pub enum Front {
-    Malformed,
-    Read(Worth, usize),
+/// What was read from a place on: its worth, None where a number or a step in it is out of range, and where it ends. A reader answers
+/// None where the text is malformed. What is out of range is read on, since a bad digit behind it comes first.
+#[derive(Clone, Copy, Debug, PartialEq, Eq)]
+pub struct Front {
+    pub worth: Option<u32>,
+    pub end: usize,
 }
 
 // ---- Steps.
 
-// A value of 32 bits, or none.
-fn in_range(v: u64) -> Worth
-    ensures { worth_of result ≡ below (2 ^ 32) v }
-{
-    if v < 4294967296 {
-        return Worth::Value(v as u32);
-    }
-    Worth::Outside
-}
-
 // One step between two values, exact.
-fn step(op: u8, x: u32, y: u32) -> Worth
-    ensures { worth_of result ≡ step_of op x y }
+#[tactic(auto, unfolding(rules::specs::Sum::sum_step, rules::specs::Sum::difference_step, rules::specs::Sum::product_step, rules::specs::Number::below))]
+fn step(op: u8, x: u32, y: u32) -> Option<u32>
+    ensures { result ≡ step_of op x y }
 {
-    if op == b'+' {
-        return in_range(x as u64 + y as u64);
+    match op {
+        b'+' => x.checked_add(y),
+        b'-' => x.checked_sub(y),
+        _ => x.checked_mul(y),
     }
-    if op == b'-' {
-        let below_zero = Worth::Outside;
-        if x < y {
-            return below_zero;
-        }
-        return Worth::Value(x - y);
-    }
-    in_range(x as u64 * y as u64)
 }
 
 // One step: what is out of range stays so.
-fn combined(op: u8, a: Worth, b: Worth) -> Worth
-    ensures { (x y : Expression) → worth_of a ≡ exact_value x → worth_of b ≡ exact_value y → worth_of result ≡ exact_value (applied op x y) }
+#[tactic(auto, unfolding(rules::specs::Sum::stepped))]
+fn combined(op: u8, a: Option<u32>, b: Option<u32>) -> Option<u32>
+    ensures { result ≡ stepped (step_of op) a b }
 {
-    let Worth::Value(x) = a else {
-        return Worth::Outside;
-    };
-    let Worth::Value(y) = b else {
-        return Worth::Outside;
-    };
-    step(op, x, y)
+    step(op, a?, b?)
 }
 
 // ---- Bytes.
 
 // The operator of a product.
+#[tactic(auto, unfolding(rules::specs::Sum::is_times))]
 fn is_times(b: u8) -> bool
     ensures { result ≡ is_times b }
 {
@@ -82,6 +56,7 @@ fn is_times(b: u8) -> bool
 }
 
 // An operator of a sum.
+#[tactic(auto, unfolding(rules::specs::Sum::is_sign))]
 fn is_sign(b: u8) -> bool
     ensures { result ≡ is_sign b }
 {
@@ -89,22 +64,11 @@ fn is_sign(b: u8) -> bool
 }
 
 // A byte that ends a number.
+#[tactic(auto, unfolding(rules::specs::Sum::is_operator))]
 fn is_operator(b: u8) -> bool
     ensures { result ≡ is_operator b }
 {
-    if is_times(b) {
-        return true;
-    }
-    if is_sign(b) {
-        return true;
-    }
-    if b == b'(' {
-        return true;
-    }
-    if b == b')' {
-        return true;
-    }
-    b == b']'
+    is_times(b) || is_sign(b) || b == b'(' || b == b')' || b == b']'
 }
 
 // ---- Numbers.
@@ -114,178 +78,148 @@ fn number_end(t: &[u8], at: usize) -> usize
     requires { at ≤ length t.now }
     ensures { result ≡ at + until is_operator (drop at t.now) }
 {
-    let mut i = at;
-    while i < t.len() {
+    for i in at..t.len() {
         if is_operator(t[i]) {
             return i;
         }
-        i += 1;
     }
-    i
+    t.len()
 }
 
 // A number without a sign.
-fn plain_number(t: &[u8]) -> Number
+#[tactic(auto, unfolding(rules::specs::Sum::plain_number, rules::specs::Number::by_prefix))]
+fn plain_number(t: &[u8]) -> Result<u32, Failure>
     ensures { result ≡ number_of (ranged (below (2 ^ 32)) (plain_number t.now)) }
 {
-    let n = numeral::unsigned::prefix_length(t);
-    if n == 0 {
-        return numeral::unsigned::read_digits(t, 10, 4294967296);
-    }
-    numeral::unsigned::read_digits(&t[n..], 16, 4294967296)
-}
-
-// What failed in a number that ends at `end`: out of range is read on, anything else is malformed.
-fn failed_number(failure: Failure, end: usize) -> Front
-    ensures { result ≡ failed_number failure end }
-{
-    match failure {
-        Failure::NoDigits => Front::Malformed,
-        Failure::BadDigit => Front::Malformed,
-        Failure::OutOfRange => Front::Read(Worth::Outside, end),
+    match numeral::unsigned::hex_tail(t) {
+        Some(rest) => numeral::unsigned::read_digits(rest, 16, 1 << 32),
+        None => numeral::unsigned::read_digits(t, 10, 1 << 32),
     }
 }
 
-// A number in front.
-fn read_number(t: &[u8], at: usize) -> Front
+// A number in front: out of range is read on, anything else that fails is malformed.
+fn read_number(t: &[u8], at: usize) -> Option<Front>
     requires { at ≤ length t.now }
     ensures { Says t.now at (number_first (drop at t.now)) result }
 {
     let end = number_end(t, at);
     match plain_number(&t[at..end]) {
-        Number::Value(v) => Front::Read(Worth::Value(v), end),
-        Number::Failed(f) => failed_number(f, end),
+        Ok(v) => Some(Front {
+            worth: Some(v),
+            end,
+        }),
+        Err(Failure::OutOfRange) => Some(Front { worth: None, end }),
+        Err(Failure::NoDigits) => None,
+        Err(Failure::BadDigit) => None,
     }
 }
 
 // ---- The readers of atoms, products and sums.
 
 // What was read in parentheses, and the one that closes it.
-fn close_paren(t: &[u8], inner: Front) -> Front
-    requires { InText t.now inner }
-    ensures { (at : ℕ) → (x : Parse) → Says t.now (at + 1) x inner → Says t.now at (paren_closed x) result }
+fn close_paren(t: &[u8], inner: Front) -> Option<Front>
+    requires { inner.end ≤ length t.now }
+    ensures { (at : ℕ) → (x : Parse) → Says t.now (at + 1) x (Some inner) → Says t.now at (paren_closed x) result }
 {
-    let Front::Read(v, n) = inner else {
-        return Front::Malformed;
-    };
-    if n == t.len() {
-        return Front::Malformed;
+    match &t[inner.end..] {
+        [b')', ..] => Some(Front {
+            worth: inner.worth,
+            end: inner.end + 1,
+        }),
+        _ => None,
     }
-    if t[n] != b')' {
-        return Front::Malformed;
-    }
-    Front::Read(v, n + 1)
 }
 
 // A number, or a sum in parentheses, of which so many more may be opened.
 #[cycle(read_atom_read_product_read_sum)]
-fn read_atom(t: &[u8], at: usize, depth: usize) -> Front
+fn read_atom(t: &[u8], at: usize, depth: usize) -> Option<Front>
     requires { at ≤ length t.now }
     ensures { Says t.now at (atom_of depth (drop at t.now)) result }
 {
     if at == t.len() {
-        return Front::Malformed;
+        return None;
     }
     if t[at] != b'(' {
         return read_number(t, at);
     }
     if depth == 0 {
-        return Front::Malformed;
+        return None;
     }
-    close_paren(t, read_sum(t, at + 1, depth - 1))
+    close_paren(t, read_sum(t, at + 1, depth - 1)?)
 }
 
-// Atoms with `*` between them.
+// Atoms with `*` between them. One function for products and sums would call its items' reader through a closure, and a cycle of calls
+// through one gets no proof.
 #[cycle(read_atom_read_product_read_sum)]
-fn read_product(t: &[u8], at: usize, depth: usize) -> Front
+fn read_product(t: &[u8], at: usize, depth: usize) -> Option<Front>
     requires { at ≤ length t.now }
     ensures { Says t.now at (product_of depth (drop at t.now)) result }
 {
-    let first = read_atom(t, at, depth);
-    let Front::Read(v, n) = first else {
-        return Front::Malformed;
-    };
-    let mut value = v;
-    let mut here = n;
-    while here < t.len() {
-        let op = t[here];
+    let Front { mut worth, mut end } = read_atom(t, at, depth)?;
+    while end < t.len() {
+        let op = t[end];
         if !is_times(op) {
-            return Front::Read(value, here);
+            return Some(Front { worth, end });
         }
-        let more = read_atom(t, here + 1, depth);
-        let Front::Read(w, m) = more else {
-            return Front::Malformed;
-        };
-        value = combined(op, value, w);
-        here = m;
+        let more = read_atom(t, end + 1, depth)?;
+        worth = combined(op, worth, more.worth);
+        end = more.end;
     }
-    Front::Read(value, here)
+    Some(Front { worth, end })
 }
 
 // Products with `+` or `-` between them.
 #[cycle(read_atom_read_product_read_sum)]
-fn read_sum(t: &[u8], at: usize, depth: usize) -> Front
+fn read_sum(t: &[u8], at: usize, depth: usize) -> Option<Front>
     requires { at ≤ length t.now }
     ensures { Says t.now at (sum_of depth (drop at t.now)) result }
 {
-    let first = read_product(t, at, depth);
-    let Front::Read(v, n) = first else {
-        return Front::Malformed;
-    };
-    let mut value = v;
-    let mut here = n;
-    while here < t.len() {
-        let op = t[here];
+    let Front { mut worth, mut end } = read_product(t, at, depth)?;
+    while end < t.len() {
+        let op = t[end];
         if !is_sign(op) {
-            return Front::Read(value, here);
+            return Some(Front { worth, end });
         }
-        let more = read_product(t, here + 1, depth);
-        let Front::Read(w, m) = more else {
-            return Front::Malformed;
-        };
-        value = combined(op, value, w);
-        here = m;
+        let more = read_product(t, end + 1, depth)?;
+        worth = combined(op, worth, more.worth);
+        end = more.end;
     }
-    Front::Read(value, here)
+    Some(Front { worth, end })
 }
 
 // ---- The whole text.
 
-// What a text says that starts with `[`: never that it has no digits.
-pub fn parse_sum(t: &[u8]) -> Number
-    ensures { result ≡ number_of (sum_reading t.now) }
+// The worth of a whole text in brackets; None where it is malformed.
+fn read_bracketed(t: &[u8]) -> Option<Option<u32>>
+    ensures { result ≡ option_map exact_value (bracketed t.now) }
 {
-    let malformed = Number::Failed(Failure::BadDigit);
-    if t.len() == 0 {
-        return malformed;
-    }
-    if t[0] != b'[' {
-        return malformed;
-    }
-    let Front::Read(w, n) = read_sum(t, 1, MAX_NESTING) else {
-        return malformed;
+    let [b'[', ..] = t else {
+        return None;
     };
-    if n + 1 != t.len() {
-        return malformed;
-    }
-    if t[n] != b']' {
-        return malformed;
-    }
-    match w {
-        Worth::Value(v) => Number::Value(v),
-        Worth::Outside => Number::Failed(Failure::OutOfRange),
+    let sum = read_sum(t, 1, MAX_NESTING)?;
+    match &t[sum.end..] {
+        [b']'] => Some(sum.worth),
+        _ => None,
     }
 }
 
-// The value of a DC piece: a sum where `[` is first, else a number.
-pub fn parse_value(t: &[u8]) -> Number
+/// What a text says that starts with `[`: never that it has no digits.
+pub fn parse_sum(t: &[u8]) -> Result<u32, Failure>
+    ensures { result ≡ number_of (sum_reading t.now) }
+{
+    match read_bracketed(t) {
+        Some(worth) => worth.ok_or(Failure::OutOfRange),
+        None => Err(Failure::BadDigit),
+    }
+}
+
+/// The value of a DC piece: a sum where `[` is first, else a number.
+#[tactic(auto, using(crate::proofs::Values::value_none, crate::proofs::Values::value_sum, crate::proofs::Values::value_number))]
+pub fn parse_value(t: &[u8]) -> Result<u32, Failure>
     ensures { result ≡ number_of (value_reading t.now) }
 {
-    if t.len() == 0 {
-        return Number::Failed(Failure::NoDigits);
+    match t {
+        [b'[', ..] => parse_sum(t),
+        _ => numeral::unsigned::parse_u32(t),
     }
-    if t[0] == b'[' {
-        return parse_sum(t);
-    }
-    numeral::unsigned::parse_u32(t)
 }

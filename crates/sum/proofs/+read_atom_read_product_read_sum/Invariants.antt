@@ -15,14 +15,14 @@ decreases-read_product l = 3 * (length l.t.now - l.at) + 1
 abbrev pub decreases-read_sum : goal.decreases-read_sum
 decreases-read_sum l = 3 * (length l.t.now - l.at) + 2
 
-abbrev pub invariant-read_product-loop-here : goal.invariant-read_product-loop-here
-invariant-read_product-loop-here l = Going is_times (atom_of l.depth) l.t l.at l.value l.here
+abbrev pub invariant-read_product-loop-end : goal.invariant-read_product-loop-end
+invariant-read_product-loop-end l = Going is_times (atom_of l.depth) l.t l.at l.worth l.end
 
-abbrev pub decreases-read_product-loop-here : goal.decreases-read_product-loop-here
-decreases-read_product-loop-here l = length l.t - l.here
+abbrev pub decreases-read_product-loop-end : goal.decreases-read_product-loop-end
+decreases-read_product-loop-end l = length l.t - l.end
 
-abbrev pub invariant-read_sum-loop-here : goal.invariant-read_sum-loop-here
-invariant-read_sum-loop-here l = Going is_sign (product_of l.depth) l.t l.at l.value l.here
+abbrev pub invariant-read_sum-loop-end : goal.invariant-read_sum-loop-end
+invariant-read_sum-loop-end l = Going is_sign (product_of l.depth) l.t l.at l.worth l.end
 
-abbrev pub decreases-read_sum-loop-here : goal.decreases-read_sum-loop-here
-decreases-read_sum-loop-here l = length l.t - l.here
+abbrev pub decreases-read_sum-loop-end : goal.decreases-read_sum-loop-end
+decreases-read_sum-loop-end l = length l.t - l.end

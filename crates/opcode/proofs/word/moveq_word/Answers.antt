@@ -7,4 +7,4 @@ use Rattle.opcode.proofs.word.moveq_word.Goals as goal
 
 pub returns : goal.returns
 unfolding R
-returns c = fields 16 9 3 8 0x7000 c.args.register c.args.byte c.requires (omega arith) refl (omega arith) (omega arith) ∙ omega arith
+returns c = rw c.from.ensures (fields 16 9 3 8 0x7000 c.args.register c.args.byte c.requires (omega arith) refl (omega arith) (omega arith) ∙ omega arith)
