@@ -1,8 +1,8 @@
 -- What an accepted pass says, by whatever sizes: the source and the base are within the limits, and the addresses of its labels and lines, and those
 -- after its lines, lie below 2^30. Assumes nothing.
+use Rattle.std.specs.Prelude.{Option, None, Some}
 use mathlib.Core.Path.{◌≡◌, refl, sym, ◌∙◌}
 use mathlib.Core.Bool.{Bool, true, false, false≢true}
-use mathlib.Core.Option.{Option, none, some}
 use mathlib.Core.List.{List, [], ◌∷◌}
 use Prim.Native.Nat.{ℕ, zero, suc, ◌≤◌, ◌<◌}
 use native.Mathlib.Omega.{arith}
@@ -27,10 +27,10 @@ unfolding refuse_if
 refuse_if_lem true n k a e = absurd (false≢true cc)
 refuse_if_lem false n k a e = refl
 
-refuse_at_lem : {A : Type 0} (o : Option ℕ) (n : ℕ) (a : Answer A) {p : A} → refuse_at o n a ≡ accepted p → o ≡ none
+refuse_at_lem : {A : Type 0} (o : Option ℕ) (n : ℕ) (a : Answer A) {p : A} → refuse_at o n a ≡ accepted p → o ≡ None
 unfolding refuse_at
-refuse_at_lem none n a e = refl
-refuse_at_lem (some k) n a e = absurd (false≢true cc)
+refuse_at_lem None n a e = refl
+refuse_at_lem (Some k) n a e = absurd (false≢true cc)
 
 pub record InLimits (z : Sizes) (base : ℕ) (s : Text) (p : Pass) : Type 0 where
   pub short : length s ≤ max_source

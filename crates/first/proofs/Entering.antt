@@ -1,5 +1,5 @@
--- `enter`: refusals 1 to 4, which leave the arrays as they were lent, or the first pass. Assumes nothing.
-use mathlib.Core.Path.{◌≡◌, refl, sym, ap, ◌∙◌}
+-- `enter`: refusals 1 to 4, which leave the labels and the cells as they were lent, or the first pass. Assumes nothing.
+use mathlib.Core.Path.{◌≡◌, refl, sym, ap}
 use mathlib.Core.List.{List, []}
 use Prim.Native.Nat.{ℕ, ◌≤◌, ◌<◌}
 use native.Mathlib.Omega.{arith}
@@ -7,50 +7,52 @@ use lib.ListN.{length}
 use borrow.Author.Tests.{le-leb}
 use Rattle.rules.specs.Limits.{address_limit}
 use Rattle.rules.specs.Text.{Text, cut_at}
+use Rattle.rules.specs.Line.{lines_of}
 use Rattle.rules.specs.Answer.{accepted, refused, refuse_if}
-use Rattle.rules.specs.Assemble.{Sizes, checks, pass_at_by}
-use Rattle.label.specs.Table.{table_of}
-use Rattle.cells.specs.Puts.{puts_of}
-use Rattle.answer.specs.Answer.{answer_of}
-use Rattle.answer.specs.declared.Answer.{Answer}
-use Rattle.answer.specs.declared.Answer.TheVariants.{Accepted, Refused}
+use Rattle.rules.specs.Assemble.{Sizes, first_pass_by, pass_at_by, checks}
 use Rattle.source.specs.Clear.{Clear}
-use Rattle.source.proofs.Callers.{checks_clear, cleared, stopped}
-use Rattle.first.specs.Stopped.{only, or_nothing, stopped_at}
-use Rattle.first.specs.Pass.{entered, Lent, FirstPassNeeds, FirstPassGives, EnterGivesBy}
-use Rattle.first.specs.declared.Entered.{Entered}
-use Rattle.first.specs.declared.Entered.TheVariants.{Refused as Refuses}
-use Rattle.first.proofs.Callers.{first_enters}
+use Rattle.source.proofs.Callers.{checks_clear, stopped}
+use Rattle.label.specs.Labelled.{Labelled}
+use Rattle.cells.specs.Puts.{puts_of}
+use Rattle.first.specs.Stopped.{stopped as stops_at, only, or_nothing, stopped_at}
+use Rattle.first.specs.Pass.{with_table, HoldsLines}
+use Rattle.first.proofs.Callers.{pass_clear, stop_clear}
 
-module _ (z : Sizes) (source : Text) (base : ℕ) (table cells : List ℕ) (lent : Lent source table cells) where
-  -- a refusal before the first line
-  untouched : (n k : ℕ) → pass_at_by z base source ≡ refused n k → stopped_at z base source ≡ only [] → EnterGivesBy z source base table cells (Refuses n k) table cells
-  unfolding entered table_of puts_of
-  untouched n k e f =
-      record {
-        answered = rw e;
-        labels = rw f (record { rows = refl; held = lent.empty; long = refl; past = refl });
-        lines = rw f (record { puts = refl; kept = record { room = omega arith; line = λ k l. absurd (omega arith) }; long = refl; past = refl });
-      }
+module _ (z : Sizes) (labels : Labelled) (base : ℕ) (cells : List ℕ) where
+  -- what a refusal before the first line leaves
+  pub record Untouched (n k : ℕ) : Type 0 where
+    pub answer : refused n k ≡ pass_at_by z base labels.source
+    pub labels_now : labels ≡ with_table (stopped_at z base labels.source).labels labels
+    pub lines : HoldsLines z labels.source base (stopped_at z base labels.source).puts cells cells
 
-  module _ (x : Answer) (d : x ≡ answer_of (checks source (accepted (length (cut_at 10 source))))) where
-    pub enters_refused : (n k : ℕ) → x ≡ Refused n k → EnterGivesBy z source base table cells (Refuses n k) table cells
+  module _ (empty : labels.table ≡ []) where
+    untouched : (n k : ℕ) → refused n k ≡ pass_at_by z base labels.source → stopped_at z base labels.source ≡ only [] → Untouched n k
+    unfolding puts_of
+    untouched n k d f =
+        record {
+          answer = d;
+          labels_now = rw (f, ← empty);
+          lines = rw f (record { puts = refl; kept = record { room = omega arith; line = λ k l. absurd (omega arith) }; long = refl; past = refl });
+        }
+
+    pub checked : {s : Text} → s ≡ labels.source → (n k : ℕ) → refused n k ≡ checks s (accepted (length (cut_at 10 s))) → Untouched n k
     unfolding pass_at_by stopped_at or_nothing
-    enters_refused n k e = let s = stopped source n k (sym e ∙ d) in untouched n k (s _) (ap or_nothing (s _))
+    checked e n k d = let s = stopped labels.source _ n k (rw e at d) in untouched n k (s _) (ap or_nothing (sym (s _)))
 
-    module _ (lines : ℕ) (e : x ≡ Accepted lines) where
-      clear : Clear source
-      clear = (cleared source lines (sym e ∙ d)).0
+    pub high : {s : Text} → s ≡ labels.source → Clear s → address_limit ≤ base → Untouched 4 0
+    unfolding pass_at_by stopped_at or_nothing refuse_if
+    high e c h =
+        let clear : Clear labels.source = rw e at c in
+        let f = le-leb address_limit base h in
+        untouched 4 0 (sym (rw f (checks_clear labels.source clear _))) (rw f (ap or_nothing (checks_clear labels.source clear _)))
 
-      pub enters_high : address_limit ≤ base → EnterGivesBy z source base table cells (Refuses 4 0) table cells
-      unfolding pass_at_by stopped_at or_nothing refuse_if
-      enters_high h =
-          let f = le-leb address_limit base h in
-          untouched 4 0 (rw f (checks_clear source clear _)) (rw f (ap or_nothing (checks_clear source clear _)))
+-- past them the call is the first pass
+module _ (z : Sizes) {source : Text} {base : ℕ} {s : Text} (e : s ≡ source) (c : Clear s) (h : base < address_limit) where
+  clear : Clear source
+  clear = rw e at c
 
-      module _ (h : base < address_limit) where
-        pub enters_needs : FirstPassNeeds source base table cells
-        enters_needs = record { short = clear.short; few = clear.few; low = h; lent = lent }
+  pub pass_enters : pass_at_by z base source ≡ first_pass_by z base base [] (lines_of source)
+  pass_enters = pass_clear z source base (checks_clear source clear) h
 
-        pub enters_done : (r : Entered) (table' cells' : List ℕ) → FirstPassGives z source base table cells r table' cells' → EnterGivesBy z source base table cells r table' cells'
-        enters_done r table' cells' g = first_enters z source base (checks_clear source clear) h g
+  pub stop_enters : stopped_at z base source ≡ stops_at z base base [] (lines_of source)
+  stop_enters = stop_clear z source base (checks_clear source clear) h

@@ -1,4 +1,3 @@
-pub mod CallSizes
 pub mod Turns
 pub mod Naming
 pub mod Bounds
@@ -6,4 +5,3 @@ pub mod Passing
 pub mod Underway
 pub mod Callers
 pub mod Entering
-pub mod Lending

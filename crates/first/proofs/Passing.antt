@@ -1,9 +1,9 @@
 -- One line of the first pass: from what the code has read and recorded to what is left of the pass. Assumes nothing.
+use Rattle.std.specs.Prelude.{Option, None, Some}
 use mathlib.Core.Path.{◌≡◌, refl, sym, ap, ◌∙◌}
 use mathlib.Core.Bool.{true, false}
-use mathlib.Core.Option.{some}
 use mathlib.Core.List.{List, [], ◌∷◌, ◌++◌, map, flat_map, append-nil, append_assoc}
-use Prim.Native.Nat.{ℕ, zero, suc, ◌+◌, ◌*◌, ◌≤◌, ◌<◌}
+use Prim.Native.Nat.{ℕ, suc, ◌+◌, ◌*◌, ◌≤◌, ◌<◌}
 use native.Mathlib.Numerals.{add-one}
 use native.Mathlib.Omega.{arith}
 use borrow.Author.Tests.{lt-ltb, le-ltb}
@@ -23,14 +23,11 @@ use Rattle.text.specs.Breaks.{line_number}
 use Rattle.text.proofs.Breaks.{number_same, number_next}
 use Rattle.outline.specs.Lines.{line_end, line_from, lines_from}
 use Rattle.outline.proofs.Lines.{line_length, lines_none, lines_step}
-use Rattle.label.specs.Table.{table_of}
-use Rattle.label.specs.declared.Recorded.{Recorded}
-use Rattle.label.specs.declared.Recorded.TheVariants.{Count, Full}
-use Rattle.label.proofs.Table.{table_length}
+use Rattle.label.specs.Labelled.{Labelled}
 use Rattle.line.specs.declared.Task.{Task}
 use Rattle.line.specs.declared.Task.TheVariants.{Instruction}
 use Rattle.line.specs.declared.Line.{Line}
-use Rattle.line.specs.Line.{names_for, names_at, task_at, name_from, ReadLineGives}
+use Rattle.line.specs.Line.{names_of, names_at, task_at, name_from, ReadLineGives}
 use Rattle.cells.specs.declared.Kept.{Kept}
 use Rattle.cells.specs.Cells.{data_words, after_by, head_cell, tail_cell, InCells, Fits}
 use Rattle.cells.specs.Sizes.{size_of, Small}
@@ -39,12 +36,12 @@ use Rattle.cells.proofs.Cells.{with_length, with_past, with_kept}
 use Rattle.cells.proofs.Puts.{address_more, puts_more, lines_more, puts_length}
 use Rattle.cells.proofs.Tasks.{data_places_lem, after_kept, task_fits}
 use Rattle.first.specs.Stopped.{record_some, only, before, stopped}
-use Rattle.first.specs.Pass.{HoldsLabels}
-use Rattle.first.specs.Names.{RecordNamesNeeds, recorded_of, OnLine, no_name, and_name, Named, RecordNamesGives}
+use Rattle.first.specs.Pass.{with_table}
+use Rattle.first.specs.Names.{RoomFor, RecordNamesNeeds, OnLine, no_name, and_name, all_recorded, some_recorded}
 use Rattle.first.specs.Progress.{after_puts, answer_after, line_here, lines_left, pass_so_far, Stands, Going, Stopping, PassLineNeeds, Readable}
 use Rattle.first.specs.declared.Progress.{Progress}
 use Rattle.first.proofs.Turns.{asked, labelled, pass_halts, stop_halts, pass_full, stop_full, pass_out, stop_out, pass_more, stop_more}
-use Rattle.first.proofs.Naming.{record_some_lem, record_from, some_from, some_most, some_longer, room_less, room_same, holds_same, recorded_full, recorded_count}
+use Rattle.first.proofs.Naming.{record_some_lem, record_from, some_from, some_most, same_labels}
 
 -- ---- lines taken before
 module _ (ps : List Put) where
@@ -89,7 +86,7 @@ unfolding data_places
 words_most t e = omega (arith, data_places_lem [] 0 t, data_most 0 (task_at [] t))
 
 -- an instruction's text lies in the source, and is no longer
-module _ {source : Text} {table : List ℕ} {labels : ℕ} {t : Task} {s : Span} (h : Readable source table labels t) (e : t ≡ Instruction s) where
+module _ {source : Text} {t : Task} {s : Span} (h : Readable source t) (e : t ≡ Instruction s) where
   pub span_in : SpanIn source s
   span_in = rw e at h.within
 
@@ -97,13 +94,12 @@ module _ {source : Text} {table : List ℕ} {labels : ℕ} {t : Task} {s : Span}
   text_short = simp (length-take, length-drop) (omega (arith, h.short, span_in))
 
 -- a line has at most two labels
+name_most : (source : Text) (o : Option Span) → length (names_of source o) ≤ 1
+name_most source None = omega arith
+name_most source (Some s) = omega arith
+
 names_most : (source : Text) (l : Line) → length (names_at source l.names) ≤ 2
-names_most source l = go l.names.count
-  where
-    go : (k : ℕ) → length (names_for source k l.names.first l.names.second) ≤ 2
-    go zero = omega arith
-    go (suc zero) = omega arith
-    go (suc (suc k)) = omega arith
+names_most source l = rw (length-append (names_of source l.names.first) (names_of source l.names.second)) (omega (arith, name_most source l.names.first, name_most source l.names.second))
 
 -- the labels of the line that starts at i stand on it
 on_line : (source : Text) (i k : ℕ) → line_number source i ≡ k → {e b : ℕ} {ns : List Name} → Rising (line_from source i) e b ns → OnLine source k (map (name_from i) ns)
@@ -112,36 +108,34 @@ on_line source i k n (behind {m = m} h a r) =
     and_name (number_same source i m.start (omega (arith, at_within a, line_length source i)) ∙ n) (on_line source i k n r)
 
 -- ---- where the pass stops
-module _ (z : Sizes) (source : Text) (base : ℕ) (table cells : List ℕ) (p : Progress) where
-  abbrev labels : Table
-  labels = table_of source table p.labels
+module _ (z : Sizes) (labels : Labelled) (base : ℕ) (cells : List ℕ) (p : Progress) where
+  abbrev source : Text
+  source = labels.source
 
   abbrev puts : List Put
   puts = puts_of source base cells p.lines
 
-  stopping : (x : Answer Ruled) (t : Table) (table' : List ℕ) → first_pass_by z base p.address labels (lines_left source p) ≡ x
-      → stopped z base p.address labels (lines_left source p) ≡ only t → HoldsLabels source t table table' → p.labels ≤ length t
-      → Stopping z source base table cells p (answer_after puts x) table' cells
+  stopping : (x : Answer Ruled) (t : Table) {labels' : Labelled} → first_pass_by z base p.address labels.table (lines_left source p) ≡ x
+      → stopped z base p.address labels.table (lines_left source p) ≡ only t → labels' ≡ with_table t labels
+      → Stopping z labels base cells p (answer_after puts x) labels' cells
   unfolding after_puts
-  stopping x t table' e f h g = record { answer = ap (answer_after puts) e; labels = rw f h; longer = rw f g; puts = rw f (append-nil puts); same = refl }
+  stopping x t e f h = record { answer = ap (answer_after puts) e; labels_now = rw f h; puts = rw f (append-nil puts); same = refl }
 
   -- at its end
-  ending : Stands z source base table cells p → first_pass_by z base p.address labels (lines_left source p) ≡ accepted (only labels)
-      → stopped z base p.address labels (lines_left source p) ≡ only labels → Stopping z source base table cells p (accepted (pass_so_far source base table cells p)) table cells
+  ending : first_pass_by z base p.address labels.table (lines_left source p) ≡ accepted (only labels.table)
+      → stopped z base p.address labels.table (lines_left source p) ≡ only labels.table → Stopping z labels base cells p (accepted (pass_so_far labels base cells p)) labels cells
   unfolding answer_after
-  ending s e f =
-      rw (ap accepted (after_only puts labels))
-      at (stopping (accepted (only labels)) labels table e f (holds_same source table p.labels s.held) (omega (arith, table_length source table p.labels)))
+  ending e f = rw (ap accepted (after_only puts labels.table)) at (stopping (accepted (only labels.table)) labels.table e f refl)
 
-  pub ends_last : Stands z source base table cells p → length source < p.at → Stopping z source base table cells p (accepted (pass_so_far source base table cells p)) table cells
+  pub ends_last : length source < p.at → Stopping z labels base cells p (accepted (pass_so_far labels base cells p)) labels cells
   unfolding first_pass_by stopped
-  ends_last s h = let n = lines_none source (suc p.lines) p.at h in ending s (rw n) (rw n)
+  ends_last h = let n = lines_none source (suc p.lines) p.at h in ending (rw n) (rw n)
 
-  pub values_most : Stands z source base table cells p → p.values ≤ 2 * max_lines
+  pub values_most : Stands z labels base cells p → p.values ≤ 2 * max_lines
   values_most s = omega (arith, s.values, flat_most puts, puts_length source base cells p.lines, s.few)
 
   -- ---- the line, and the rest
-  module _ (needs : PassLineNeeds z source base table cells p) (l : Line) (r : ReadLineGives source p.at l) where
+  module _ (needs : PassLineNeeds z labels base cells p) (l : Line) (r : ReadLineGives source p.at l) where
     abbrev this : SourceLine
     this = line_here source p
 
@@ -161,10 +155,10 @@ module _ (z : Sizes) (source : Text) (base : ℕ) (table cells : List ℕ) (p : 
     number = needs.stands.number needs.inside
 
     -- END
-    pub ends_here : is_end (task_at source l.task) ≡ true → Stopping z source base table cells p (accepted (pass_so_far source base table cells p)) table cells
+    pub ends_here : is_end (task_at source l.task) ≡ true → Stopping z labels base cells p (accepted (pass_so_far labels base cells p)) labels cells
     ends_here e =
         let h : is_end (asked this) ≡ true = rw task_said at e in
-        ending needs.stands (rw left (pass_halts z base p.address labels this rest h)) (rw left (stop_halts z base p.address labels this rest h))
+        ending (rw left (pass_halts z base p.address labels.table this rest h)) (rw left (stop_halts z base p.address labels.table this rest h))
 
     -- the line has its cells, and its task can be kept
     pub in_cells : InCells cells p.lines
@@ -173,74 +167,67 @@ module _ (z : Sizes) (source : Text) (base : ℕ) (table cells : List ℕ) (p : 
     pub fits : Small z → (m : ℕ) → m ≡ size_of z source l.task → Fits (record { task = l.task; size = m })
     fits w m e = task_fits w source (record { task = l.task; size = m }) needs.stands.short r.task_in e
 
-    pub naming : RecordNamesNeeds source table p.labels l.names
-    naming =
-        record {
-          held = needs.stands.held;
-          short = needs.stands.short;
-          room = room_less (p.labels + 2) (omega (arith, ap length left)) needs.stands.rows;
-          within = r.names_in;
-        }
+    pub naming : RecordNamesNeeds labels l.names
+    naming = record { short = needs.stands.short; room = record { room = omega (arith, ap length left, needs.stands.rows) }; within = r.names_in }
 
-    module _ (ne : is_end (task_at source l.task) ≡ false) (answer : Recorded) (table' : List ℕ)
-        (d : RecordNamesGives source table p.labels l.names p.address answer table') where
+    pub readable : Readable source l.task
+    readable = record { within = r.task_in; short = needs.stands.short }
+
+    -- its labels stand on it
+    standing : OnLine source (suc p.lines) (names_at source l.names)
+    standing = rw names_said (on_line source p.at (suc p.lines) number (names_rise this.text))
+
+    module _ (ne : is_end (task_at source l.task) ≡ false) {labels' : Labelled}
+        (s : labels'.source ≡ labels.source) (m : labels'.room ≡ labels.room)
+        (d : (k : ℕ) → OnLine source k (names_at source l.names) → labels'.table ≡ some_recorded labels.table (names_at source l.names) p.address k) where
       goes : is_end (asked this) ≡ false
       goes = rw task_said at ne
 
       -- the labels with this line's
       abbrev now : Table
-      now = record_some this p.address (line_of this.text).names labels
+      now = record_some this p.address (line_of this.text).names labels.table
 
-      named : Named source table p.labels (suc p.lines) p.address (names_at source l.names) answer table'
-      named = d (suc p.lines) (rw names_said (on_line source p.at (suc p.lines) number (names_rise this.text)))
-
-      answered : answer ≡ recorded_of (labelled p.address labels this)
-      answered = rw (names_said, record_from this p.address (line_of this.text).names labels) at named.answered
-
-      stored : HoldsLabels source now table table'
-      stored = rw (names_said, some_from this p.address (line_of this.text).names labels) at named.stored
-
-      longer : p.labels ≤ length now
-      longer = omega (arith, some_longer this p.address (line_of this.text).names labels, table_length source table p.labels)
+      stored : labels' ≡ with_table now labels
+      stored = same_labels labels labels' s m (rw (names_said, some_from this p.address (line_of this.text).names labels.table) at (d (suc p.lines) standing))
 
       -- no room for a label
-      pub stops_full : answer ≡ Full → Stopping z source base table cells p (refused 6 (suc p.lines)) table' cells
+      pub stops_full : ((k : ℕ) → OnLine source k (names_at source l.names) → all_recorded labels.table (names_at source l.names) p.address k ≡ None)
+          → Stopping z labels base cells p (refused 6 (p.lines + 1)) labels' cells
       unfolding answer_after
-      stops_full e =
-          let o = recorded_full (labelled p.address labels this) (sym e ∙ answered) in
-          stopping (refused 6 (suc p.lines)) now table' (rw left (pass_full z base p.address labels this rest goes o)) (rw left (stop_full z base p.address labels this rest goes o)) stored longer
+      stops_full f =
+          let o = rw (names_said, record_from this p.address (line_of this.text).names labels.table) at (f (suc p.lines) standing) in
+          rw (add-one p.lines)
+          (stopping (refused 6 (suc p.lines)) now
+          (rw left (pass_full z base p.address labels.table this rest goes o)) (rw left (stop_full z base p.address labels.table this rest goes o)) stored)
 
-      module _ (n : ℕ) (e : answer ≡ Count n) where
-        all_recorded : (labelled p.address labels this ≡ some now) × (n ≡ length now)
-        all_recorded =
-            let k = recorded_count (labelled p.address labels this) n (sym e ∙ answered) in
-            let t = record_some_lem this p.address (line_of this.text).names labels k.0 k.1 in
-            (k.1 ∙ ap some (sym t), k.2 ∙ ap length (sym t))
+      module _ (f : (k : ℕ) → OnLine source k (names_at source l.names) → all_recorded labels.table (names_at source l.names) p.address k ≡ Some labels'.table) where
+        all_now : labelled p.address labels.table this ≡ Some now
+        all_now =
+            let o = rw (names_said, record_from this p.address (line_of this.text).names labels.table) at (f (suc p.lines) standing) in
+            o ∙ ap Some (sym (record_some_lem this p.address (line_of this.text).names labels.table labels'.table o))
 
-        pub sizing : Readable source table' n l.task
-        sizing = record { within = r.task_in; held = rw all_recorded.1 stored.held; short = needs.stands.short }
-
-        module _ (m : ℕ) (sized : m ≡ size_of z source l.task) (later : ℕ) (says_later : later ≡ after_by base p.address (record { task = l.task; size = m })) where
+        module _ (n : ℕ) (sized : n ≡ size_of z source l.task) (later : ℕ) (says_later : later ≡ after_by base p.address (record { task = l.task; size = n })) where
           abbrev keeps : Kept
-          keeps = record { task = l.task; size = m }
+          keeps = record { task = l.task; size = n }
 
           later_is : later ≡ address_after z base p.address (asked this)
           later_is = says_later ∙ after_kept z source base p.address keeps sized ∙ ap (address_after z base p.address) task_said
 
           -- the address is too high
-          pub stops_out : address_limit ≤ later → Stopping z source base table cells p (refused 5 (suc p.lines)) table' cells
+          pub stops_out : address_limit ≤ later → Stopping z labels base cells p (refused 5 (p.lines + 1)) labels' cells
           unfolding answer_after
           stops_out h =
               let f = le-ltb (address_after z base p.address (asked this)) address_limit (rw later_is at h) in
-              stopping (refused 5 (suc p.lines)) now table'
-              (rw left (pass_out z base p.address labels this rest goes now all_recorded.0 f))
-              (rw left (stop_out z base p.address labels this rest goes now all_recorded.0 f))
-              stored longer
+              rw (add-one p.lines)
+              (stopping (refused 5 (suc p.lines)) now
+              (rw left (pass_out z base p.address labels.table this rest goes now all_now f))
+              (rw left (stop_out z base p.address labels.table this rest goes now all_now f))
+              stored)
 
           -- the line is taken
           module _ (w : Small z) (h : later < address_limit) where
             fits_kept : Fits keeps
-            fits_kept = fits w m sized
+            fits_kept = fits w n sized
 
             abbrev put : Put
             put = record { address = p.address; task = asked this }
@@ -254,51 +241,46 @@ module _ (z : Sizes) (source : Text) (base : ℕ) (table cells : List ℕ) (p : 
             puts_now : puts_of source base cells' (suc p.lines) ≡ puts ++ (put ∷ [])
             puts_now = rw (← needs.stands.address, task_said) at (puts_more cells p.lines keeps in_cells fits_kept source base)
 
-            held_now : table_of source table' n ≡ now
-            held_now = ap (table_of source table') all_recorded.1 ∙ stored.rows
-
             -- where the pass then stands
             abbrev there : Progress
-            there = record { at = suc (line_end source p.at); address = later; labels = n; values = p.values + data_words l.task; lines = suc p.lines }
+            there = record { at = suc (line_end source p.at); address = later; values = p.values + data_words l.task; lines = suc p.lines }
 
-            rows_now : n + 2 * length rest ≤ p.labels + 2 * length (lines_left source p)
+            rows_now : RoomFor (2 * length rest) (with_table now labels)
             rows_now =
                 let c = rw (names_said, length-map) at (names_most source l) in
-                omega (arith, ap length left, all_recorded.1, some_most this p.address (line_of this.text).names labels, c, table_length source table p.labels)
+                record { room = omega (arith, ap length left, some_most this p.address (line_of this.text).names labels.table, c, needs.stands.rows) }
 
             values_now : p.values + data_words l.task ≡ length (flat_map data_places (puts_of source base cells' (suc p.lines)))
             values_now =
                 let w = rw task_said at (data_places_lem source p.address l.task) in
                 rw (puts_now, flat_more data_places puts put) (omega (arith, needs.stands.values, w))
 
-            stands_there : Stands z source base table' cells' there
+            stands_there : Stands z (with_table now labels) base cells' there
             stands_there =
                 record {
                   short = needs.stands.short;
-                  held = rw all_recorded.1 stored.held;
                   kept = lines_more cells p.lines keeps in_cells fits_kept z source needs.stands.kept (record { within = r.task_in; sized = sized });
                   address = says_later ∙ rw needs.stands.address (sym (address_more cells p.lines keeps in_cells fits_kept base));
                   number = λ h. number_next source p.at (omega (arith, length-drop p.at source)) ∙ ap suc number;
                   values = values_now;
-                  rows = room_less (n + 2 * length rest) rows_now (room_same table' stored.long needs.stands.rows);
+                  rows = rows_now;
                   few = omega (arith, ap length left, needs.stands.few);
                   room = omega (arith, ap length left, needs.stands.room, with_length cells p.lines (head_cell keeps) (tail_cell l.task));
                 }
 
-            going : Going z source base table cells p there table' cells'
+            going : Going z labels base cells p there (with_table now labels) cells'
             going =
                 record {
                   stands = stands_there;
-                  answer = rw (left, pass_more z base p.address labels this rest goes now all_recorded.0 in_limit, answer_more puts put, ← later_is, ← puts_now, ← held_now);
-                  stop = rw (left, stop_more z base p.address labels this rest goes now all_recorded.0 in_limit, after_before puts put, ← later_is, ← puts_now, ← held_now);
+                  answer = rw (left, pass_more z base p.address labels.table this rest goes now all_now in_limit, answer_more puts put, ← later_is, ← puts_now);
+                  stop = rw (left, stop_more z base p.address labels.table this rest goes now all_now in_limit, after_before puts put, ← later_is, ← puts_now);
                   starts = refl;
                   lines = refl;
-                  labels = rw held_now all_recorded.0;
-                  table_past = rw all_recorded.1 (record { long = stored.long; past = stored.past });
+                  labels_now = refl;
                   cells_past = record { long = with_length cells p.lines (head_cell keeps) (tail_cell l.task); past = with_past cells p.lines (head_cell keeps) (tail_cell l.task) };
                 }
 
             -- as the code says it
             pub goes_on : (next more : ℕ) (after : List ℕ) → next ≡ suc (line_end source p.at) → more ≡ data_words l.task → after ≡ cells'
-                → Going z source base table cells p (record { at = next; address = later; labels = n; values = p.values + more; lines = p.lines + 1 }) table' after
-            goes_on next more after d e f = rw (d, e, f, add-one p.lines) going
+                → Going z labels base cells p (record { at = next; address = later; values = p.values + more; lines = p.lines + 1 }) labels' after
+            goes_on next more after d e f = rw (stored, d, e, f, add-one p.lines) going

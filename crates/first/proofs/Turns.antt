@@ -1,8 +1,8 @@
 -- The first pass line by line, by the sizes z: the four ways that it goes at a line, what each leaves of the answer and of the pass as far as
 -- it went, and that an accepted pass is where it stops. Assumes nothing.
+use Rattle.std.specs.Prelude.{Option, None, Some}
 use mathlib.Core.Path.{◌≡◌, refl, sym, ap, ◌∙◌}
 use mathlib.Core.Bool.{Bool, true, false, false≢true}
-use mathlib.Core.Option.{Option, none, some}
 use mathlib.Core.List.{List, [], ◌∷◌}
 use Prim.Native.Nat.{ℕ}
 use lib.Dec.{ltb}
@@ -23,9 +23,9 @@ labelled a t l = record_all l a (line_of l.text).names t
 -- it ends the pass, its labels are too many, the address after it is too high, or the pass goes on
 pub data Way (z : Sizes) (base a : ℕ) (t : Table) (l : SourceLine) : Type 0 where
   halts : is_end (asked l) ≡ true → Way z base a t l
-  fills : is_end (asked l) ≡ false → labelled a t l ≡ none → Way z base a t l
-  leaves : is_end (asked l) ≡ false → (t' : Table) → labelled a t l ≡ some t' → ltb (address_after z base a (asked l)) address_limit ≡ false → Way z base a t l
-  passes : is_end (asked l) ≡ false → (t' : Table) → labelled a t l ≡ some t' → ltb (address_after z base a (asked l)) address_limit ≡ true → Way z base a t l
+  fills : is_end (asked l) ≡ false → labelled a t l ≡ None → Way z base a t l
+  leaves : is_end (asked l) ≡ false → (t' : Table) → labelled a t l ≡ Some t' → ltb (address_after z base a (asked l)) address_limit ≡ false → Way z base a t l
+  passes : is_end (asked l) ≡ false → (t' : Table) → labelled a t l ≡ Some t' → ltb (address_after z base a (asked l)) address_limit ≡ true → Way z base a t l
 
 module _ (z : Sizes) (base a : ℕ) (t : Table) (l : SourceLine) where
   pub way : Way z base a t l
@@ -33,20 +33,20 @@ module _ (z : Sizes) (base a : ℕ) (t : Table) (l : SourceLine) where
     where
       go : (x : Bool) → is_end (asked l) ≡ x → (o : Option Table) → labelled a t l ≡ o → (y : Bool) → ltb (address_after z base a (asked l)) address_limit ≡ y → Way z base a t l
       go true e o r y f = halts e
-      go false e none r y f = fills e r
-      go false e (some t') r true f = passes e t' r f
-      go false e (some t') r false f = leaves e t' r f
+      go false e None r y f = fills e r
+      go false e (Some t') r true f = passes e t' r f
+      go false e (Some t') r false f = leaves e t' r f
 
   step_halts : is_end (asked l) ≡ true → step_by z base a t l (line_of l.text) ≡ halt
   unfolding step_by
   step_halts e = rw (e, step_by)
 
   module _ (e : is_end (asked l) ≡ false) where
-    step_full : labelled a t l ≡ none → step_by z base a t l (line_of l.text) ≡ full
+    step_full : labelled a t l ≡ None → step_by z base a t l (line_of l.text) ≡ full
     unfolding step_by leaving
     step_full r = rw (e, step_by, r)
 
-    step_next : (t' : Table) → labelled a t l ≡ some t' → step_by z base a t l (line_of l.text) ≡ next (address_after z base a (asked l)) t'
+    step_next : (t' : Table) → labelled a t l ≡ Some t' → step_by z base a t l (line_of l.text) ≡ next (address_after z base a (asked l)) t'
     unfolding step_by leaving
     step_next t' r = rw (e, step_by, r)
 
@@ -60,15 +60,15 @@ module _ (z : Sizes) (base a : ℕ) (t : Table) (l : SourceLine) where
     stop_halts e = rw (step_halts e, stopped)
 
     module _ (e : is_end (asked l) ≡ false) where
-      pub pass_full : labelled a t l ≡ none → first_pass_by z base a t (l ∷ ls) ≡ refused 6 l.number
+      pub pass_full : labelled a t l ≡ None → first_pass_by z base a t (l ∷ ls) ≡ refused 6 l.number
       unfolding first_pass_by
       pass_full r = rw (step_full e r, first_pass_by)
 
-      pub stop_full : labelled a t l ≡ none → stopped z base a t (l ∷ ls) ≡ only (record_some l a (line_of l.text).names t)
+      pub stop_full : labelled a t l ≡ None → stopped z base a t (l ∷ ls) ≡ only (record_some l a (line_of l.text).names t)
       unfolding stopped
       stop_full r = rw (step_full e r, stopped)
 
-      module _ (t' : Table) (r : labelled a t l ≡ some t') where
+      module _ (t' : Table) (r : labelled a t l ≡ Some t') where
         pub pass_out : ltb (address_after z base a (asked l)) address_limit ≡ false → first_pass_by z base a t (l ∷ ls) ≡ refused 5 l.number
         unfolding first_pass_by
         pass_out f = rw (step_next e t' r, f, first_pass_by)
@@ -104,7 +104,7 @@ pub record TakenLine (z : Sizes) (base a : ℕ) (t : Table) (ls : List SourceLin
   pub whole : p ≡ before u rest
 
 pub taken : (z : Sizes) (base a : ℕ) (t : Table) (l : SourceLine) (ls : List SourceLine) (p : Pass) → first_pass_by z base a t (l ∷ ls) ≡ accepted p
-    → (n : is_end (asked l) ≡ false) (t' : Table) → labelled a t l ≡ some t' → ltb (address_after z base a (asked l)) address_limit ≡ true
+    → (n : is_end (asked l) ≡ false) (t' : Table) → labelled a t l ≡ Some t' → ltb (address_after z base a (asked l)) address_limit ≡ true
     → TakenLine z base (address_after z base a (asked l)) t' ls (record { address = a; task = asked l }) p
 unfolding putting before
 taken z base a t l ls p e n t' r f =

@@ -1,4 +1,3 @@
-pub mod Call
 pub mod Stopped
 pub mod Pass
 pub mod Names

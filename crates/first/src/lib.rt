@@ -1,100 +1,107 @@
 #![tactic(auto)]
 
-// The first pass: labels recorded, data words counted, lines kept, refusals 4, 6 and 5; and `enter`, which other calls go in by.
-// `manual` says whose sizes it goes by: the manual's of W-207, or else paper 01's.
-ghost use Rattle.std.specs.Prelude.{◌≡◌, ◌≤◌, length};
-ghost use Rattle.rules.specs.Limits.{max_source};
-ghost use Rattle.rules.specs.Line.{instruction_of};
-ghost use Rattle.label.specs.Table.{Held};
-ghost use Rattle.cells.specs.Sizes.{size_of};
-ghost use Rattle.first.specs.Call.{sizes_by};
-ghost use Rattle.first.specs.Pass.{Lent, FirstPassNeeds, FirstPassGives, EnterGives};
-ghost use Rattle.first.specs.Names.{RecordNamesNeeds, RecordNamesGives};
+//! The first pass: labels recorded, data words counted, lines kept, refusals 4, 6 and 5; and `enter`, which other calls go in by.
+ghost use Rattle.std.specs.Prelude.{◌≡◌, ◌≤◌, ◌<◌, ◌*◌, ◌+◌, [], ℕ, min, length, Some, None, IfSome, IfOk, IfErr};
+ghost use Rattle.rules.specs.Limits.{max_source, max_lines, max_labels, address_limit};
+ghost use Rattle.rules.specs.Text.{cut_at};
+ghost use Rattle.rules.specs.Line.{size, lines_of, instruction_of};
+ghost use Rattle.rules.specs.Assemble.{Sizes, first_pass_by, pass_at_by};
+ghost use Rattle.cells.specs.Sizes.{size_of, Small};
+ghost use Rattle.line.specs.Line.{names_of, names_at};
+ghost use Rattle.text.specs.Spans.{SpanIn};
+ghost use Rattle.first.specs.Stopped.{stopped, stopped_at};
+ghost use Rattle.first.specs.Pass.{with_table, entered, IsDone, HoldsBy, HoldsLines};
+ghost use Rattle.first.specs.Names.{RoomFor, RecordNamesNeeds, OnLine, all_recorded, some_recorded};
 ghost use Rattle.first.specs.Progress.{Paced, PassLineNeeds, Readable, TakeLineNeeds, done_at};
+ghost use Rattle.cells.proofs.Tasks.{rules_small};
 
-use answer::Answer;
+use answer::Refusal;
 use cells::Kept;
-use label::Recorded;
+use label::{Full, Labels};
 use line::{Line, Names, Task};
+use text::Span;
 
-// What the pass leaves, with the labels in the table and the lines in the cells: the base, how many labels are recorded, how
-// many data words there are, and how many lines are read.
-#[derive(Clone, Copy)]
+/// What the pass leaves, with the labels recorded and the lines in the cells: the base, how many data words there are, and
+/// how many lines are read.
+#[derive(Clone, Copy, Debug, PartialEq, Eq, Hash)]
 pub struct Pass {
     pub base: u32,
-    pub labels: usize,
     pub values: usize,
     pub lines: usize,
 }
 
-// What the pass comes to: it is done, or a refusal's number and place.
-#[derive(Clone, Copy)]
-pub enum Entered {
-    Done(Pass),
-    Refused(u8, usize),
+/// By how much an instruction advances the address: a pass goes by sizes of its own.
+pub trait Sizing {
+    ghost sizes: { Sizes };
+
+    /// The size of the instruction whose text is `t`.
+    fn text_size(labels: &Labels<'_>, t: &[u8]) -> u32
+        requires { length t.now ≤ max_source }
+        ensures { result ≡ sizes (instruction_of t.now) };
+
+    // A line's cell has room for it.
+    ghost small: { Small sizes };
+}
+
+/// The sizes of the instructions of `assemble`.
+pub struct ScriptSizes;
+
+impl Sizing for ScriptSizes {
+    ghost sizes = { size };
+
+    fn text_size(_labels: &Labels<'_>, t: &[u8]) -> u32 {
+        instruction::instruction_size(t)
+    }
+
+    ghost small = { rules_small };
 }
 
 // ---- One line.
 
-// By how much the instruction whose text is `t` advances the address. The manual's encoder says it of any address and labels.
-fn text_size(manual: bool, source: &[u8], table: &[u32], labels: usize, t: &[u8]) -> u32
-    requires { Held source.now table.now labels × (length t.now ≤ max_source) }
-    ensures { result ≡ sizes_by manual (instruction_of t.now) }
-{
-    if manual {
-        let code = encode_manual::encode_manual(source, table, labels, 0, t);
-        return encode_manual::code_size(code);
-    }
-    instruction::instruction_size(t)
-}
-
 // By how much a task advances the address.
-fn size_of(manual: bool, source: &[u8], table: &[u32], labels: usize, task: Task) -> u32
-    requires { Readable source.now table.now labels task }
-    ensures { result ≡ size_of (sizes_by manual) source.now task }
+fn size_of<S: Sizing>(labels: &Labels<'_>, task: Task) -> u32
+    requires { Readable labels.now.source task }
+    ensures { result ≡ size_of S.sizes labels.now.source task }
 {
     match task {
-        Task::Instruction(span) => {
-            let a = span.start;
-            let b = span.end;
-            text_size(manual, source, table, labels, &source[a..b])
-        }
+        Task::Instruction(span) => S::text_size(labels, &labels.source()[span.start..span.end]),
         Task::Value(n, _) => n,
         Task::Space(n) => n,
-        Task::Skipped => 0,
-        Task::End => 0,
-        Task::Org(_) => 0,
-        Task::NoOrg => 0,
-        Task::LabelOnly => 0,
+        Task::Skipped | Task::End | Task::Org(_) | Task::NoOrg | Task::LabelOnly => 0,
     }
 }
 
-// The labels of a line, recorded in order at `address`; how many there are then, or that there is no room.
-fn record_names(
-    source: &[u8],
-    table: &mut [u32],
-    count: usize,
-    names: Names,
-    address: u32,
-) -> Recorded
-    requires { RecordNamesNeeds source.now table.old count names }
-    ensures { RecordNamesGives source.now table.old count names address result table.new }
+// A label that a line may have, recorded at `address`.
+fn record_name(labels: &mut Labels<'_>, name: Option<Span>, address: u32) -> Result<(), Full>
+    requires short { length labels.old.source ≤ max_source }
+    requires room { RoomFor 1 labels.old }
+    requires within { IfSome name (SpanIn labels.old.source) }
+    ensures source { labels.new.source ≡ labels.old.source }
+    ensures room { labels.new.room ≡ labels.old.room }
+    ensures most { length labels.new.table ≤ length labels.old.table + 1 }
+    ensures recorded { IfOk result (λ _. (k : ℕ) → OnLine labels.old.source k (names_of labels.old.source name) → all_recorded labels.old.table (names_of labels.old.source name) address k ≡ Some labels.new.table) }
+    ensures full { IfErr result (λ _. (k : ℕ) → OnLine labels.old.source k (names_of labels.old.source name) → all_recorded labels.old.table (names_of labels.old.source name) address k ≡ None) }
+    ensures some { (k : ℕ) → OnLine labels.old.source k (names_of labels.old.source name) → labels.new.table ≡ some_recorded labels.old.table (names_of labels.old.source name) address k }
 {
-    let total = names.count;
-    if total == 0 {
-        return Recorded::Count(count);
-    }
-    let a = names.first.start;
-    let b = names.first.end;
-    if total == 1 {
-        return label::record_label(source, table, count, a, b, address);
-    }
-    let Recorded::Count(next) = label::record_label(source, table, count, a, b, address) else {
-        return Recorded::Full;
+    let Some(span) = name else {
+        return Ok(());
     };
-    let c = names.second.start;
-    let d = names.second.end;
-    label::record_label(source, table, next, c, d, address)
+    labels.record(span.start, span.end, address)?;
+    Ok(())
+}
+
+// The labels of a line, recorded in order at `address`, as far as there is room.
+fn record_names(labels: &mut Labels<'_>, names: Names, address: u32) -> Result<(), Full>
+    requires { RecordNamesNeeds labels.old names }
+    ensures source { labels.new.source ≡ labels.old.source }
+    ensures room { labels.new.room ≡ labels.old.room }
+    ensures recorded { IfOk result (λ _. (k : ℕ) → OnLine labels.old.source k (names_at labels.old.source names) → all_recorded labels.old.table (names_at labels.old.source names) address k ≡ Some labels.new.table) }
+    ensures full { IfErr result (λ _. (k : ℕ) → OnLine labels.old.source k (names_at labels.old.source names) → all_recorded labels.old.table (names_at labels.old.source names) address k ≡ None) }
+    ensures some { (k : ℕ) → OnLine labels.old.source k (names_at labels.old.source names) → labels.new.table ≡ some_recorded labels.old.table (names_at labels.old.source names) address k }
+{
+    record_name(labels, names.first, address)?;
+    record_name(labels, names.second, address)?;
+    Ok(())
 }
 
 // Where the pass stands: before the line that starts at `at`, after `lines` lines.
@@ -102,139 +109,123 @@ fn record_names(
 struct Progress {
     at: usize,
     address: u32,
-    labels: usize,
     values: usize,
     lines: usize,
 }
 
-// On to the next line; the pass ends before this one; or a refusal.
-#[derive(Clone, Copy)]
-enum Pace {
-    On(Progress),
-    End,
-    Refused(u8),
-}
-
 // A line that is not END, with the next one at `next`: 6 before 5.
-fn take_line(
-    manual: bool,
-    source: &[u8],
+fn take_line<S: Sizing>(
+    labels: &mut Labels<'_>,
     base: u32,
-    table: &mut [u32],
     cells: &mut [u32],
     p: Progress,
     line: Line,
     next: usize,
-) -> Pace
-    requires { TakeLineNeeds (sizes_by manual) source.now base table.old cells.old p line next }
-    ensures { Paced (sizes_by manual) source.now base table.old cells.old p result table.new cells.new }
+) -> Result<Option<Progress>, Refusal>
+    requires { TakeLineNeeds S.sizes labels.old base cells.old p line next }
+    ensures { Paced S.sizes labels.old base cells.old p result labels.new cells.new }
 {
-    let names = line.names;
     let task = line.task;
-    let address = p.address;
-    let Recorded::Count(labels) = record_names(source, table, p.labels, names, address) else {
-        return Pace::Refused(6);
+    let number = p.lines + 1;
+    let Ok(()) = record_names(labels, line.names, p.address) else {
+        return Err(Refusal::ManyLabels(number));
     };
     let kept = Kept {
         task,
-        size: size_of(manual, source, table, labels, task),
+        size: size_of::<S>(labels, task),
     };
-    let after = cells::address_after(kept, base, address);
+    let after = cells::address_after(kept, base, p.address);
     if rules::ADDRESS_LIMIT as u64 <= after {
-        return Pace::Refused(5);
+        return Err(Refusal::HighAddress(number));
     }
-    let lines = p.lines;
-    cells::keep_line(cells, lines, kept);
-    Pace::On(Progress {
+    cells::keep_line(cells, p.lines, kept);
+    Ok(Some(Progress {
         at: next,
         address: after as u32,
-        labels,
         values: p.values + cells::data_words(task),
-        lines: lines + 1,
-    })
+        lines: number,
+    }))
 }
 
-// The line that the pass stands before.
-fn pass_line(
-    manual: bool,
-    source: &[u8],
+// The line that the pass stands before: on to the next one, or the pass ends before this one.
+fn pass_line<S: Sizing>(
+    labels: &mut Labels<'_>,
     base: u32,
-    table: &mut [u32],
     cells: &mut [u32],
     p: Progress,
-) -> Pace
-    requires { PassLineNeeds (sizes_by manual) source.now base table.old cells.old p }
-    ensures { Paced (sizes_by manual) source.now base table.old cells.old p result table.new cells.new }
+) -> Result<Option<Progress>, Refusal>
+    requires { PassLineNeeds S.sizes labels.old base cells.old p }
+    ensures { Paced S.sizes labels.old base cells.old p result labels.new cells.new }
 {
-    let at = p.at;
-    let o = outline::outline_line(source, at);
-    let end = o.end;
-    let line = line::read_line(source, at, o);
-    let task = line.task;
-    if line::is_end(task) {
-        return Pace::End;
+    let source = labels.source();
+    let outline = outline::outline_line(source, p.at);
+    let line = line::read_line(source, p.at, outline);
+    if line::is_end(line.task) {
+        return Ok(None);
     }
-    take_line(manual, source, base, table, cells, p, line, end + 1)
+    take_line::<S>(labels, base, cells, p, line, outline.end + 1)
 }
 
 // ---- All lines.
 
 // The pass, done where it stands.
-fn pass_of(base: u32, p: Progress) -> Entered
+fn pass_of(base: u32, p: Progress) -> Pass
     ensures { result ≡ done_at base p }
 {
-    Entered::Done(Pass {
+    Pass {
         base,
-        labels: p.labels,
         values: p.values,
         lines: p.lines,
-    })
+    }
 }
 
-// The first pass over a source that refusals 1 to 4 let pass; refusals 6 and 5 come by line.
-pub fn first_pass(
-    manual: bool,
-    source: &[u8],
+/// The first pass over a source that refusals 1 to 4 let pass; refusals 6 and 5 come by line.
+pub fn first_pass<S: Sizing>(
+    labels: &mut Labels<'_>,
     base: u32,
-    table: &mut [u32],
     cells: &mut [u32],
-) -> Entered
-    requires { FirstPassNeeds source.now base table.old cells.old }
-    ensures { FirstPassGives (sizes_by manual) source.now base table.old cells.old result table.new cells.new }
+) -> Result<Pass, Refusal>
+    requires short { length labels.old.source ≤ max_source }
+    requires few { length (cut_at 10 labels.old.source) ≤ max_lines }
+    requires low { base < address_limit }
+    requires empty { labels.old.table ≡ [] }
+    requires rows { min (2 * length (cut_at 10 labels.old.source)) max_labels ≤ labels.old.room }
+    requires lines { 2 * length (cut_at 10 labels.old.source) ≤ length cells.old }
+    ensures answer { entered labels.new cells.new result ≡ first_pass_by S.sizes base base [] (lines_of labels.old.source) }
+    ensures done { IfOk result (IsDone S.sizes labels.new base cells.new) }
+    ensures labels { labels.new ≡ with_table (stopped S.sizes base base [] (lines_of labels.old.source)).labels labels.old }
+    ensures lines { HoldsLines S.sizes labels.old.source base (stopped S.sizes base base [] (lines_of labels.old.source)).puts cells.old cells.new }
 {
+    let end = labels.source().len();
     let mut p = Progress {
         at: 0,
         address: base,
-        labels: 0,
         values: 0,
         lines: 0,
     };
-    while p.at <= source.len() {
-        match pass_line(manual, source, base, table, cells, p) {
-            Pace::On(q) => {
-                p = q;
-            }
-            Pace::End => {
-                return pass_of(base, p);
-            }
-            Pace::Refused(n) => {
-                return Entered::Refused(n, p.lines + 1);
-            }
-        }
+    while p.at <= end {
+        let Some(next) = pass_line::<S>(labels, base, cells, p)? else {
+            return Ok(pass_of(base, p));
+        };
+        p = next;
     }
-    pass_of(base, p)
+    Ok(pass_of(base, p))
 }
 
-// Refusals 1 to 4, then the first pass by 01's sizes: refusals 6 and 5, or what it leaves in the table and the cells.
-pub fn enter(source: &[u8], base: u32, table: &mut [u32], cells: &mut [u32]) -> Entered
-    requires { Lent source.now table.old cells.old }
-    ensures { EnterGives source.now base table.old cells.old result table.new cells.new }
+/// Refusals 1 to 4, then the first pass by `assemble`'s sizes: refusals 6 and 5, or what it leaves in the labels and the cells.
+pub fn enter(labels: &mut Labels<'_>, base: u32, cells: &mut [u32]) -> Result<Pass, Refusal>
+    requires empty { labels.old.table ≡ [] }
+    requires rows { min (2 * length (cut_at 10 labels.old.source)) max_labels ≤ labels.old.room }
+    requires lines { length (cut_at 10 labels.old.source) ≤ max_lines → 2 * length (cut_at 10 labels.old.source) ≤ length cells.old }
+    ensures answer { entered labels.new cells.new result ≡ pass_at_by size base labels.old.source }
+    ensures holds { IfOk result (HoldsBy size labels.new cells.new) }
+    ensures base { IfOk result (λ pass. pass.base ≡ base) }
+    ensures labels { labels.new ≡ with_table (stopped_at size base labels.old.source).labels labels.old }
+    ensures lines { HoldsLines size labels.old.source base (stopped_at size base labels.old.source).puts cells.old cells.new }
 {
-    if let Answer::Refused(n, p) = source::check_source(source) {
-        return Entered::Refused(n, p);
-    }
+    source::check_source(labels.source())?;
     if rules::ADDRESS_LIMIT <= base {
-        return Entered::Refused(4, 0);
+        return Err(Refusal::HighBase);
     }
-    first_pass(false, source, base, table, cells)
+    first_pass::<ScriptSizes>(labels, base, cells)
 }

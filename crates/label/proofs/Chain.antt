@@ -23,9 +23,9 @@ pub hash_start : (t : Text) → Hashing t 0 0
 hash_start t = record { upto = omega arith; small = omega arith; so_far = refl }
 
 module _ {t : Text} {h i : ℕ} (inv : Hashing t h i) where
-  pub hash_more : i < length t → Hashing t ((53 * h + get_or t i 0) % hashes) (i + 1)
+  pub hash_more : i < length t → {b : ℕ} → b ≡ get_or t i 0 → Hashing t ((53 * h + b) % hashes) (i + 1)
   unfolding hash_from
-  hash_more l = record { upto = omega arith; small = omega arith; so_far = rw (add-one i) (rw (drop-cons t i 0 l) at inv.so_far) }
+  hash_more l e = record { upto = omega arith; small = omega arith; so_far = rw (e, add-one i) (rw (drop-cons t i 0 l) at inv.so_far) }
 
   pub hash_all : length t ≤ i → h ≡ hash_of t
   unfolding hash_from

@@ -1,7 +1,7 @@
 -- Laws of a name's row in a table of labels: what `find` and `recorded` are by it; bounds on addresses. Assumes nothing.
+use Rattle.std.specs.Prelude.{Option, None, Some}
 use mathlib.Core.Path.{◌≡◌, refl, sym, ap, ◌∙◌}
 use mathlib.Core.Bool.{Bool, true, false, false≢true}
-use mathlib.Core.Option.{Option, none, some}
 use mathlib.Core.List.{[], ◌∷◌, ◌++◌}
 use Prim.Native.Nat.{ℕ, zero, suc, ◌+◌, ◌<◌}
 use native.Mathlib.Omega.{arith}
@@ -15,11 +15,11 @@ use Rattle.label.specs.Table.{row_of, AllBelow, no_label, and_label}
 -- ---- the clauses, by the test
 module _ (n : Text) (l : Label) (t : Table) where
   module _ (e : same n l.name ≡ true) where
-    pub row_here : row_of n (l ∷ t) ≡ some 0
+    pub row_here : row_of n (l ∷ t) ≡ Some 0
     unfolding row_of
     row_here = rw (e, row_of)
 
-    find_here : find n (l ∷ t) ≡ some l.address
+    find_here : find n (l ∷ t) ≡ Some l.address
     unfolding find
     find_here = rw (e, find)
 
@@ -45,10 +45,10 @@ module _ (x l : Label) (t : Table) where
 pub record RowAt (x d : Label) (t : Table) (k : ℕ) : Type 0 where
   pub within : k < length t
   pub named : x.name ≡ (get_or t k d).name
-  pub found : find x.name t ≡ some (get_or t k d).address
+  pub found : find x.name t ≡ Some (get_or t k d).address
   pub again : recorded x t ≡ set t k x
 
-pub row_at : (x d : Label) (t : Table) (k : ℕ) → row_of x.name t ≡ some k → RowAt x d t k
+pub row_at : (x d : Label) (t : Table) (k : ℕ) → row_of x.name t ≡ Some k → RowAt x d t k
 unfolding row_of
 row_at x d [] k h = let z : ◌≡◌ {A = ℕ} 0 1 = cc in absurd (omega arith)
 row_at x d (l ∷ t) k h = go (same x.name l.name) refl (λ j p. row_at x d t j p)
@@ -65,24 +65,24 @@ row_at x d (l ∷ t) k h = go (same x.name l.name) refl (λ j p. row_at x d t j 
           again = recorded_later x l t e ∙ ap (λ (u : Table). l ∷ u) r.again;
         })
 
-    rest : same x.name l.name ≡ false → (y : Option ℕ) → further 1 y ≡ some k → ((j : ℕ) → y ≡ some j → RowAt x d t j) → RowAt x d (l ∷ t) k
-    rest e none q ih = let z : ◌≡◌ {A = ℕ} 0 1 = cc in absurd (omega arith)
-    rest e (some j) q ih = let z : 1 + j ≡ k = cc in behind e j (omega arith) (ih j refl)
+    rest : same x.name l.name ≡ false → (y : Option ℕ) → further 1 y ≡ Some k → ((j : ℕ) → y ≡ Some j → RowAt x d t j) → RowAt x d (l ∷ t) k
+    rest e None q ih = let z : ◌≡◌ {A = ℕ} 0 1 = cc in absurd (omega arith)
+    rest e (Some j) q ih = let z : 1 + j ≡ k = cc in behind e j (omega arith) (ih j refl)
 
-    go : (y : Bool) → same x.name l.name ≡ y → ((j : ℕ) → row_of x.name t ≡ some j → RowAt x d t j) → RowAt x d (l ∷ t) k
-    go true e ih = first e (let p : ◌≡◌ {A = Option ℕ} (some 0) (some k) = sym (row_here x.name l t e) ∙ h in cc)
+    go : (y : Bool) → same x.name l.name ≡ y → ((j : ℕ) → row_of x.name t ≡ Some j → RowAt x d t j) → RowAt x d (l ∷ t) k
+    go true e ih = first e (let p : ◌≡◌ {A = Option ℕ} (Some 0) (Some k) = sym (row_here x.name l t e) ∙ h in cc)
     go false e ih = rest e (row_of x.name t) (sym (row_later x.name l t e) ∙ h) ih
 
 pub record NoRow (x d : Label) (t : Table) : Type 0 where
   pub absent : (k : ℕ) → k < length t → x.name ≡ (get_or t k d).name → ⊥
-  pub nowhere : find x.name t ≡ none
+  pub nowhere : find x.name t ≡ None
   pub new : recorded x t ≡ t ++ (x ∷ [])
 
 -- texts that do not compare as the same differ
 pub not_same : (n m : Text) → same n m ≡ false → n ≡ m → ⊥
 not_same n m e z = let c : true ≡ false = sym (same_self n) ∙ ap (same n) z ∙ e in absurd (false≢true (sym c))
 
-pub no_row : (x d : Label) (t : Table) → row_of x.name t ≡ none → NoRow x d t
+pub no_row : (x d : Label) (t : Table) → row_of x.name t ≡ None → NoRow x d t
 unfolding find recorded
 no_row x d [] h = record { absent = λ k l e. omega arith; nowhere = refl; new = refl }
 no_row x d (l ∷ t) h = go (same x.name l.name) refl (λ p. no_row x d t p)
@@ -91,17 +91,17 @@ no_row x d (l ∷ t) h = go (same x.name l.name) refl (λ p. no_row x d t p)
     other e r zero h = not_same x.name l.name e
     other e r (suc k) h = r.absent k (omega arith)
 
-    rest : same x.name l.name ≡ false → (y : Option ℕ) → further 1 y ≡ none → (y ≡ none → NoRow x d t) → NoRow x d (l ∷ t)
-    rest e none q ih =
+    rest : same x.name l.name ≡ false → (y : Option ℕ) → further 1 y ≡ None → (y ≡ None → NoRow x d t) → NoRow x d (l ∷ t)
+    rest e None q ih =
         record {
           absent = other e (ih refl);
           nowhere = find_later x.name l t e ∙ (ih refl).nowhere;
           new = recorded_later x l t e ∙ ap (λ (u : Table). l ∷ u) (ih refl).new;
         }
-    rest e (some j) q ih = let z : ◌≡◌ {A = ℕ} 0 1 = cc in absurd (omega arith)
+    rest e (Some j) q ih = let z : ◌≡◌ {A = ℕ} 0 1 = cc in absurd (omega arith)
 
-    go : (y : Bool) → same x.name l.name ≡ y → (row_of x.name t ≡ none → NoRow x d t) → NoRow x d (l ∷ t)
-    go true e ih = let p : ◌≡◌ {A = Option ℕ} (some 0) none = sym (row_here x.name l t e) ∙ h in let z : ◌≡◌ {A = ℕ} 0 1 = cc in absurd (omega arith)
+    go : (y : Bool) → same x.name l.name ≡ y → (row_of x.name t ≡ None → NoRow x d t) → NoRow x d (l ∷ t)
+    go true e ih = let p : ◌≡◌ {A = Option ℕ} (Some 0) None = sym (row_here x.name l t e) ∙ h in let z : ◌≡◌ {A = ℕ} 0 1 = cc in absurd (omega arith)
     go false e ih = rest e (row_of x.name t) (sym (row_later x.name l t e) ∙ h) ih
 
 -- ---- addresses below a bound
@@ -115,11 +115,11 @@ module _ {m : ℕ} where
       go true e ih = rw (recorded_here x l t e) (and_label h b)
       go false e ih = rw (recorded_later x l t e) (and_label p ih)
 
-  pub below_found : (n : Text) {t : Table} {a : ℕ} → AllBelow m t → find n t ≡ some a → a < m
+  pub below_found : (n : Text) {t : Table} {a : ℕ} → AllBelow m t → find n t ≡ Some a → a < m
   unfolding find
   below_found n no_label q = let z : ◌≡◌ {A = ℕ} 0 1 = cc in absurd (omega arith)
   below_found n {a = a} (and_label {l} {t} p b) q = go (same n l.name) refl (λ r. below_found n b r)
     where
-      go : (y : Bool) → same n l.name ≡ y → (find n t ≡ some a → a < m) → a < m
-      go true e ih = let r : some l.address ≡ some a = sym (find_here n l t e) ∙ q in let z : l.address ≡ a = cc in omega arith
+      go : (y : Bool) → same n l.name ≡ y → (find n t ≡ Some a → a < m) → a < m
+      go true e ih = let r : Some l.address ≡ Some a = sym (find_here n l t e) ∙ q in let z : l.address ≡ a = cc in omega arith
       go false e ih = ih (sym (find_later n l t e) ∙ q)

@@ -7,12 +7,15 @@ use native.Mathlib.Numerals.{add-one}
 use native.Mathlib.Omega.{arith}
 use borrow.Author.Tests.{eqb-true, eqb-false}
 use lib.Dec.{eqb}
-use lib.ListN.{length, set, drop, get_or, replicate, length-append, length-set, length-replicate, get_or-replicate, get_or-append}
-use lib.Seq.{get_or_at, get_or-set_same, get_or-set_other, drop-set-lt, ext_get_or}
+use lib.ListN.{length, set, drop, get_or, replicate, length-append, length-set, length-replicate, get_or-replicate, get_or-append, length-drop}
+use lib.Seq.{length-take-le, get_or_at, get_or-set_same, get_or-set_other, drop-set-lt, ext_get_or}
 use Rattle.rules.specs.Text.{Text}
+use Rattle.text.specs.Breaks.{line_number}
 use Rattle.rules.specs.Label.{Label}
 use Rattle.label.specs.Table.{hashes, label_at, cell_of, row, table_of, name_at, last_with, Held}
 use Rattle.label.specs.Record.{with_row, with_head}
+use Rattle.label.specs.Numbers.{numbers_of}
+use Rattle.label.specs.declared.Row.{Row}
 
 -- ---- rows
 module _ (source : Text) (cells : List ℕ) where
@@ -170,3 +173,20 @@ module _ (cells : List ℕ) (k h : ℕ) (b : h < hashes) where
 
     pub link_now : get_or linked (cell_of k + 3) 0 ≡ get_or cells h 0
     link_now = get_or-set_other behind h (cell_of k + 3) (k + 1) 0 (λ e. omega arith) ∙ get_or-set_same cells (cell_of k + 3) (get_or cells h 0) 0 r
+
+-- ---- a row's numbers
+module _ {source : Text} {cells : List ℕ} {count : ℕ} (held : Held source cells count) where
+  -- a name is as long as its row says
+  name_length : (k : ℕ) → k < count → length (name_at source cells k) ≡ get_or cells (cell_of k + 1) 0
+  name_length k l =
+      length-take-le (get_or cells (cell_of k + 1) 0) (drop (get_or cells (cell_of k) 0) source) (rw length-drop (omega (arith, held.within k l)))
+
+  pub numbers_at : {k : ℕ} (d : Label) → k < count
+      → ◌≡◌ {A = Row} (record { start = get_or cells (cell_of k) 0; length = get_or cells (cell_of k + 1) 0; address = get_or cells (cell_of k + 2) 0 })
+      (numbers_of (get_or (table_of source cells count) k d))
+  numbers_at {k} d l = rw (table_at source cells count k d l, name_length k l)
+
+-- a label's start tells its line
+pub line_told : (source : Text) (cells : List ℕ) (count k : ℕ) (d : Label) → k < length (table_of source cells count)
+    → (get_or (table_of source cells count) k d).line ≡ line_number source (get_or (table_of source cells count) k d).start
+line_told source cells count k d h = rw (table_at source cells count k d (omega (arith, table_length source cells count)))

@@ -1,3 +1,4 @@
 pub mod Table
 pub mod Record
+pub mod Labelled
 pub mod Numbers

@@ -1,14 +1,11 @@
 -- The labels as the code holds them: a head for each hash of a name, then rows of four cells, a label's start, length
 -- and address, and the row before it whose name has the same hash. From its head on, a hash's rows are a chain.
 -- Assumes nothing.
-use Rattle.std.specs.Prelude.{◌≡◌, ℕ, zero, suc, ◌+◌, ◌*◌, ◌%◌, ◌≤◌, ◌<◌, true, false, List, [], ◌∷◌, ◌++◌, eqb, length, take, drop, get_or}
-use Rattle.std.proofs.Math.Option.{Option, none, some}
+use Rattle.std.specs.Prelude.{◌≡◌, ℕ, zero, suc, ◌+◌, ◌*◌, ◌%◌, ◌≤◌, ◌<◌, true, false, List, [], ◌∷◌, ◌++◌, eqb, length, take, drop, get_or, Option, None, Some}
 use Rattle.rules.specs.Text.{Text, same}
 use Rattle.rules.specs.Label.{Label, Table}
 use Rattle.text.specs.Find.{further}
 use Rattle.text.specs.Breaks.{line_number}
-use Rattle.label.specs.declared.Address.{Address}
-use Rattle.label.specs.declared.Address.TheVariants.{At, Nothing}
 
 -- how many hashes there are
 abbrev pub hashes : ℕ
@@ -61,13 +58,8 @@ pub record Held (source : Text) (cells : List ℕ) (count : ℕ) : Type 0 where
 
 -- the first row of the name n
 unfoldable pub row_of : Text → Table → Option ℕ
-row_of n [] = none
-row_of n (l ∷ t) = elim (same n l.name) [ true ↦ some 0 | false ↦ further 1 (row_of n t) ]
-
--- an address as the code answers it
-abbrev pub address_of : Option ℕ → Address
-address_of none = Nothing
-address_of (some a) = At a
+row_of n [] = None
+row_of n (l ∷ t) = elim (same n l.name) [ true ↦ Some 0 | false ↦ further 1 (row_of n t) ]
 
 -- every label's address is below m
 pub data AllBelow (m : ℕ) : Table → Type 0 where

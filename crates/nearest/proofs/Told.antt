@@ -1,96 +1,43 @@
--- The answer told: the nearest does not pass the address, and what the call answers by the first pass. Assumes nothing.
+-- The answer told: what the call answers by the first pass. Assumes nothing.
+use Rattle.std.specs.Prelude.{Option, None, Some}
+use Rattle.std.specs.Option.{option_map}
 use mathlib.Core.Path.{◌≡◌, refl, sym, ap, ◌∙◌}
-use mathlib.Core.Bool.{Bool, true, false}
-use mathlib.Core.Option.{Option, none, some}
-use mathlib.Core.List.{List, [], ◌∷◌}
-use Prim.Native.Nat.{ℕ, ◌-◌, ◌≤◌}
-use borrow.Author.Tests.{leb-true}
-use lib.Dec.{leb}
-use lib.ListN.{length}
+use Prim.Native.Nat.{ℕ, ◌-◌}
 use Rattle.rules.specs.Text.{Text}
-use Rattle.rules.specs.Label.{Label, Table}
-use Rattle.rules.specs.Answer.{and_then}
-use Rattle.requests.specs.Nearest.{nearer, nearer_of, nearest_in, told_nearest, nearest}
-use Rattle.label.specs.Table.{cell_of, table_of}
+use Rattle.rules.specs.Line.{size}
+use Rattle.rules.specs.Label.{Label}
+use Rattle.rules.specs.Answer.{accepted, refused, and_then}
+use Rattle.rules.specs.Assemble.{Pass, pass_at_by}
+use Rattle.requests.specs.Nearest.{nearest_in, told_nearest, nearest}
+use Rattle.label.specs.Numbers.{numbers_of}
 use Rattle.label.specs.declared.Row.{Row}
-use Rattle.first.specs.Pass.{pass_in, EnterGives}
-use Rattle.first.specs.declared.Pass.{Pass}
-use Rattle.first.specs.declared.Entered.{Entered}
-use Rattle.first.specs.declared.Entered.TheVariants.{Done, Refused as Stopped}
-use Rattle.first.proofs.Callers.{enter_refused, enter_base, enter_holds}
-use Rattle.nearest.specs.declared.Nearest.{Nearest}
-use Rattle.nearest.specs.declared.Nearest.TheVariants.{Label as Named, Refused}
-use Rattle.nearest.specs.declared.Best.{Best}
-use Rattle.nearest.specs.declared.Best.TheVariants.{At, Nothing}
-use Rattle.nearest.specs.Nearest.{nearest_of, best_of, with_label, NearestRowGives, NotPast, TellNearestGives}
-use Rattle.nearest.proofs.Walk.{best_nothing, best_at}
+use Rattle.nearest.proofs.Walk.{nothing, numbered}
 
--- ---- the nearest does not pass the address
-data Low (a : ℕ) : Option Label → Type 0 where
-  no_label : Low a none
-  at_label : {l : Label} → l.address ≤ a → Low a (some l)
-
-low_of : {a : ℕ} {l : Label} → Low a (some l) → l.address ≤ a
-low_of (at_label h) = h
-
-low_nearer : (a : ℕ) (l : Label) (o : Option Label) → l.address ≤ a → Low a o → Low a (some (nearer_of l o))
-unfolding nearer_of
-low_nearer a l none h w = at_label h
-low_nearer a l (some m) h w = go (nearer l m) refl
-  where
-    go : (y : Bool) → nearer l m ≡ y → Low a (some (nearer_of l (some m)))
-    go true e = rw e (at_label h)
-    go false e = rw e w
-
-low_with : (a : ℕ) (l : Label) (o : Option Label) → Low a o → Low a (with_label a l o)
-low_with a l o w = go (leb l.address a) refl
-  where
-    go : (y : Bool) → leb l.address a ≡ y → Low a (with_label a l o)
-    go true e = rw e (low_nearer a l o (leb-true l.address a e) w)
-    go false e = rw e w
-
-low : (a : ℕ) (t : Table) → Low a (nearest_in a t)
-unfolding nearest_in
-low a [] = no_label
-low a (l ∷ t) = low_with a l (nearest_in a t) (low a t)
-
--- ---- the nearest told
-module _ {best : Best} (a : ℕ) where
-  pub tell_at : (x : Row) → best ≡ At x → TellNearestGives best a (Named x.start x.length (a - x.address))
+module _ (a : ℕ) (o : Option Label) where
+  tell_at : (x : Row) → Some x ≡ option_map numbers_of o → accepted (record { start = x.start; length = x.length; distance = a - x.address }) ≡ told_nearest a o
   unfolding told_nearest
-  tell_at x b = λ o e.
-      let n = best_at o x (sym e ∙ b) in
-      rw n.is (ap (λ (y : Row). Named y.start y.length (a - y.address)) n.numbers)
+  tell_at x e =
+      let n = numbered o x e in
+      let f = ap (λ (y : Row). accepted (record { start = y.start; length = y.length; distance = a - y.address })) n.numbers in
+      rw n.is f
 
-  pub tell_nothing : best ≡ Nothing → TellNearestGives best a (Refused 12 0)
+  tell_nothing : None ≡ option_map numbers_of o → refused 12 0 ≡ told_nearest a o
   unfolding told_nearest
-  tell_nothing b = λ o e. rw (best_nothing o (sym e ∙ b)) refl
+  tell_nothing e = rw (nothing o e) refl
 
--- ---- by the first pass
-module _ {source : Text} {base : ℕ} {table cells : List ℕ} {r : Entered} {table' cells' : List ℕ} (g : EnterGives source base table cells r table' cells') where
-  pub call_refused : (a n k : ℕ) → r ≡ Stopped n k → Refused n k ≡ nearest_of (nearest base source a)
+module _ (base a : ℕ) {source : Text} {s : Text} (same : s ≡ source) where
+  pub call_refused : (n k : ℕ) → refused n k ≡ pass_at_by size base s → refused n k ≡ nearest base source a
   unfolding nearest and_then
-  call_refused a n k e = rw (enter_refused g n k e) refl
+  call_refused n k e = rw (← same, ← e) refl
 
-  module _ (p : Pass) (e : r ≡ Done p) where
-    abbrev labels : Table
-    labels = table_of source table' p.labels
+  module _ {p : Pass} (e : accepted p ≡ pass_at_by size base s) where
+    call_is : nearest base source a ≡ told_nearest a (nearest_in a p.labels)
+    unfolding nearest and_then
+    call_is = rw (← same, ← e) refl
 
-    pub call_rows : cell_of p.labels ≤ length table'
-    call_rows = (enter_holds g p e).labels.rows
+    pub call_at : (x : Row) → Some x ≡ option_map numbers_of (nearest_in a p.labels)
+        → accepted (record { start = x.start; length = x.length; distance = a - x.address }) ≡ nearest base source a
+    call_at x d = tell_at a (nearest_in a p.labels) x d ∙ sym call_is
 
-    nearest_in_lem : (a : ℕ) → nearest base source a ≡ told_nearest a (nearest_in a labels)
-    unfolding nearest and_then pass_in
-    nearest_in_lem a = let h = rw (enter_base g p e) at (enter_holds g p e).passed in rw h refl
-
-    module _ (a : ℕ) {best : Best} (w : NearestRowGives table' p.labels a best) where
-      best_is : best ≡ best_of (nearest_in a labels)
-      best_is = w source (enter_holds g p e).labels
-
-      pub call_not_past : NotPast best a
-      call_not_past = λ x b.
-          let n = best_at (nearest_in a labels) x (sym best_is ∙ b) in
-          rw n.numbers (low_of (rw n.is at (low a labels)))
-
-      pub call_told : {q : Nearest} → TellNearestGives best a q → q ≡ nearest_of (nearest base source a)
-      call_told t = rw (nearest_in_lem a) (t _ best_is)
+    pub call_nothing : None ≡ option_map numbers_of (nearest_in a p.labels) → refused 12 0 ≡ nearest base source a
+    call_nothing d = tell_nothing a (nearest_in a p.labels) d ∙ sym call_is

@@ -1,94 +1,77 @@
 #![tactic(auto)]
 
-// Which label an address is near (W-201): the first pass, then one walk over the labels recorded.
-ghost use Rattle.std.specs.Prelude.{◌≡◌, ◌≤◌, length};
-ghost use Rattle.label.specs.Table.{cell_of};
-ghost use Rattle.requests.specs.Nearest.{nearest};
-ghost use Rattle.nearest.specs.Nearest.{nearest_of, IsNearerGives, WithRowGives, NearestRowGives, NotPast, TellNearestGives};
+//! Which label an address is near: the first pass, then one walk over the labels recorded.
+ghost use Rattle.std.specs.Prelude.{◌≡◌, ◌≤◌, Option, IfSome};
+ghost use Rattle.std.specs.Option.{option_map};
+ghost use Rattle.rules.specs.Label.{Label};
+ghost use Rattle.requests.specs.Nearest.{nearer, nearest_in, nearest};
+ghost use Rattle.label.specs.Numbers.{numbers_of};
+ghost use Rattle.nearest.specs.Nearest.{with_label, nearest_of};
 
-use first::Entered;
-use label::Row;
+use answer::Refusal;
+use label::{Labels, Row};
 
-// What the call answers.
-#[derive(Clone, Copy)]
-pub enum Nearest {
-    // The label's start and length in the source, where it was recorded last, and how far past it the address is.
-    Label(usize, usize, u32),
-    // Refused: the refusal's number, and its place as 01 and 02 say it at that number.
-    Refused(u8, usize),
-}
-
-// The nearest of the labels looked at, if there is one at or below the address.
-#[derive(Clone, Copy)]
-enum Best {
-    At(Row),
-    Nothing,
+/// The nearest label: where its name starts in the source, in its last record, how many bytes it has, and how far past the
+/// label the address is.
+#[derive(Clone, Copy, Debug, PartialEq, Eq, Hash)]
+pub struct Nearest {
+    pub start: usize,
+    pub length: usize,
+    pub distance: u32,
 }
 
 // Whether l is named before m: its address is greater, or the same and its last record stands first.
+#[tactic(auto, unfolding(requests::specs::Nearest::nearer))]
 fn is_nearer(l: Row, m: Row) -> bool
-    ensures { IsNearerGives l m result }
+    ensures { (x y : Label) → l ≡ numbers_of x → m ≡ numbers_of y → result ≡ nearer x y }
 {
-    if l.address != m.address {
-        return m.address < l.address;
-    }
-    l.start < m.start
+    m.address < l.address || l.address == m.address && l.start < m.start
 }
 
 // The nearest of one label more, which stands before the others in the table.
-fn with_row(row: Row, best: Best, address: u32) -> Best
-    ensures { WithRowGives row best address result }
+fn with_row(row: Row, best: Option<Row>, address: u32) -> Option<Row>
+    ensures { (l : Label) (o : Option Label) → row ≡ numbers_of l → best ≡ option_map numbers_of o → result ≡ option_map numbers_of (with_label address l o) }
 {
     if address < row.address {
         return best;
     }
-    let Best::At(other) = best else {
-        return Best::At(row);
+    let Some(other) = best else {
+        return Some(row);
     };
     if is_nearer(row, other) {
-        return Best::At(row);
+        return Some(row);
     }
     best
 }
 
-// The nearest of the table's labels: one walk, from the last row to the first.
-fn nearest_row(table: &[u32], count: usize, address: u32) -> Best
-    requires { cell_of count ≤ length table.now }
-    ensures { NearestRowGives table.now count address result }
+// The nearest of the labels, whose address does not pass the one asked: one walk, from the last row to the first.
+fn nearest_row(labels: &Labels<'_>, address: u32) -> Option<Row>
+    ensures nearest { result ≡ option_map numbers_of (nearest_in address labels.now.table) }
+    ensures not_past { IfSome result (λ row. row.address ≤ address) }
 {
-    let mut best = Best::Nothing;
-    let mut k = count;
-    while 0 < k {
-        k -= 1;
-        best = with_row(label::read_row(table, k), best, address);
+    let mut best = None;
+    for k in (0..labels.len()).rev() {
+        best = with_row(labels.row(k), best, address);
     }
     best
 }
 
-// The answer: refusal 12 where there is no label at or below the address.
-fn tell_nearest(best: Best, address: u32) -> Nearest
-    requires { NotPast best address }
-    ensures { TellNearestGives best address result }
+/// The label whose address is greatest without passing `address`, of a source assembled at `base`; of equal addresses,
+/// the one whose last record stands first in the source. Refuses by 1 to 6 as assembling does, then by 12 if no label is at
+/// or below the address.
+pub fn nearest_label(source: &[u8], base: u32, address: u32) -> Result<Nearest, Refusal>
+    ensures { nearest_of result ≡ nearest base source.now address }
 {
-    match best {
-        Best::At(row) => Nearest::Label(row.start, row.length, address - row.address),
-        Best::Nothing => Nearest::Refused(12, 0),
-    }
-}
-
-// The label whose address is greatest without passing `address`, of a source assembled at `base`; of equal addresses,
-// the one whose last record stands first in the source. Refuses by 1 to 6 as assembling does, then by 12, at place 0,
-// if no label is at or below the address.
-pub fn nearest_label(source: &[u8], base: u32, address: u32) -> Nearest
-    ensures { result ≡ nearest_of (nearest base source.now address) }
-{
-    let mut table = [0u32; label::TABLE];
-    let mut cells = [0u32; 2 * rules::MAX_LINES];
-    match first::enter(source, base, &mut table, &mut cells) {
-        Entered::Refused(n, p) => Nearest::Refused(n, p),
-        Entered::Done(pass) => {
-            let best = nearest_row(&table, pass.labels, address);
-            tell_nearest(best, address)
-        }
-    }
+    let mut table = [0; label::TABLE];
+    let mut cells = [0; 2 * rules::MAX_LINES];
+    let mut labels = Labels::new(source, &mut table);
+    first::enter(&mut labels, base, &mut cells)?;
+    let Some(row) = nearest_row(&labels, address) else {
+        return Err(Refusal::NoLabelNear);
+    };
+    Ok(Nearest {
+        start: row.start,
+        length: row.length,
+        distance: address - row.address,
+    })
 }

@@ -2,55 +2,68 @@
 use mathlib.Core.Path.{◌≡◌, refl, sym, ◌∙◌}
 use mathlib.Core.Bool.{Bool, true, false}
 use mathlib.Core.List.{List}
-use Prim.Native.Nat.{ℕ}
+use Prim.Native.Nat.{ℕ, ◌<◌}
+use lib.ListN.{length, get_or}
 use Rattle.rules.specs.Text.{Text}
-use Rattle.rules.specs.Label.{Table}
-use Rattle.rules.specs.Answer.{accepted, refuse_if, and_then}
-use Rattle.requests.specs.Symbols.{in_order, symbols, Rows, short_rows, room_rows, symbols_answer, write_rows, symbols_rows}
+use Rattle.rules.specs.Line.{size}
+use Rattle.rules.specs.Label.{Label}
+use Rattle.rules.specs.Answer.{accepted, refused, refuse_if, and_then}
+use Rattle.rules.specs.Assemble.{pass_at_by}
+use Rattle.requests.specs.Symbols.{in_order, symbols, Rows, short_rows, room_rows, symbols_answer, holding_rows, write_rows, symbols_rows}
 use Rattle.promises.proofs.SymbolsRows.{long_enough}
-use Rattle.answer.specs.declared.Answer.TheVariants.{Accepted, Refused}
-use Rattle.label.specs.Table.{table_of}
-use Rattle.first.specs.Pass.{pass_in, EnterGives}
+use Rattle.text.specs.Breaks.{line_number}
+use Rattle.label.specs.Labelled.{Labelled}
+use Rattle.first.specs.Pass.{pass_in}
 use Rattle.first.specs.declared.Pass.{Pass}
-use Rattle.first.specs.declared.Entered.{Entered}
-use Rattle.first.specs.declared.Entered.TheVariants.{Done, Refused as Stopped}
-use Rattle.first.proofs.Callers.{enter_refused, enter_base, enter_holds}
-use Rattle.symbols.specs.Symbols.{HoldsPass, WriteRowsNeeds, WriteRowsGives, ListSymbolsGives}
+use Rattle.symbols.specs.Symbols.{HoldsPass, WriteRowsNeeds}
 use Rattle.symbols.proofs.Listing.{long}
 
-module _ {source : Text} {base : ℕ} {table cells : List ℕ} {r : Entered} {table' cells' : List ℕ} (g : EnterGives source base table cells r table' cells') (x : Rows) where
-  pub call_refused : (n k : ℕ) → r ≡ Stopped n k → ListSymbolsGives base source x (Refused n k) x
-  unfolding symbols symbols_answer symbols_rows write_rows and_then
-  call_refused n k e = let f = enter_refused g n k e in record { answered = rw f; written = rw f }
+module _ (base : ℕ) {source s : Text} (same : s ≡ source) (x : Rows) where
+  module _ (n k : ℕ) (e : refused n k ≡ pass_at_by size base s) where
+    pub refused_answer : refused n k ≡ symbols_answer base source x
+    unfolding symbols symbols_answer and_then
+    refused_answer = rw (← same, ← e) refl
 
-  module _ (p : Pass) (e : r ≡ Done p) where
-    abbrev labels : Table
-    labels = table_of source table' p.labels
+    pub refused_rows : x ≡ symbols_rows base source x
+    unfolding symbols symbols_rows write_rows and_then
+    refused_rows = rw (← same, ← e) refl
 
-    holds : HoldsPass source table' p.labels
-    unfolding pass_in
-    holds =
-        let h = enter_holds g p e in
-        record { held = h.labels; base = p.base; pass = pass_in source table' cells' p; passed = h.passed; labels = refl }
+  -- the labels of an accepted pass, each of which tells its line
+  module _ (labels : Labelled) (cells : List ℕ) (p : Pass) (t : labels.source ≡ s) (told : (k : ℕ) (d : Label) → k < length labels.table → (get_or labels.table k d).line ≡ line_number labels.source (get_or labels.table k d).start)
+      (e : accepted (pass_in labels cells p) ≡ pass_at_by size base s) where
+    holds : HoldsPass labels
+    holds = record { base = base; pass = pass_in labels cells p; passed = rw t (rw t at (sym e)); held = refl; told = told }
 
-    listed : symbols base source ≡ accepted (in_order labels)
-    unfolding symbols and_then pass_in
-    listed = let h = rw (enter_base g p e) at (enter_holds g p e).passed in rw h
+    listed : symbols base source ≡ accepted (in_order labels.table)
+    unfolding symbols and_then
+    listed = rw (← same, ← e) refl
 
-    module _ {b : Bool} (s : b ≡ short_rows x p.labels) where
-      pub call_short : b ≡ true → ListSymbolsGives base source x (Refused 7 p.labels) x
-      unfolding symbols_answer symbols_rows write_rows and_then room_rows refuse_if
-      call_short t = let f : short_rows x p.labels ≡ true = sym s ∙ t in record { answered = rw (listed, long holds, f); written = rw (listed, write_rows, long holds, f) }
+    module _ {n : ℕ} (count : n ≡ length labels.table) {b : Bool} (f : b ≡ short_rows x n) where
+      module _ (g : b ≡ true) where
+        is_short : short_rows x (length labels.table) ≡ true
+        is_short = rw (← count) (sym f ∙ g)
 
-      module _ (t : b ≡ false) where
-        enough : short_rows x p.labels ≡ false
-        enough = sym s ∙ t
+        pub short_answer : refused 7 n ≡ symbols_answer base source x
+        unfolding symbols_answer and_then room_rows refuse_if
+        short_answer = rw (listed, long holds, is_short, count) refl
 
-        pub call_needs : WriteRowsNeeds source table' p.labels x
-        call_needs =
-            let l = long_enough x p.labels enough in
+        pub short_rows_kept : x ≡ symbols_rows base source x
+        unfolding symbols_rows write_rows
+        short_rows_kept = rw (listed, write_rows, long holds, is_short) refl
+
+      module _ (g : b ≡ false) where
+        enough : short_rows x (length labels.table) ≡ false
+        enough = rw (← count) (sym f ∙ g)
+
+        pub write_needs : WriteRowsNeeds labels x
+        write_needs =
+            let l = long_enough x (length labels.table) enough in
             record { holds = holds; starts = l.0; lengths = l.1; addresses = l.2; lines = l.3 }
 
-        pub call_written : {y : Rows} → WriteRowsGives source table' p.labels x y → ListSymbolsGives base source x (Accepted p.labels) y
-        unfolding symbols_answer symbols_rows write_rows and_then room_rows refuse_if
-        call_written w = record { answered = rw (listed, long holds, enough); written = rw (listed, write_rows, long holds, enough) w }
+        pub written_answer : accepted n ≡ symbols_answer base source x
+        unfolding symbols_answer and_then room_rows refuse_if
+        written_answer = rw (listed, long holds, enough, count) refl
+
+        pub written_rows : {y : Rows} → y ≡ holding_rows (in_order labels.table) x → y ≡ symbols_rows base source x
+        unfolding symbols_rows write_rows
+        written_rows w = rw (listed, write_rows, long holds, enough) w

@@ -1,24 +1,36 @@
--- `record_names` records none, one or two labels. Assumes nothing.
-use Rattle.first.proofs.Naming.{ready_first, named_0, named_1, named_2_full, ready_second, named_2}
+-- `record_names` records the labels one after another. Assumes nothing.
+use Rattle.std.proofs.lemmas.Result.{err_from_is_err_and}
+use Rattle.line.specs.Line.{names_of}
+use Rattle.first.proofs.Naming.{none_first, some_first, all_then, some_then}
 use Rattle.first.proofs.record_names.Goals as goal
 
-pub returns-then-total-eq0 : goal.returns-then-total-eq0
-returns-then-total-eq0 c = named_0 _ _ _ _ _ c.requires c.if-total-eq0.true
+pub returns-in_err-record_name-clause-full : goal.returns-in_err-record_name-clause-full
+returns-in_err-record_name-clause-full c =
+    let p = err_from_is_err_and c.from_residual.result c.from_residual.ensures.1 in
+    rw p.1 (λ k on. none_first (names_of c.args.labels.now.source c.args.names.first) _ _ _ on c.in_err-record_name.ensures.full)
 
-pub record_label-requires : goal.record_label-requires
-record_label-requires c = ready_first _ _ _ 0 _ c.requires
+pub returns-in_err-record_name-clause-some : goal.returns-in_err-record_name-clause-some
+returns-in_err-record_name-clause-some c = λ k on.
+    some_first (names_of c.args.labels.now.source c.args.names.first) _ _ _ on c.in_err-record_name.ensures.full c.in_err-record_name.ensures.some
 
-pub returns-then-total-eq1 : goal.returns-then-total-eq1
-returns-then-total-eq1 c = named_1 _ _ _ _ _ c.requires _ _ c.if-total-eq1.true c.record_label.ensures
+pub returns-in_err-record_name-2-clause-full : goal.returns-in_err-record_name-2-clause-full
+returns-in_err-record_name-2-clause-full c =
+    let p = err_from_is_err_and c.from_residual-in_err-record_name-2.result c.from_residual-in_err-record_name-2.ensures.1 in
+    rw p.1
+    (λ k on. all_then (names_of c.args.labels.now.source c.args.names.first) (names_of c.args.labels.now.source c.args.names.second) _ _ on c.in_ok-record_name.ensures.recorded
+    (rw c.in_ok-record_name.ensures.source at c.in_err-record_name-2.ensures.full))
 
-pub record_label-requires-2 : goal.record_label-requires-2
-record_label-requires-2 c = ready_first _ _ _ 0 _ c.requires
+pub returns-in_err-record_name-2-clause-some : goal.returns-in_err-record_name-2-clause-some
+returns-in_err-record_name-2-clause-some c = λ k on.
+    some_then (names_of c.args.labels.now.source c.args.names.first) (names_of c.args.labels.now.source c.args.names.second) _ _ on c.in_ok-record_name.ensures.recorded
+    (rw c.in_ok-record_name.ensures.source at c.in_err-record_name-2.ensures.some)
 
-pub returns-in_default : goal.returns-in_default
-returns-in_default c = named_2_full _ _ _ _ _ c.requires c.if-total-eq0.false c.if-total-eq1.false _ _ c.record_label-2.ensures c.in_default.is
+pub returns-clause-recorded : goal.returns-clause-recorded
+returns-clause-recorded c = λ k on.
+    all_then (names_of c.args.labels.now.source c.args.names.first) (names_of c.args.labels.now.source c.args.names.second) _ _ on c.in_ok-record_name.ensures.recorded
+    (rw c.in_ok-record_name.ensures.source at c.in_ok-record_name-2.ensures.recorded)
 
-pub record_label-requires-3 : goal.record_label-requires-3
-record_label-requires-3 c = ready_second _ _ _ _ _ c.requires c.if-total-eq0.false c.if-total-eq1.false _ _ c.record_label-2.ensures _ c.in-Count.is
-
-pub returns : goal.returns
-returns c = named_2 _ _ _ _ _ c.requires c.if-total-eq0.false c.if-total-eq1.false _ _ c.record_label-2.ensures _ c.in-Count.is _ _ c.record_label-3.ensures
+pub returns-clause-some : goal.returns-clause-some
+returns-clause-some c = λ k on.
+    some_then (names_of c.args.labels.now.source c.args.names.first) (names_of c.args.labels.now.source c.args.names.second) _ _ on c.in_ok-record_name.ensures.recorded
+    (rw c.in_ok-record_name.ensures.source at c.in_ok-record_name-2.ensures.some)

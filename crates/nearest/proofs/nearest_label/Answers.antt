@@ -1,19 +1,16 @@
 -- `nearest_label` goes by what the first pass answered. Assumes nothing.
-use Rattle.first.proofs.Lending.{lent_full}
-use Rattle.nearest.proofs.Told.{call_refused, call_rows, call_not_past, call_told}
+use Rattle.std.proofs.Common.{sym, ◌∙◌}
+use Rattle.std.proofs.lemmas.Result.{err_from_is_err_and}
+use Rattle.nearest.proofs.Told.{call_refused, call_at, call_nothing}
 use Rattle.nearest.proofs.nearest_label.Goals as goal
 
-pub enter-requires : goal.enter-requires
-enter-requires c = lent_full _
+pub returns-in_err-enter : goal.returns-in_err-enter
+returns-in_err-enter c =
+    let p = err_from_is_err_and c.from_residual.result c.from_residual.ensures.1 in
+    rw (p.1, p.2) (call_refused _ _ c.new-labels.ensures.source _ _ c.in_err-enter.ensures.answer)
 
-pub nearest_row-best-requires : goal.nearest_row-best-requires
-nearest_row-best-requires c = call_rows c.enter.ensures _ c.in-Done.is
+pub returns-in_default : goal.returns-in_default
+returns-in_default c = call_nothing _ _ c.new-labels.ensures.source c.in_ok-enter.ensures.answer (sym c.in_default.is ∙ c.nearest_row.ensures.nearest)
 
-pub tell_nearest-requires : goal.tell_nearest-requires
-tell_nearest-requires c = call_not_past c.enter.ensures _ c.in-Done.is _ c.nearest_row-best.ensures
-
-pub returns-in-Refused : goal.returns-in-Refused
-returns-in-Refused c = call_refused c.enter.ensures _ _ _ c.in-Refused.is
-
-pub returns-in-Done : goal.returns-in-Done
-returns-in-Done c = call_told c.enter.ensures _ c.in-Done.is _ c.nearest_row-best.ensures c.tell_nearest.ensures
+pub returns : goal.returns
+returns c = call_at _ _ c.new-labels.ensures.source c.in_ok-enter.ensures.answer _ (sym c.in-Some.is ∙ c.nearest_row.ensures.nearest)

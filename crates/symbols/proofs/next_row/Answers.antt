@@ -1,16 +1,13 @@
 -- `next_row` has before each row the next of the rows from there on. Assumes nothing.
-use native.Mathlib.Omega.{arith}
+use Rattle.std.proofs.Common.{arith}
 use Rattle.symbols.proofs.Next.{walk_start, walk_on, walk_end}
 use Rattle.symbols.proofs.next_row.Goals as goal
 
 pub loop-k-init : goal.loop-k-init
-loop-k-init c = walk_start _ _ _ c.no_row-best.ensures
-
-pub read_row-requires : goal.read_row-requires
-read_row-requires c = omega (arith, c.loop-k.invariant.within)
+loop-k-init c = walk_start c.args.labels.now.table _ _ (omega (arith, c.len-k.ensures.count))
 
 pub loop-k-preserved : goal.loop-k-preserved
-loop-k-preserved c = walk_on c.loop-k.invariant (omega arith) c.read_row.ensures c.earlier_row-best.ensures
+loop-k-preserved c = walk_on c.args.labels.now.table _ _ (omega arith) (omega (arith, c.len-k.ensures.count)) c.row.ensures c.earlier_row-best.ensures c.loop-k.invariant
 
 pub returns : goal.returns
-returns c = walk_end c.loop-k.invariant (omega arith)
+returns c = walk_end c.args.labels.now.table _ _ c.loop-k-test.false c.loop-k.invariant
