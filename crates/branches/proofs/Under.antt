@@ -1,14 +1,15 @@
 -- The mnemonics in use: which they are, and that their branches have conditions of 4 bits, whatever the table's bytes. Assumes nothing.
+use Rattle.std.specs.Prelude.{Option, None, Some}
+use Rattle.rules.specs.Option.{or_else}
 use Prim.Native.Nat.{ℕ, zero, suc, ◌<◌}
 use mathlib.Core.Path.{◌≡◌, refl, sym, ◌∙◌}
 use mathlib.Core.Bool.{Bool, true, false, not, ◌||◌, cond, false≢true}
-use mathlib.Core.Option.{Option, none, some, or_else}
 use mathlib.Core.List.{[], ◌∷◌}
 use native.Mathlib.Omega.{arith}
 use borrow.Author.Tests.{ltb-true, ltb-false, lt-ltb}
 use lib.Dec.{ltb}
 use Rattle.rules.specs.Text.{Text}
-use Rattle.rules.specs.Encode.{branch, other_mnemonics, mnemonics, operation_in}
+use Rattle.rules.specs.Encode.{branch, other_mnemonics, operation_in}
 use Rattle.rules.specs.Encode.{Operation as Ruled}
 use Rattle.requests.specs.Branches.{is_row, condition_of, broken, row_of, rows_from, rows, names_with}
 use Rattle.requests.proofs.Mnemonics.{in_both}
@@ -38,22 +39,11 @@ rows_conditions t (suc left) k = go (broken t k) refl (rows_conditions t left (s
     go false e ih = rw (row_condition t k e) ih
 
 -- the condition of a mnemonic in use is below 16: what the encoders ask
-pub small_condition : (lent : Bool) (t m : Text) (c : ℕ) → operation_in (names_in lent t) m ≡ some (branch c) → c < 16
+pub small_condition : (names : Option Text) (m : Text) (c : ℕ) → operation_in (names_in names) m ≡ Some (branch c) → c < 16
 unfolding names_in names_with rows or_else other_mnemonics
-small_condition false t m c e = condition_small m c e
-small_condition true t m c e = go (operation_in other_mnemonics m) refl (sym (in_both other_mnemonics (rows t) m) ∙ e)
+small_condition None m c e = condition_small m c e
+small_condition (Some t) m c e = go (operation_in other_mnemonics m) refl (sym (in_both other_mnemonics (rows t) m) ∙ e)
   where
-    go : (x : Option Ruled) → operation_in other_mnemonics m ≡ x → or_else x (operation_in (rows t) m) ≡ some (branch c) → c < 16
-    go none f g = ltb-true c 16 (found condition_below16 (rows t) m (branch c) (rows_conditions t 16 0) g)
-    go (some o) f g = ltb-true c 16 (found condition_below16 other_mnemonics m (branch c) refl (f ∙ g))
-
--- without a table, and with one
-pub names_own : (b : Bool) (t : Text) → not b ≡ true → mnemonics ≡ names_in b t
-unfolding names_in
-names_own true t e = absurd (false≢true e)
-names_own false t e = refl
-
-pub names_lent : (b : Bool) (t : Text) → not b ≡ false → names_with (rows t) ≡ names_in b t
-unfolding names_in
-names_lent true t e = refl
-names_lent false t e = absurd (false≢true (sym e))
+    go : (x : Option Ruled) → operation_in other_mnemonics m ≡ x → or_else x (operation_in (rows t) m) ≡ Some (branch c) → c < 16
+    go None f g = ltb-true c 16 (found condition_below16 (rows t) m (branch c) (rows_conditions t 16 0) g)
+    go (Some o) f g = ltb-true c 16 (found condition_below16 other_mnemonics m (branch c) refl (f ∙ g))

@@ -1,6 +1,5 @@
-mod Readings
-mod Displaced
-mod Shaped
-mod Operations
-mod Instructions
+pub mod Readings
+pub mod Shaped
+pub mod Operations
+pub mod Instructions
 pub mod Callers

@@ -1,25 +1,22 @@
--- An operation's words by its operands: how each way out of `encode_operation` answers. Assumes nothing.
+-- An operation's words by its operands, as the code counts them. Assumes nothing.
+use Rattle.std.specs.Prelude.{None}
 use Prim.Native.Nat.{ℕ, ◌≤◌}
-use mathlib.Core.Path.{◌≡◌, refl, sym, ap, ◌∙◌}
-use mathlib.Core.Option.{Option, none, bind}
+use mathlib.Core.Path.{◌≡◌, refl, ◌∙◌}
 use mathlib.Core.List.{List, [], ◌∷◌}
 use native.Mathlib.Omega.{arith}
 use lib.ListN.{length}
 use Rattle.rules.specs.Text.{Text, cut_at}
 use Rattle.rules.specs.Label.{Table}
-use Rattle.rules.specs.Encode.{Content, two, tst_row, jump_row, branch_row, encode_operation}
+use Rattle.rules.specs.Encode.{two, tst_row, jump_row, branch_row, encode_operation}
+use Rattle.opcode.specs.Operation.{ruled}
 use Rattle.opcode.specs.declared.mnemonic.Operation.{Operation}
-use Rattle.opcode.specs.declared.mnemonic.Operation.TheVariants.{Moveq, Move, Movea, Muls, Tst, Subq, Asl, Dbra, Nop, Simhalt, Add, Sub, Cmp, Jmp, Branch, Unknown}
-use Rattle.opcode.proofs.Callers.{ruled, named}
+use Rattle.opcode.specs.declared.mnemonic.Operation.TheVariants.{Moveq, Move, Movea, Muls, Tst, Subq, Asl, Dbra, Nop, Simhalt, Add, Sub, Cmp, Jmp, Branch}
 use Rattle.text.specs.declared.Span.{Span}
 use Rattle.text.specs.Spans.{span_text}
 use Rattle.instruction.specs.Split.{spans, summary, operands_in, operands_at}
 use Rattle.instruction.specs.declared.Operands.{Operands}
 use Rattle.instruction.proofs.Places.{operands_of_lem, two_operands, not_two, one_operand, not_one, some_operand, no_operand_lem}
-use Rattle.encode.specs.Code.{code_of}
-use Rattle.encode.specs.Operations.{Encodes, two_rows}
-use Rattle.encode.specs.declared.Code.{Code}
-use Rattle.encode.specs.declared.Code.TheVariants.{Nothing, Word}
+use Rattle.encode.specs.Operations.{two_rows}
 
 -- where the first operand stands lies in the text, also where there is none
 pub first_lies : (t : Text) (o : Operands) → o ≡ operands_at t → (o.first.start ≤ o.first.end) × (o.first.end ≤ length t)
@@ -39,84 +36,52 @@ pub record Paired (o : Operation) : Type 0 where
   pub not_tst : o ≡ Tst → ⊥
   pub not_jmp : o ≡ Jmp → ⊥
 
-two_none : {A : Type 0} (ps : List Text) → none ≡ two {A = A} (λ s t. none) ps
-unfolding two
-two_none [] = refl
-two_none (s ∷ []) = refl
-two_none (s ∷ t ∷ []) = refl
-two_none (s ∷ t ∷ u ∷ ps) = refl
+pairs : (ls : Table) (a : ℕ) (ps : List Text) (o : Operation) → Paired o → encode_operation ls a (ruled o) ps ≡ two (two_rows ls a o) ps
+unfolding encode_operation two_rows
+pairs ls a ps Moveq h = refl
+pairs ls a ps Move h = refl
+pairs ls a ps Movea h = refl
+pairs ls a ps Muls h = refl
+pairs ls a ps Subq h = refl
+pairs ls a ps Asl h = refl
+pairs ls a ps Dbra h = refl
+pairs ls a ps Add h = refl
+pairs ls a ps Sub h = refl
+pairs ls a ps Cmp h = refl
+pairs ls a ps Nop h = absurd (h.not_nop refl)
+pairs ls a ps Simhalt h = absurd (h.not_simhalt refl)
+pairs ls a ps (Branch c) h = absurd (h.not_branch c refl)
+pairs ls a ps Tst h = absurd (h.not_tst refl)
+pairs ls a ps Jmp h = absurd (h.not_jmp refl)
 
-module _ (ls : Table) (a : ℕ) (ps : List Text) where
-  -- the words of the operation that o stands for
-  abbrev words_of : Operation → Option (List Content)
-  words_of o = bind (ruled o) (λ p. encode_operation ls a p ps)
+module _ (ls : Table) (a : ℕ) (t : Text) (ops : Operands) (x : ops ≡ operands_at t) where
+  pub branch_none : (c : ℕ) → ops.count ≡ 0 → encode_operation ls a (ruled (Branch c)) (operands_in t) ≡ None
+  unfolding encode_operation
+  branch_none c n = no_operand_lem _ (operands_of_lem t ops x) (branch_row ls a c) n
 
-  pairs : (o : Operation) → Paired o → words_of o ≡ two (two_rows ls a o) ps
-  unfolding bind encode_operation two_rows
-  pairs Moveq h = refl
-  pairs Move h = refl
-  pairs Movea h = refl
-  pairs Muls h = refl
-  pairs Subq h = refl
-  pairs Asl h = refl
-  pairs Dbra h = refl
-  pairs Add h = refl
-  pairs Sub h = refl
-  pairs Cmp h = refl
-  pairs Unknown h = two_none ps
-  pairs Nop h = absurd (h.not_nop refl)
-  pairs Simhalt h = absurd (h.not_simhalt refl)
-  pairs (Branch c) h = absurd (h.not_branch c refl)
-  pairs Tst h = absurd (h.not_tst refl)
-  pairs Jmp h = absurd (h.not_jmp refl)
+  pub branch_some : (c : ℕ) → (ops.count ≡ 0 → ⊥) → encode_operation ls a (ruled (Branch c)) (operands_in t) ≡ branch_row ls a c (span_text t ops.first)
+  unfolding encode_operation
+  branch_some c n = some_operand _ (operands_of_lem t ops x) (branch_row ls a c) (omega arith)
 
-  -- an operation known by its words
-  encodes : {o : Operation} {r : Code} → r ≡ code_of (words_of o) → Encodes r ls a o ps
-  encodes h q e = rw (named q (sym e)) h
+  pub tst_none : (ops.count ≡ 1 → ⊥) → encode_operation ls a (ruled Tst) (operands_in t) ≡ None
+  unfolding encode_operation
+  tst_none n = not_one _ (operands_of_lem t ops x) tst_row n
 
-  known : {o v : Operation} {r : Code} → o ≡ v → r ≡ code_of (words_of v) → Encodes r ls a o ps
-  known e h = rw e (encodes h)
+  pub tst_one : ops.count ≡ 1 → encode_operation ls a (ruled Tst) (operands_in t) ≡ tst_row (span_text t ops.first)
+  unfolding encode_operation
+  tst_one n = one_operand _ (operands_of_lem t ops x) tst_row n
 
-  -- ---- the ways out
-  pub nop : {o : Operation} → o ≡ Nop → Encodes (Word 0x4E71) ls a o ps
-  unfolding bind encode_operation
-  nop e = known e refl
+  pub jmp_none : (ops.count ≡ 1 → ⊥) → encode_operation ls a (ruled Jmp) (operands_in t) ≡ None
+  unfolding encode_operation
+  jmp_none n = not_one _ (operands_of_lem t ops x) (jump_row ls) n
 
-  pub simhalt : {o : Operation} → o ≡ Simhalt → Encodes (Word 0x4E72) ls a o ps
-  unfolding bind encode_operation
-  simhalt e = known e refl
+  pub jmp_one : ops.count ≡ 1 → encode_operation ls a (ruled Jmp) (operands_in t) ≡ jump_row ls (span_text t ops.first)
+  unfolding encode_operation
+  jmp_one n = one_operand _ (operands_of_lem t ops x) (jump_row ls) n
 
-module _ (ls : Table) (a : ℕ) (t : Text) (ops : Operands) (x : ops ≡ operands_at t) {o : Operation} where
-  module _ {c : ℕ} (e : o ≡ Branch c) where
-    pub branch_none : ops.count ≡ 0 → Encodes Nothing ls a o (operands_in t)
-    unfolding bind encode_operation
-    branch_none n = known ls a (operands_in t) e (ap code_of (sym (no_operand_lem _ (operands_of_lem t ops x) (branch_row ls a c) n)))
+  module _ (o : Operation) (p : Paired o) where
+    pub no_pair : (ops.count ≡ 2 → ⊥) → encode_operation ls a (ruled o) (operands_in t) ≡ None
+    no_pair n = pairs ls a (operands_in t) o p ∙ not_two _ (operands_of_lem t ops x) (two_rows ls a o) n
 
-    pub branch_some : {r : Code} → (ops.count ≡ 0 → ⊥) → r ≡ code_of (branch_row ls a c (span_text t ops.first)) → Encodes r ls a o (operands_in t)
-    unfolding bind encode_operation
-    branch_some n h = known ls a (operands_in t) e (h ∙ ap code_of (sym (some_operand _ (operands_of_lem t ops x) (branch_row ls a c) (omega arith))))
-
-  module _ (e : o ≡ Tst) where
-    pub tst_none : (ops.count ≡ 1 → ⊥) → Encodes Nothing ls a o (operands_in t)
-    unfolding bind encode_operation
-    tst_none n = known ls a (operands_in t) e (ap code_of (sym (not_one _ (operands_of_lem t ops x) tst_row n)))
-
-    pub tst_one : {r : Code} → ops.count ≡ 1 → r ≡ code_of (tst_row (span_text t ops.first)) → Encodes r ls a o (operands_in t)
-    unfolding bind encode_operation
-    tst_one n h = known ls a (operands_in t) e (h ∙ ap code_of (sym (one_operand _ (operands_of_lem t ops x) tst_row n)))
-
-  module _ (e : o ≡ Jmp) where
-    pub jmp_none : (ops.count ≡ 1 → ⊥) → Encodes Nothing ls a o (operands_in t)
-    unfolding bind encode_operation
-    jmp_none n = known ls a (operands_in t) e (ap code_of (sym (not_one _ (operands_of_lem t ops x) (jump_row ls) n)))
-
-    pub jmp_one : {r : Code} → ops.count ≡ 1 → r ≡ code_of (jump_row ls (span_text t ops.first)) → Encodes r ls a o (operands_in t)
-    unfolding bind encode_operation
-    jmp_one n h = known ls a (operands_in t) e (h ∙ ap code_of (sym (one_operand _ (operands_of_lem t ops x) (jump_row ls) n)))
-
-  module _ (p : Paired o) where
-    pub no_pair : (ops.count ≡ 2 → ⊥) → Encodes Nothing ls a o (operands_in t)
-    no_pair n = encodes ls a (operands_in t) (ap code_of (sym (pairs ls a (operands_in t) o p ∙ not_two _ (operands_of_lem t ops x) (two_rows ls a o) n)))
-
-    pub pair : {r : Code} → ops.count ≡ 2 → r ≡ code_of (two_rows ls a o (span_text t ops.first) (span_text t ops.second)) → Encodes r ls a o (operands_in t)
-    pair n h = encodes ls a (operands_in t) (h ∙ ap code_of (sym (pairs ls a (operands_in t) o p ∙ two_operands _ (operands_of_lem t ops x) (two_rows ls a o) n)))
+    pub pair : ops.count ≡ 2 → encode_operation ls a (ruled o) (operands_in t) ≡ two_rows ls a o (span_text t ops.first) (span_text t ops.second)
+    pair n = pairs ls a (operands_in t) o p ∙ two_operands _ (operands_of_lem t ops x) (two_rows ls a o) n

@@ -1,52 +1,79 @@
--- Operands read one by one: what fails answers no word, what is read goes on; low bits and JMP's operand. Assumes nothing.
-use mathlib.Core.Path.{◌≡◌, sym, ◌∙◌}
-use mathlib.Core.Bool.{true, false, ◌||◌}
-use mathlib.Core.Option.{Option, none, some, bind, or_else}
-use Prim.Native.Nat.{◌%◌}
+-- Operands read one by one; low bits, displacements and JMP's operand. Assumes nothing.
+use Rattle.std.specs.Prelude.{Option, None, Some, Result}
+use Rattle.std.specs.Result.{result_ok, is_ok}
+use Rattle.rules.specs.Option.{bind}
+use mathlib.Core.Path.{◌≡◌, refl, sym, ◌∙◌}
+use Prim.Native.Nat.{ℕ, ◌%◌, ◌<◌, ◌^◌}
 use lib.Bits.{and_mask}
 use lib.IntN.{ℤ}
 use Rattle.rules.specs.Text.{Text}
-use Rattle.rules.specs.Number.{modulo, hex_tail, number16}
-use Rattle.rules.specs.Label.{Table, find}
-use Rattle.rules.specs.Encode.{is_some, all_digits, jumps, jump_row}
+use Rattle.rules.specs.Number.{Reading, read, failed, modulo, value_of, reading16, reading8, immediate, imm16, imm8}
+use Rattle.rules.specs.Encode.{data_register, address_register, indirect, is_some}
+use Rattle.rules.proofs.Readings.{imm16_all, all_some}
+use Rattle.numeral.specs.Number.{result_of, number_of, immediate_of, signed_immediate_of}
+use Rattle.numeral.specs.declared.Failure.{Failure}
 use Rattle.numeral.proofs.Sign.{low_three}
-use Rattle.encode.specs.Code.{code_of}
-use Rattle.encode.specs.declared.Code.TheVariants.{Nothing, Word}
+use Rattle.opcode.proofs.Callers.{data_small, address_small, indirect_small}
 
--- a reading, then what is made of it; g is what the code makes of an answer
-module _ {A B C : Type 0} (g : Option B → C) (o : Option A) (f : A → Option B) where
-  pub stops : o ≡ none → g none ≡ g (bind o f)
-  unfolding bind
-  stops e = rw e
+-- a register that is read is 0 to 7
+pub data_below : (t : Text) (n : ℕ) → data_register t ≡ Some n → n < 8
+data_below t n e = data_small t n e
 
-  pub goes : {v : A} {c : C} → o ≡ some v → c ≡ g (f v) → c ≡ g (bind o f)
-  unfolding bind
-  goes e h = rw e h
+pub address_below : (t : Text) (n : ℕ) → address_register t ≡ Some n → n < 8
+address_below t n e = address_small t n e
 
--- o, else p
-pub skips : {A C : Type 0} (g : Option A → C) (o p : Option A) {c : C} → o ≡ none → c ≡ g p → c ≡ g (or_else o p)
-unfolding or_else
-skips g o p e h = rw e h
+pub indirect_below : (t : Text) (n : ℕ) → indirect t ≡ Some n → n < 8
+indirect_below t n e = indirect_small t n e
+
+-- the value of a reading, as `ok` gives it
+pub value_is : {A : Type 0} (r : Reading A) → value_of r ≡ result_ok (result_of r)
+unfolding value_of
+value_is (read a) = refl
+value_is (failed x) = refl
+
+pub number_read : (r : Reading ℕ) → is_some (value_of r) ≡ is_ok (number_of r)
+unfolding value_of is_some
+number_read (read v) = refl
+number_read (failed x) = refl
+
+-- an immediate, as the code has it
+module _ (s : Text) {x : Option (Result ℕ Failure)} (e : x ≡ immediate_of (immediate reading16 s)) where
+  pub imm16_none : None ≡ x → None ≡ imm16 s
+  unfolding imm16 bind
+  imm16_none h = go (immediate reading16 s) (h ∙ e)
+    where
+      go : (o : Option (Reading ℕ)) → None ≡ immediate_of o → None ≡ bind o value_of
+      go None q = refl
+      go (Some r) q = cc
+
+  pub imm16_is : {r : Result ℕ Failure} → x ≡ Some r → imm16 s ≡ result_ok r
+  unfolding imm16 bind
+  imm16_is {r} h = go (immediate reading16 s) (sym e ∙ h)
+    where
+      go : (o : Option (Reading ℕ)) → immediate_of o ≡ Some r → bind o value_of ≡ result_ok r
+      go None q = cc
+      go (Some y) q = let k : result_of y ≡ r = cc in rw (value_is y, k)
+
+pub imm16_below : (s : Text) (v : ℕ) → imm16 s ≡ Some v → v < 2 ^ 16
+imm16_below s v e = all_some (λ (w : ℕ). w < 2 ^ 16) (imm16_all s) e
+
+module _ (s : Text) {x : Option (Result ℤ Failure)} (e : x ≡ signed_immediate_of (immediate reading8 s)) where
+  pub imm8_none : None ≡ x → None ≡ imm8 s
+  unfolding imm8 bind
+  imm8_none h = go (immediate reading8 s) (h ∙ e)
+    where
+      go : (o : Option (Reading ℤ)) → None ≡ signed_immediate_of o → None ≡ bind o value_of
+      go None q = refl
+      go (Some r) q = cc
+
+  pub imm8_is : {r : Result ℤ Failure} → x ≡ Some r → imm8 s ≡ result_ok r
+  unfolding imm8 bind
+  imm8_is {r} h = go (immediate reading8 s) (sym e ∙ h)
+    where
+      go : (o : Option (Reading ℤ)) → signed_immediate_of o ≡ Some r → bind o value_of ≡ result_ok r
+      go None q = cc
+      go (Some y) q = let k : result_of y ≡ r = cc in rw (value_is y, k)
 
 -- the low three bits of a number are those of its low byte
 pub low_three_of_byte : (z : ℤ) → modulo 256 z % 8 ≡ modulo 8 z
 low_three_of_byte z = sym (and_mask (modulo 256 z) 3) ∙ low_three z
-
--- ---- JMP: a number where the operand looks like one, else a label
-module _ (ls : Table) (t : Text) where
-  pub by_number : (is_some (hex_tail t) || all_digits t) ≡ true → jumps ls t ≡ is_some (number16 t)
-  unfolding jumps
-  by_number e = rw e
-
-  pub by_label : (is_some (hex_tail t) || all_digits t) ≡ false → jumps ls t ≡ is_some (find t ls)
-  unfolding jumps
-  by_label e = rw e
-
-  module _ {A : Type 0} {o : Option A} (e : jumps ls t ≡ is_some o) where
-    pub jump : {v : A} → o ≡ some v → Word 0x4EF8 ≡ code_of (jump_row ls t)
-    unfolding jump_row is_some
-    jump h = rw (e, h)
-
-    pub no_jump : o ≡ none → Nothing ≡ code_of (jump_row ls t)
-    unfolding jump_row is_some
-    no_jump h = rw (e, h)

@@ -1,7 +1,9 @@
 -- The cells that an encoder gives: none, a word, a word and a value, or a word and a label's address. Assumes nothing.
+use Rattle.std.specs.Prelude.{Option, None, Some}
+use Rattle.std.specs.Option.{option_or}
+use Rattle.rules.specs.Option.{bind, or_else}
 use mathlib.Core.Path.{◌≡◌, refl}
 use mathlib.Core.Bool.{Bool, true, false, cond}
-use mathlib.Core.Option.{Option, none, some, bind, or_else}
 use mathlib.Core.List.{List, [], ◌∷◌}
 use Prim.Native.Nat.{ℕ}
 use Rattle.rules.specs.Text.{Text}
@@ -11,45 +13,30 @@ use Rattle.rules.specs.Encode.{Content, literal, address, Operation, moveq, move
 use Rattle.rules.specs.Encode.{two, one, one_or_more, jumps, word, with_label, registers_row, high_row, low_row, from_indirect, to_indirect, from_label, to_label, move_rows, movea_row, muls_rows, cmp_rows, moveq_row, quick_row, tst_row, jump_row, dbra_row, branch_row, encode_operation, Mnemonic, encode_by}
 use Rattle.encode.specs.Code.{code_of}
 use Rattle.encode.specs.declared.Code.{Code}
-use Rattle.encode.specs.declared.Code.TheVariants.{Nothing}
 
 pub data Shaped : Option (List Content) → Type 0 where
-  no_word : Shaped none
-  one_word : (w : ℕ) → Shaped (some (literal w ∷ []))
-  with_value : (w v : ℕ) → Shaped (some (literal w ∷ literal v ∷ []))
-  with_address : (w x : ℕ) → Shaped (some (literal w ∷ address x ∷ []))
-
--- no code, no cells
-pub absent : {o : Option (List Content)} {c : Code} → Shaped o → c ≡ code_of o → c ≡ Nothing → o ≡ none
-absent no_word e n = refl
-absent (one_word w) e n = cc
-absent (with_value w v) e n = cc
-absent (with_address w x) e n = cc
+  no_word : Shaped None
+  one_word : (w : ℕ) → Shaped (Some (literal w ∷ []))
+  with_value : (w v : ℕ) → Shaped (Some (literal w ∷ literal v ∷ []))
+  with_address : (w x : ℕ) → Shaped (Some (literal w ∷ address x ∷ []))
 
 shaped_bind : {A : Type 0} (o : Option A) (f : A → Option (List Content)) → ((x : A) → Shaped (f x)) → Shaped (bind o f)
 unfolding bind
-shaped_bind none f h = no_word
-shaped_bind (some x) f h = h x
+shaped_bind None f h = no_word
+shaped_bind (Some x) f h = h x
 
 shaped_else : (o p : Option (List Content)) → Shaped o → Shaped p → Shaped (or_else o p)
 unfolding or_else
-shaped_else none p h k = k
-shaped_else (some x) p h k = h
+shaped_else None p h k = k
+shaped_else (Some x) p h k = h
 
--- ---- rows tried in order: o, then p
--- a code that is not Nothing
-abbrev pub HasWords : Code → Type 0
-HasWords c = c ≡ Nothing → ⊥
-
-module _ (o p : Option (List Content)) where
-  -- o gives words
-  pub first_row : {c : Code} → c ≡ code_of o → HasWords c → c ≡ code_of (or_else o p)
-  unfolding or_else
-  first_row {c} e h = go o e
-    where
-      go : (q : Option (List Content)) → c ≡ code_of q → c ≡ code_of (or_else q p)
-      go none e = absurd (h e)
-      go (some x) e = e
+-- rows tried in order, as the code tries them: no code, no cells
+pub tried : {o : Option (List Content)} (p : Option (List Content)) → Shaped o → code_of (or_else o p) ≡ option_or (code_of o) (code_of p)
+unfolding or_else
+tried p no_word = refl
+tried p (one_word w) = refl
+tried p (with_value w v) = refl
+tried p (with_address w x) = refl
 
 -- ---- the rows
 shaped_label : (ls : Table) (w : ℕ) (l : Text) → Shaped (with_label ls w l)
@@ -121,7 +108,7 @@ shaped_jump : (ls : Table) (s : Text) → Shaped (jump_row ls s)
 unfolding jump_row
 shaped_jump ls s = go (jumps ls s)
   where
-    go : (b : Bool) → Shaped (cond b (word 0x4EF8) none)
+    go : (b : Bool) → Shaped (cond b (word 0x4EF8) None)
     go true = one_word _
     go false = no_word
 
@@ -176,3 +163,21 @@ module _ (ls : Table) (a : ℕ) where
   pub shaped_encode : (ns : List Mnemonic) (i : Instruction) → Shaped (encode_by ns ls a i)
   unfolding encode_by
   shaped_encode ns i = shaped_bind _ _ (λ o. shaped_operation o i.operands)
+
+-- MOVE's rows, as the code tries them
+pub moved : (ls : Table) (s t : Text)
+    → code_of (move_rows ls s t)
+    ≡ option_or (option_or (option_or (option_or (option_or (code_of (high_row 0x21FC s t)) (code_of (from_indirect s t))) (code_of (to_indirect s t))) (code_of (registers_row 0x3000 s t)))
+    (code_of (from_label ls s t)))
+    (code_of (to_label ls s t))
+unfolding move_rows
+moved ls s t =
+    rw (tried _ (shaped_high 0x21FC s t), tried _ (shaped_from_indirect s t), tried _ (shaped_to_indirect s t), tried _ (shaped_registers 0x3000 s t), tried _ (shaped_from_label ls s t))
+    (left (code_of (high_row 0x21FC s t)) (code_of (from_indirect s t)) (code_of (to_indirect s t)) (code_of (registers_row 0x3000 s t)) _ _)
+  where
+    left : (a b c d e f : Option Code) → option_or a (option_or b (option_or c (option_or d (option_or e f)))) ≡ option_or (option_or (option_or (option_or (option_or a b) c) d) e) f
+    left (Some x) b c d e f = refl
+    left None (Some x) c d e f = refl
+    left None None (Some x) d e f = refl
+    left None None None (Some x) e f = refl
+    left None None None None e f = refl

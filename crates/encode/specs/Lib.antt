@@ -1,4 +1,3 @@
 pub mod Code
 pub mod Near
-pub mod Displacement
 pub mod Operations

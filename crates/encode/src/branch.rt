@@ -1,118 +1,65 @@
 // Branches and DBRA: the displacement, of a label in reach or as written.
-ghost use Rattle.std.specs.Prelude.{◌≡◌, ◌||◌, ◌<◌};
-ghost use Rattle.std.proofs.Math.Option.{bind};
-ghost use Rattle.rules.specs.Text.{bytes, starts};
+ghost use Rattle.std.specs.Prelude.{◌≡◌, ◌<◌};
+ghost use Rattle.rules.specs.Option.{bind};
 ghost use Rattle.rules.specs.Label.{find};
-ghost use Rattle.rules.specs.Encode.{reach, written_reading, dbra_row, branch_row};
-ghost use Rattle.numeral.specs.Number.{reach_of};
-ghost use Rattle.label.specs.Table.{table_of};
+ghost use Rattle.rules.specs.Encode.{reach, written_signed, displacement, dbra_row, branch_row};
 ghost use Rattle.encode.specs.Code.{code_of};
 ghost use Rattle.encode.specs.Near.{Near};
-ghost use Rattle.encode.specs.Displacement.{displacement_of, displacement_reading};
 
 use crate::Code;
-use label::Address;
-use numeral::Failure;
-use numeral::signed::{Reach, Signed};
-use opcode::register::Register;
-
-// A branch's displacement.
-#[derive(Clone, Copy)]
-pub enum Displacement {
-    Value(i32),
-    // The operand starts with a sign, and this failed in its number.
-    Failed(Failure),
-    // Neither a label in reach nor an operand that starts with a sign.
-    Nothing,
-}
-
-// Whether an operand starts with a sign.
-fn is_signed(t: &[u8]) -> bool
-    ensures { result ≡ (starts (bytes "+") t.now || starts (bytes "-") t.now) }
-{
-    if text::starts_with(t, b"+") {
-        return true;
-    }
-    text::starts_with(t, b"-")
-}
+use label::Labels;
+use numeral::signed::{low_byte, read_signed};
+use opcode::register::parse_data_register;
+use opcode::word::{branch_word, with_low};
 
 // An operand starting with a sign, read as a signed number.
-pub fn written_signed(t: &[u8]) -> Displacement
-    ensures { result ≡ displacement_of (written_reading t.now) }
+#[tactic(auto, using(crate::proofs::Readings::value_is), unfolding(rules::specs::Encode::written_signed, rules::specs::Encode::written_reading, rules::specs::Option::bind, rules::specs::Text::bytes))]
+fn written_signed(t: &[u8]) -> Option<i32>
+    ensures { result ≡ written_signed t.now }
 {
-    if !is_signed(t) {
-        return Displacement::Nothing;
-    }
-    match numeral::signed::read_signed(t, 10, 128) {
-        Signed::Value(d) => Displacement::Value(d),
-        Signed::Failed(f) => Displacement::Failed(f),
+    if text::starts_with(t, b"+") || text::starts_with(t, b"-") {
+        read_signed(t, 10, 128).ok()
+    } else {
+        None
     }
 }
 
-// From an instruction to the label that its operand names.
-pub fn label_reach(source: &[u8], table: &[u32], labels: usize, address: u32, t: &[u8]) -> Reach
-    requires { Near source.now table.now labels address }
-    ensures { result ≡ reach_of (bind (find t.now (table_of source.now table.now labels)) (λ x. reach x address)) }
+// From an instruction to the label that its operand names, if it is in reach.
+#[tactic(auto, using(label::proofs::Rows::below_found), unfolding(rules::specs::Option::bind))]
+fn label_reach(labels: &Labels<'_>, address: u32, t: &[u8]) -> Option<i32>
+    requires { Near labels.now.table address }
+    ensures { result ≡ bind (find t.now labels.now.table) (λ x. reach x address) }
 {
-    let Address::At(a) = label::find_label(source, table, labels, t) else {
-        return Reach::Outside;
-    };
-    numeral::signed::displacement(a, address)
+    let target = labels.find(t)?;
+    numeral::signed::displacement(target, address)
 }
 
 // A branch's displacement: of a label in reach, else as written.
-pub fn parse_branch_displacement(
-    source: &[u8],
-    table: &[u32],
-    labels: usize,
-    address: u32,
-    t: &[u8],
-) -> Displacement
-    requires { Near source.now table.now labels address }
-    ensures { result ≡ displacement_of (displacement_reading (table_of source.now table.now labels) address t.now) }
+#[tactic(auto, unfolding(rules::specs::Encode::displacement, rules::specs::Option::bind, rules::specs::Option::or_else))]
+fn parse_branch_displacement(labels: &Labels<'_>, address: u32, t: &[u8]) -> Option<i32>
+    requires { Near labels.now.table address }
+    ensures { result ≡ displacement labels.now.table address t.now }
 {
-    let reached = label_reach(source, table, labels, address, t);
-    if let Reach::Value(d) = reached {
-        return Displacement::Value(d);
-    }
-    written_signed(t)
+    label_reach(labels, address, t).or_else(|| written_signed(t))
 }
 
 // The condition and the displacement in one word.
-pub fn encode_branch(
-    source: &[u8],
-    table: &[u32],
-    labels: usize,
-    address: u32,
-    condition: u8,
-    t: &[u8],
-) -> Code
-    requires { Near source.now table.now labels address × (condition < 16) }
-    ensures { result ≡ code_of (branch_row (table_of source.now table.now labels) address condition t.now) }
+#[tactic(auto, unfolding(rules::specs::Encode::branch_row, rules::specs::Option::bind))]
+pub fn encode_branch(labels: &Labels<'_>, address: u32, condition: u8, t: &[u8]) -> Option<Code>
+    requires { Near labels.now.table address × (condition < 16) }
+    ensures { result ≡ code_of (branch_row labels.now.table address condition t.now) }
 {
-    let Displacement::Value(d) = parse_branch_displacement(source, table, labels, address, t) else {
-        return Code::Nothing;
-    };
-    Code::Word(opcode::word::branch_word(condition, numeral::signed::low_byte(d)))
+    let d = parse_branch_displacement(labels, address, t)?;
+    Some(Code::Word(branch_word(condition, low_byte(d))))
 }
 
 // DBRA Dn,d: the displacement must be there, and is in no word.
-pub fn encode_dbra(
-    source: &[u8],
-    table: &[u32],
-    labels: usize,
-    address: u32,
-    s: &[u8],
-    t: &[u8],
-) -> Code
-    requires { Near source.now table.now labels address }
-    ensures { result ≡ code_of (dbra_row (table_of source.now table.now labels) address s.now t.now) }
+#[tactic(auto, using(crate::proofs::Readings::data_below), unfolding(rules::specs::Encode::dbra_row, rules::specs::Option::bind))]
+pub fn encode_dbra(labels: &Labels<'_>, address: u32, s: &[u8], t: &[u8]) -> Option<Code>
+    requires { Near labels.now.table address }
+    ensures { result ≡ code_of (dbra_row labels.now.table address s.now t.now) }
 {
-    let Register::At(n) = opcode::register::parse_data_register(s) else {
-        return Code::Nothing;
-    };
-    let Displacement::Value(_) = parse_branch_displacement(source, table, labels, address, t) else {
-        return Code::Nothing;
-    };
-    Code::Word(opcode::word::with_low(0x51C8, n))
+    let n = parse_data_register(s)?;
+    parse_branch_displacement(labels, address, t)?;
+    Some(Code::Word(with_low(0x51C8, n)))
 }

@@ -2,108 +2,67 @@
 ghost use Rattle.std.specs.Prelude.{◌≤◌, ◌≡◌, length, drop};
 ghost use Rattle.rules.specs.Limits.{max_source};
 ghost use Rattle.rules.specs.Text.{pieces, joined};
-ghost use Rattle.rules.specs.Assemble.{over};
-ghost use Rattle.label.specs.Table.{table_of};
+ghost use Rattle.rules.specs.Encode.{encode_operation};
 ghost use Rattle.instruction.specs.Split.{operands_in};
+ghost use Rattle.opcode.specs.Operation.{ruled};
+ghost use Rattle.encode.specs.Code.{code_of};
 ghost use Rattle.encode.specs.Near.{Near};
-ghost use Rattle.encode.specs.Operations.{Conditioned, Encodes};
+ghost use Rattle.encode.specs.Operations.{Conditioned};
 
 use crate::{Code, encode_tail};
+use label::Labels;
 use opcode::mnemonic::Operation;
 
 // The words of an operation, by a copy of the tail that starts at `at`.
 fn encode_joined(
-    source: &[u8],
-    table: &[u32],
-    labels: usize,
+    labels: &Labels<'_>,
     address: u32,
     o: Operation,
     t: &[u8],
     at: usize,
     scratch: &mut [u8],
-) -> Code
-    requires near { Near source.now table.now labels address × Conditioned o }
+) -> Option<Code>
+    requires near { Near labels.now.table address × Conditioned o }
     requires at_in_bounds { (at ≤ length t.now) × (length t.now ≤ length scratch.old) }
-    ensures encodes { Encodes result (table_of source.now table.now labels) address o (operands_in (joined (pieces (drop at t.now)))) }
-    ensures scratch_after { scratch.new ≡ over (joined (pieces (drop at t.now))) scratch.old }
+    ensures { result ≡ code_of (encode_operation labels.now.table address (ruled o) (operands_in (joined (pieces (drop at t.now))))) }
 {
     let n = instruction::join_pieces(t, at, scratch);
-    encode_tail(source, table, labels, address, o, &scratch[..n])
+    encode_tail(labels, address, o, &scratch[..n])
 }
 
-// The same for a short text: the copy has little room, so that little is cleared.
-fn encode_short(
-    source: &[u8],
-    table: &[u32],
-    labels: usize,
+// The same, the copy in an array of its own: only so much is cleared as a text of this length may need.
+fn encode_in<const ROOM: usize>(
+    labels: &Labels<'_>,
     address: u32,
     o: Operation,
     t: &[u8],
     at: usize,
-) -> Code
-    requires near { Near source.now table.now labels address × Conditioned o }
-    requires at_in_bounds { (at ≤ length t.now) × (length t.now ≤ 64) }
-    ensures { Encodes result (table_of source.now table.now labels) address o (operands_in (joined (pieces (drop at t.now)))) }
+) -> Option<Code>
+    requires near { Near labels.now.table address × Conditioned o }
+    requires at_in_bounds { (at ≤ length t.now) × (length t.now ≤ ROOM) }
+    requires room { ROOM ≤ max_source }
+    ensures { result ≡ code_of (encode_operation labels.now.table address (ruled o) (operands_in (joined (pieces (drop at t.now))))) }
 {
-    let mut scratch = [0u8; 64];
-    encode_joined(source, table, labels, address, o, t, at, &mut scratch)
+    let mut scratch = [0u8; ROOM];
+    encode_joined(labels, address, o, t, at, &mut scratch)
 }
 
-// For a longer one.
-fn encode_long(
-    source: &[u8],
-    table: &[u32],
-    labels: usize,
-    address: u32,
-    o: Operation,
-    t: &[u8],
-    at: usize,
-) -> Code
-    requires near { Near source.now table.now labels address × Conditioned o }
-    requires at_in_bounds { (at ≤ length t.now) × (length t.now ≤ 1024) }
-    ensures { Encodes result (table_of source.now table.now labels) address o (operands_in (joined (pieces (drop at t.now)))) }
-{
-    let mut scratch = [0u8; 1024];
-    encode_joined(source, table, labels, address, o, t, at, &mut scratch)
-}
-
-// For one of any length that a source has.
-fn encode_longest(
-    source: &[u8],
-    table: &[u32],
-    labels: usize,
-    address: u32,
-    o: Operation,
-    t: &[u8],
-    at: usize,
-) -> Code
-    requires near { Near source.now table.now labels address × Conditioned o }
-    requires at_in_bounds { (at ≤ length t.now) × (length t.now ≤ max_source) }
-    ensures { Encodes result (table_of source.now table.now labels) address o (operands_in (joined (pieces (drop at t.now)))) }
-{
-    let mut scratch = [0u8; rules::MAX_SOURCE];
-    encode_joined(source, table, labels, address, o, t, at, &mut scratch)
-}
-
-// By the room that the copy takes.
+// By the room that the copy takes. It is not inlined, so that its arrays are on the stack only where a tail is copied.
+#[inline(never)]
 pub fn encode_copied(
-    source: &[u8],
-    table: &[u32],
-    labels: usize,
+    labels: &Labels<'_>,
     address: u32,
     o: Operation,
     t: &[u8],
     at: usize,
-) -> Code
-    requires near { Near source.now table.now labels address × Conditioned o }
+) -> Option<Code>
+    requires near { Near labels.now.table address × Conditioned o }
     requires at_in_bounds { (at ≤ length t.now) × (length t.now ≤ max_source) }
-    ensures { Encodes result (table_of source.now table.now labels) address o (operands_in (joined (pieces (drop at t.now)))) }
+    ensures { result ≡ code_of (encode_operation labels.now.table address (ruled o) (operands_in (joined (pieces (drop at t.now))))) }
 {
-    if t.len() <= 64 {
-        return encode_short(source, table, labels, address, o, t, at);
+    match t.len() {
+        0..=64 => encode_in::<64>(labels, address, o, t, at),
+        65..=1024 => encode_in::<1024>(labels, address, o, t, at),
+        _ => encode_in::<{ rules::MAX_SOURCE }>(labels, address, o, t, at),
     }
-    if t.len() <= 1024 {
-        return encode_long(source, table, labels, address, o, t, at);
-    }
-    encode_longest(source, table, labels, address, o, t, at)
 }

@@ -4,133 +4,106 @@ ghost use Rattle.rules.specs.Encode.{registers_row, high_row, low_row, from_indi
 ghost use Rattle.encode.specs.Code.{code_of};
 
 use crate::Code;
-use numeral::signed::SignedImmediate;
-use numeral::unsigned::Immediate;
-use opcode::register::Register;
+use numeral::signed::{low_byte, parse_immediate};
+use numeral::unsigned::parse_immediate_u16;
+use opcode::register::{parse_data_register, parse_indirect_register};
+use opcode::word::{moveq_word, quick_word, with_high, with_low, with_registers};
 
 // Dn,Dm.
-pub fn encode_registers(opcode: u16, s: &[u8], t: &[u8]) -> Code
+#[tactic(auto, using(crate::proofs::Readings::data_below), unfolding(rules::specs::Encode::registers_row, rules::specs::Option::bind))]
+pub fn encode_registers(opcode: u16, s: &[u8], t: &[u8]) -> Option<Code>
     requires { (opcode / 512 % 8 ≡ 0) × (opcode % 8 ≡ 0) }
     ensures { result ≡ code_of (registers_row opcode s.now t.now) }
 {
-    let Register::At(n) = opcode::register::parse_data_register(s) else {
-        return Code::Nothing;
-    };
-    let Register::At(m) = opcode::register::parse_data_register(t) else {
-        return Code::Nothing;
-    };
-    Code::Word(opcode::word::with_registers(opcode, m, n))
+    let n = parse_data_register(s)?;
+    let m = parse_data_register(t)?;
+    Some(Code::Word(with_registers(opcode, m, n)))
 }
 
 // #i8,Dn.
-pub fn encode_moveq(s: &[u8], t: &[u8]) -> Code
+#[tactic(auto, using(crate::proofs::Readings::data_below, crate::proofs::Readings::imm8_none, crate::proofs::Readings::imm8_is), unfolding(rules::specs::Encode::moveq_row, rules::specs::Option::bind))]
+pub fn encode_moveq(s: &[u8], t: &[u8]) -> Option<Code>
     ensures { result ≡ code_of (moveq_row s.now t.now) }
 {
-    let SignedImmediate::Value(v) = numeral::signed::parse_immediate(s) else {
-        return Code::Nothing;
-    };
-    let Register::At(n) = opcode::register::parse_data_register(t) else {
-        return Code::Nothing;
-    };
-    Code::Word(opcode::word::moveq_word(n, numeral::signed::low_byte(v)))
+    let v = parse_immediate(s)?.ok()?;
+    let n = parse_data_register(t)?;
+    Some(Code::Word(moveq_word(n, low_byte(v))))
 }
 
 // SUBQ and ASL.
-pub fn encode_quick(opcode: u16, s: &[u8], t: &[u8]) -> Code
+#[tactic(auto, using(crate::proofs::Readings::data_below, crate::proofs::Readings::imm8_none, crate::proofs::Readings::imm8_is, crate::proofs::Readings::low_three_of_byte), unfolding(rules::specs::Encode::quick_row, rules::specs::Option::bind))]
+pub fn encode_quick(opcode: u16, s: &[u8], t: &[u8]) -> Option<Code>
     requires { (opcode / 512 % 8 ≡ 0) × (opcode % 8 ≡ 0) }
     ensures { result ≡ code_of (quick_row opcode s.now t.now) }
 {
-    let SignedImmediate::Value(v) = numeral::signed::parse_immediate(s) else {
-        return Code::Nothing;
-    };
-    let Register::At(n) = opcode::register::parse_data_register(t) else {
-        return Code::Nothing;
-    };
-    Code::Word(opcode::word::quick_word(opcode, numeral::signed::low_byte(v) as u16, n))
+    let v = parse_immediate(s)?.ok()?;
+    let n = parse_data_register(t)?;
+    Some(Code::Word(quick_word(opcode, u16::from(low_byte(v)), n)))
 }
 
 // #u16,Dn with the register in bits 9 to 11.
-pub fn encode_immediate_high(opcode: u16, s: &[u8], t: &[u8]) -> Code
+#[tactic(auto, using(crate::proofs::Readings::data_below, crate::proofs::Readings::imm16_none, crate::proofs::Readings::imm16_is, crate::proofs::Readings::imm16_below), unfolding(rules::specs::Encode::high_row, rules::specs::Option::bind))]
+pub fn encode_immediate_high(opcode: u16, s: &[u8], t: &[u8]) -> Option<Code>
     requires { opcode / 512 % 8 ≡ 0 }
     ensures { result ≡ code_of (high_row opcode s.now t.now) }
 {
-    let Immediate::Value(v) = numeral::unsigned::parse_immediate_u16(s) else {
-        return Code::Nothing;
-    };
-    let Register::At(n) = opcode::register::parse_data_register(t) else {
-        return Code::Nothing;
-    };
-    Code::Value(opcode::word::with_high(opcode, n), v as u16)
+    let v = parse_immediate_u16(s)?.ok()?;
+    let n = parse_data_register(t)?;
+    Some(Code::Value(with_high(opcode, n), v as u16))
 }
 
 // #u16,Dn with the register in bits 0 to 2.
-pub fn encode_immediate_low(opcode: u16, s: &[u8], t: &[u8]) -> Code
+#[tactic(auto, using(crate::proofs::Readings::data_below, crate::proofs::Readings::imm16_none, crate::proofs::Readings::imm16_is, crate::proofs::Readings::imm16_below), unfolding(rules::specs::Encode::low_row, rules::specs::Option::bind))]
+pub fn encode_immediate_low(opcode: u16, s: &[u8], t: &[u8]) -> Option<Code>
     requires { opcode % 8 ≡ 0 }
     ensures { result ≡ code_of (low_row opcode s.now t.now) }
 {
-    let Immediate::Value(v) = numeral::unsigned::parse_immediate_u16(s) else {
-        return Code::Nothing;
-    };
-    let Register::At(n) = opcode::register::parse_data_register(t) else {
-        return Code::Nothing;
-    };
-    Code::Value(opcode::word::with_low(opcode, n), v as u16)
+    let v = parse_immediate_u16(s)?.ok()?;
+    let n = parse_data_register(t)?;
+    Some(Code::Value(with_low(opcode, n), v as u16))
 }
 
 // (An),Dm.
-pub fn encode_from_indirect(s: &[u8], t: &[u8]) -> Code
+#[tactic(auto, using(crate::proofs::Readings::data_below, crate::proofs::Readings::indirect_below), unfolding(rules::specs::Encode::from_indirect, rules::specs::Option::bind))]
+pub fn encode_from_indirect(s: &[u8], t: &[u8]) -> Option<Code>
     ensures { result ≡ code_of (from_indirect s.now t.now) }
 {
-    let Register::At(n) = opcode::register::parse_indirect_register(s) else {
-        return Code::Nothing;
-    };
-    let Register::At(m) = opcode::register::parse_data_register(t) else {
-        return Code::Nothing;
-    };
-    Code::Word(opcode::word::with_registers(0x2010, m, n))
+    let n = parse_indirect_register(s)?;
+    let m = parse_data_register(t)?;
+    Some(Code::Word(with_registers(0x2010, m, n)))
 }
 
 // Dn,(Am).
-pub fn encode_to_indirect(s: &[u8], t: &[u8]) -> Code
+#[tactic(auto, using(crate::proofs::Readings::data_below, crate::proofs::Readings::indirect_below), unfolding(rules::specs::Encode::to_indirect, rules::specs::Option::bind))]
+pub fn encode_to_indirect(s: &[u8], t: &[u8]) -> Option<Code>
     ensures { result ≡ code_of (to_indirect s.now t.now) }
 {
-    let Register::At(n) = opcode::register::parse_data_register(s) else {
-        return Code::Nothing;
-    };
-    let Register::At(m) = opcode::register::parse_indirect_register(t) else {
-        return Code::Nothing;
-    };
-    Code::Word(opcode::word::with_registers(0x2080, m, n))
+    let n = parse_data_register(s)?;
+    let m = parse_indirect_register(t)?;
+    Some(Code::Word(with_registers(0x2080, m, n)))
 }
 
 // The immediate row, then the registers.
-pub fn encode_muls(s: &[u8], t: &[u8]) -> Code
+#[tactic(auto, using(crate::proofs::Shaped::tried, crate::proofs::Shaped::shaped_high), unfolding(rules::specs::Encode::muls_rows))]
+pub fn encode_muls(s: &[u8], t: &[u8]) -> Option<Code>
     ensures { result ≡ code_of (muls_rows s.now t.now) }
 {
-    let immediate = encode_immediate_high(0xC1FC, s, t);
-    let Code::Nothing = immediate else {
-        return immediate;
-    };
-    encode_registers(0xC1C0, s, t)
+    encode_immediate_high(0xC1FC, s, t).or_else(|| encode_registers(0xC1C0, s, t))
 }
 
 // The immediate row, whose register stands in the low bits, then the registers.
-pub fn encode_cmp(s: &[u8], t: &[u8]) -> Code
+#[tactic(auto, using(crate::proofs::Shaped::tried, crate::proofs::Shaped::shaped_low), unfolding(rules::specs::Encode::cmp_rows))]
+pub fn encode_cmp(s: &[u8], t: &[u8]) -> Option<Code>
     ensures { result ≡ code_of (cmp_rows s.now t.now) }
 {
-    let immediate = encode_immediate_low(0x0C80, s, t);
-    let Code::Nothing = immediate else {
-        return immediate;
-    };
-    encode_registers(0xB040, s, t)
+    encode_immediate_low(0x0C80, s, t).or_else(|| encode_registers(0xB040, s, t))
 }
 
 // Dn.
-pub fn encode_tst(t: &[u8]) -> Code
+#[tactic(auto, using(crate::proofs::Readings::data_below), unfolding(rules::specs::Encode::tst_row, rules::specs::Option::bind))]
+pub fn encode_tst(t: &[u8]) -> Option<Code>
     ensures { result ≡ code_of (tst_row t.now) }
 {
-    let Register::At(n) = opcode::register::parse_data_register(t) else {
-        return Code::Nothing;
-    };
-    Code::Word(opcode::word::with_low(0x4A80, n))
+    let n = parse_data_register(t)?;
+    Some(Code::Word(with_low(0x4A80, n)))
 }

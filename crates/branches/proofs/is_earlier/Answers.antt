@@ -1,28 +1,17 @@
--- `is_earlier`: the rows before, from the last to the first. Assumes nothing.
-use native.Mathlib.Omega.{arith}
-use Rattle.branches.proofs.Laws.{Earlier, earlier_start, earlier_none, earlier_hit, earlier_more}
+-- `is_earlier`: none of the rows before. Assumes nothing.
+use Rattle.std.proofs.Common.{refl, sym, ◌∙◌}
+use Rattle.requests.specs.Branches.{earlier}
+use Rattle.branches.proofs.Laws.{same_pointwise, earlier_at, earlier_next}
 use Rattle.branches.proofs.is_earlier.Goals as goal
 
 pub loop-n-init : goal.loop-n-init
-loop-n-init c = earlier_start
+unfolding earlier
+loop-n-init c = refl
 
-pub overflow_sub-n : goal.overflow_sub-n
-overflow_sub-n c = omega arith
-
-pub same_name-requires : goal.same_name-requires
-same_name-requires c = record { whole = record { low = omega arith; fits = omega arith }; whole_2 = record { low = omega arith; fits = omega arith } }
-
-pub returns-then-same_name : goal.returns-then-same_name
-returns-then-same_name c = earlier_hit c.loop-n.invariant (omega arith) c.same_name.ensures c.if-same_name.true
-
-pub overflow_sub-n-in-loop-n : goal.overflow_sub-n-in-loop-n
-overflow_sub-n-in-loop-n c = omega arith
-
-pub loop-n-smaller : goal.loop-n-smaller
-loop-n-smaller c = omega arith
+pub returns-then-eq : goal.returns-then-eq
+returns-then-eq c =
+    earlier_at _ _ _ _ c.loop-n-test.true (same_pointwise _ _ ∙ (rw (c.name_of.ensures, c.name_of-in-loop-n.ensures) at (sym c.eq.ensures ∙ c.if-eq.true)))
 
 pub loop-n-preserved : goal.loop-n-preserved
-loop-n-preserved c = earlier_more c.loop-n.invariant (omega arith) c.same_name.ensures c.if-same_name.false
-
-pub returns : goal.returns
-returns c = earlier_none c.loop-n.invariant (omega arith)
+loop-n-preserved c =
+    earlier_next _ _ _ (same_pointwise _ _ ∙ (rw (c.name_of.ensures, c.name_of-in-loop-n.ensures) at (sym c.eq.ensures ∙ c.if-eq.false))) c.loop-n.invariant

@@ -17,4 +17,4 @@ pub encode_tail-requires : goal.encode_tail-requires
 encode_tail-requires c = c.requires.near
 
 pub returns : goal.returns
-returns c = let copy = c.join_pieces-n.ensures in record { encodes = rw (take_over _ _ _ _ copy.out_after copy.value) at c.encode_tail.ensures; scratch_after = copy.out_after }
+returns c = let copy = c.join_pieces-n.ensures in rw (take_over _ _ _ _ copy.out_after copy.value) at c.encode_tail.ensures
