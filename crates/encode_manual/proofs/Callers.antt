@@ -1,8 +1,9 @@
--- For callers: where the words of an instruction stand, and that it takes at most six bytes. Assumes nothing.
+-- For callers: where the words of a code stand, and that it takes at most six bytes. Assumes nothing.
+use Rattle.std.specs.Prelude.{Option, None, Some}
+use Rattle.rules.specs.Option.{bind, or_else}
 use Prim.Native.Nat.{ℕ, ◌+◌, ◌*◌, ◌≤◌}
 use mathlib.Core.Path.{◌≡◌, refl}
 use mathlib.Core.Bool.{Bool, true, false, ◌||◌, cond}
-use mathlib.Core.Option.{Option, none, some, bind, or_else}
 use mathlib.Core.List.{List, [], ◌∷◌}
 use native.Mathlib.Omega.{arith}
 use lib.ListN.{length}
@@ -13,13 +14,12 @@ use Rattle.rules.specs.Encode.{one, two, is_some, all_digits}
 use Rattle.rules.specs.Assemble.{places_at}
 use Rattle.manual.specs.Manual.{Instruction, absolute, NOP, JMP, extension, extensions, halves, displacement_word, manual_words}
 use Rattle.requests.specs.ManualCall.{Form, said, labelled, displaced, Addressing, load, store, point, jump, Branching, branch, loop, addressed, branched, as_if_there, form_size, Head, moveq, nop, jmp, dbra, branch_on, move_w, add_w, sub_w, cmp_w, muls_w, move_l, movea_l, cmp_l, tst_l, subq_l, asl_l, no_operand, registers, number32, jump_to, move_long, form_of, form, manual_size}
-use Rattle.encode_manual.specs.Code.{contents_of, places_of}
+use Rattle.encode_manual.specs.Code.{words_of, places_of}
 use Rattle.encode_manual.specs.declared.ManualCode.{ManualCode}
-use Rattle.encode_manual.specs.declared.ManualCode.TheVariants.{Fault, Word, Value, Long, Address}
+use Rattle.encode_manual.specs.declared.ManualCode.TheVariants.{Word, Value, Long, Address}
 
-pub code_places : (a : ℕ) (r : ManualCode) → places_of a r ≡ places_at a (contents_of r)
+pub code_places : (a : ℕ) (c : ManualCode) → places_of a c ≡ places_at a (words_of c)
 unfolding places_at
-code_places a (Fault n z) = refl
 code_places a (Word w) = refl
 code_places a (Value w v) = refl
 code_places a (Long w v) = let k : a + 2 + 2 ≡ a + 4 = omega arith in rw k
@@ -29,19 +29,19 @@ code_places a (Address w x) = let k : a + 2 + 2 ≡ a + 4 = omega arith in rw k
 record Small (g : Option Form) : Type 0 where
   at_most : form_size g ≤ 6
 
-small_none : Small none
+small_none : Small None
 unfolding form_size
 small_none = record { at_most = omega arith }
 
 small_bind : {A : Type 0} (o : Option A) (f : A → Option Form) → ((x : A) → Small (f x)) → Small (bind o f)
 unfolding bind
-small_bind none f h = small_none
-small_bind (some x) f h = h x
+small_bind None f h = small_none
+small_bind (Some x) f h = h x
 
 small_else : (o p : Option Form) → Small o → Small p → Small (or_else o p)
 unfolding or_else
-small_else none p h k = k
-small_else (some x) p h k = h
+small_else None p h k = k
+small_else (Some x) p h k = h
 
 small_two : {f : Text → Text → Option Form} → ((s t : Text) → Small (f s t)) → (ps : List Text) → Small (two f ps)
 unfolding two
@@ -57,18 +57,18 @@ small_one h (s ∷ []) = h s
 small_one h (s ∷ t ∷ ps) = small_none
 
 -- an instruction as it stands, by how many words it has
-small_said : (i : Instruction) (k : ℕ) → 2 * length (manual_words i) ≡ k → k ≤ 6 → Small (some (said i))
+small_said : (i : Instruction) (k : ℕ) → 2 * length (manual_words i) ≡ k → k ≤ 6 → Small (Some (said i))
 unfolding form_size as_if_there
 small_said i k e h = record { at_most = rw e h }
 
-small_labelled : (g : Addressing) (l : Text) → Small (some (labelled g l))
+small_labelled : (g : Addressing) (l : Text) → Small (Some (labelled g l))
 unfolding form_size as_if_there addressed manual_words extensions extension halves
 small_labelled (load n) l = record { at_most = omega arith }
 small_labelled (store n) l = record { at_most = omega arith }
 small_labelled (point n) l = record { at_most = omega arith }
 small_labelled jump l = record { at_most = omega arith }
 
-small_displaced : (g : Branching) (s : Text) → Small (some (displaced g s))
+small_displaced : (g : Branching) (s : Text) → Small (Some (displaced g s))
 unfolding form_size as_if_there branched manual_words extensions displacement_word
 small_displaced (branch c) s = record { at_most = omega arith }
 small_displaced (loop n) s = record { at_most = omega arith }
@@ -81,7 +81,7 @@ small_jump : (s : Text) → Small (jump_to s)
 unfolding jump_to manual_words extensions extension halves
 small_jump s = go (is_some (hex_tail s) || all_digits s)
   where
-    go : (y : Bool) → Small (cond y (bind (number32 s) (λ v. some (said (JMP (absolute v))))) (some (labelled jump s)))
+    go : (y : Bool) → Small (cond y (bind (number32 s) (λ v. Some (said (JMP (absolute v))))) (Some (labelled jump s)))
     go true = small_bind _ _ (λ v. small_said _ 6 refl (omega arith))
     go false = small_labelled jump s
 

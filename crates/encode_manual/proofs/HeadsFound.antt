@@ -1,11 +1,13 @@
 -- The head that a mnemonic and a suffix have, by the operation that the mnemonic names in 01 and by what the suffix is. Assumes nothing.
-use Prim.Native.Nat.{ℕ, ◌+◌, ◌<◌, ◌≤◌}
-use mathlib.Core.Path.{◌≡◌, refl, sym, ◌∙◌}
-use mathlib.Core.Bool.{Bool, true, false, false≢true, and-false, ◌&&◌, ◌||◌}
-use mathlib.Core.Option.{Option, none, some}
+use Rattle.std.specs.Prelude.{Option, None, Some}
+use Prim.Native.Nat.{ℕ, ◌+◌, ◌<◌}
+use mathlib.Core.Path.{◌≡◌, refl, ◌∙◌}
+use mathlib.Core.Bool.{Bool, true, false, false≢true, and-false, ◌&&◌, ◌||◌, cond}
 use mathlib.Core.List.{List, [], ◌∷◌}
 use native.Mathlib.Omega.{arith}
-use borrow.Author.Tests.{le-leb, lt-leb}
+use borrow.Author.Tests.{le-leb, lt-leb, ltb-true, ltb-false}
+use lib.Dec.{ltb, leb}
+use Rattle.rules.specs.Option.{bind}
 use Rattle.rules.specs.Text.{Text, bytes, same}
 use Rattle.rules.specs.Encode.{Mnemonic, branches, other_mnemonics, mnemonics, operation_in}
 use Rattle.rules.specs.Encode.{moveq, move, movea, muls, tst, subq, asl, dbra, nop, simhalt, add, sub, cmp, jmp, branch}
@@ -25,26 +27,28 @@ data All (P : Mnemonic → Type 0) : List Mnemonic → Type 0 where
   done : All P []
   ◌and◌ : {n : Mnemonic} {ns : List Mnemonic} → P n → All P ns → All P (n ∷ ns)
 
-by_row : (P : Text → Ruled → Type 0) {ns : List Mnemonic} → All (λ n. P n.name n.operation) ns → (m : Text) (o : Ruled) → operation_in ns m ≡ some o → P m o
+by_row : (P : Text → Ruled → Type 0) {ns : List Mnemonic} → All (λ n. P n.name n.operation) ns → (m : Text) (o : Ruled) → operation_in ns m ≡ Some o → P m o
 unfolding operation_in
 by_row P done m o e = let y : ◌≡◌ {A = ℕ} 0 1 = cc in absurd (omega arith)
 by_row P (◌and◌ {n = n} {ns = ns} h hs) m o e = go (same m n.name) refl e (λ q. by_row P hs m o q)
   where
-    go : (y : Bool) → same m n.name ≡ y → elim y [ true ↦ some n.operation | false ↦ operation_in ns m ] ≡ some o → (operation_in ns m ≡ some o → P m o) → P m o
+    go : (y : Bool) → same m n.name ≡ y → elim y [ true ↦ Some n.operation | false ↦ operation_in ns m ] ≡ Some o → (operation_in ns m ≡ Some o → P m o) → P m o
     go true p q r = let k : n.operation ≡ o = cc in rw (same_is m n.name p, ← k) h
     go false p q r = r q
 
 -- what holds of each mnemonic, by computation
-pub record Bridged (m : Text) (o : Operation) : Type 0 where
-  pub plain : head_in heads m none ≡ plain_head o
-  pub word : head_in heads m (some (bytes "W")) ≡ word_head o
-  pub long : head_in heads m (some (bytes "L")) ≡ long_head o
+pub record Bridged (m : Text) (o : Option Operation) : Type 0 where
+  pub plain : head_in heads m None ≡ bind o plain_head
+  pub word : head_in heads m (Some (bytes "W")) ≡ bind o word_head
+  pub long : head_in heads m (Some (bytes "L")) ≡ bind o long_head
 
-abbrev bridged : {m : Text} {o : Operation} → head_in heads m none ≡ plain_head o → head_in heads m (some (bytes "W")) ≡ word_head o → head_in heads m (some (bytes "L")) ≡ long_head o → Bridged m o
+abbrev bridged :
+    {m : Text} {o : Option Operation}
+    → head_in heads m None ≡ bind o plain_head → head_in heads m (Some (bytes "W")) ≡ bind o word_head → head_in heads m (Some (bytes "L")) ≡ bind o long_head → Bridged m o
 bridged p w l = record { plain = p; word = w; long = l }
 
-each_bridged : All (λ n. Bridged n.name (operation_of (some n.operation))) mnemonics
-unfolding mnemonics other_mnemonics branches heads head_in same_suffix same bytes condition_by
+each_bridged : All (λ n. Bridged n.name (operation_of (Some n.operation))) mnemonics
+unfolding mnemonics other_mnemonics branches heads head_in same_suffix same bytes condition_by bind
 each_bridged =
     bridged refl refl refl and bridged refl refl refl and bridged refl refl refl and bridged refl refl refl and bridged refl refl refl and
     bridged refl refl refl and bridged refl refl refl and bridged refl refl refl and bridged refl refl refl and bridged refl refl refl and
@@ -77,17 +81,17 @@ each_settled =
     tt and tt and tt and tt and tt and tt and tt and tt and tt and tt and tt and tt and tt and tt and tt and
     refl and refl and refl and refl and refl and refl and refl and refl and refl and refl and refl and done
 
-pub conditioned : (m : Text) {o : Operation} → o ≡ operation_of (operation_in mnemonics m) → Conditioned o
-conditioned m f c g = by_row (λ n o. Settled o) each_settled m (branch c) (named _ (sym f ∙ g))
+pub conditioned : (m : Text) {o : Operation} → operation_of (operation_in mnemonics m) ≡ Some o → Conditioned o
+conditioned m f c g = by_row (λ n o. Settled o) each_settled m (branch c) (named _ (rw g at f))
 
 -- ---- a mnemonic that is not found has no head
-missed : (m : Text) (ns : List Mnemonic) → operation_in ns m ≡ none → All (λ n. same m n.name ≡ false) ns
+missed : (m : Text) (ns : List Mnemonic) → operation_in ns m ≡ None → All (λ n. same m n.name ≡ false) ns
 unfolding operation_in
 missed m [] e = done
 missed m (n ∷ ns) e = go (same m n.name) refl e (λ q. missed m ns q)
   where
-    go : (y : Bool) → same m n.name ≡ y → ◌≡◌ {A = Option Ruled} (elim y [ true ↦ some n.operation | false ↦ operation_in ns m ]) none
-        → (operation_in ns m ≡ none → All (λ k. same m k.name ≡ false) ns) → All (λ k. same m k.name ≡ false) (n ∷ ns)
+    go : (y : Bool) → same m n.name ≡ y → ◌≡◌ {A = Option Ruled} (elim y [ true ↦ Some n.operation | false ↦ operation_in ns m ]) None
+        → (operation_in ns m ≡ None → All (λ k. same m k.name ≡ false) ns) → All (λ k. same m k.name ≡ false) (n ∷ ns)
     go true p q r = let y : ◌≡◌ {A = ℕ} 0 1 = cc in absurd (omega arith)
     go false p q r = p and r q
 
@@ -112,7 +116,7 @@ and_both : (x y : Bool) → (x && y) ≡ true → (x ≡ true) × (y ≡ true)
 and_both true y e = (refl, e)
 and_both false y e = absurd (false≢true e)
 
-no_head : {ns : List Mnemonic} (m : Text) (f : Option Text) → All (λ n. same m n.name ≡ false) ns → (rs : List HeadRow) → all_among rs ns ≡ true → head_in rs m f ≡ none
+no_head : {ns : List Mnemonic} (m : Text) (f : Option Text) → All (λ n. same m n.name ≡ false) ns → (rs : List HeadRow) → all_among rs ns ≡ true → head_in rs m f ≡ None
 unfolding head_in
 no_head m f h [] e = refl
 no_head {ns} m f h (r ∷ rs) e =
@@ -129,8 +133,8 @@ unfolding head_in
 skip_row r rs m f e = rw (head_in, e)
 
 abbrev known : Option Text → Bool
-known none = true
-known (some t) = same t (bytes "W") || same t (bytes "L")
+known None = true
+known (Some t) = same t (bytes "W") || same t (bytes "L")
 
 abbrev all_known : List HeadRow → Bool
 all_known [] = true
@@ -141,54 +145,56 @@ unfolding heads same bytes
 suffixes_known = refl
 
 module _ (s : Text) (w : same s (bytes "W") ≡ false) (l : same s (bytes "L") ≡ false) where
-  other_suffix : (f : Option Text) → known f ≡ true → same_suffix (some s) f ≡ false
+  other_suffix : (f : Option Text) → known f ≡ true → same_suffix (Some s) f ≡ false
   unfolding same_suffix
-  other_suffix none e = refl
-  other_suffix (some t) e = go (same t (bytes "W")) refl e
+  other_suffix None e = refl
+  other_suffix (Some t) e = go (same t (bytes "W")) refl e
     where
       go : (y : Bool) → same t (bytes "W") ≡ y → (y || same t (bytes "L")) ≡ true → same s t ≡ false
       go true p q = rw (same_is t (bytes "W") p) w
       go false p q = rw (same_is t (bytes "L") q) l
 
-  no_suffix : (m : Text) (rs : List HeadRow) → all_known rs ≡ true → head_in rs m (some s) ≡ none
+  no_suffix : (m : Text) (rs : List HeadRow) → all_known rs ≡ true → head_in rs m (Some s) ≡ None
   unfolding head_in
   no_suffix m [] e = refl
   no_suffix m (r ∷ rs) e =
       let k = and_both (known r.suffix) (all_known rs) e in
-      skip_row r rs m (some s) (rw (other_suffix r.suffix k.0) (and-false (same m r.name))) ∙ no_suffix m rs k.1
+      skip_row r rs m (Some s) (rw (other_suffix r.suffix k.0) (and-false (same m r.name))) ∙ no_suffix m rs k.1
+
+nothing_after : {A B : Type 0} (o : Option A) → None ≡ bind {B = B} o (λ x. None)
+unfolding bind
+nothing_after None = refl
+nothing_after (Some x) = refl
 
 -- ---- the head, by both
 module _ (m : Text) where
   at : (o : Option Ruled) → operation_in mnemonics m ≡ o → Bridged m (operation_of o)
-  at none e =
+  unfolding bind
+  at None e =
       let h = missed m mnemonics e in
-      bridged (no_head m none h heads names_known) (no_head m (some (bytes "W")) h heads names_known) (no_head m (some (bytes "L")) h heads names_known)
-  at (some o) e = by_row (λ n p. Bridged n (operation_of (some p))) each_bridged m o e
+      bridged (no_head m None h heads names_known) (no_head m (Some (bytes "W")) h heads names_known) (no_head m (Some (bytes "L")) h heads names_known)
+  at (Some o) e = by_row (λ n p. Bridged n (operation_of (Some p))) each_bridged m o e
 
-  pub head_found : (f : Option Text) → head_in heads m f ≡ head_by (suffix_of f) (operation_of (operation_in mnemonics m))
+  pub head_found : (f : Option Text) → head_in heads m f ≡ bind (operation_of (operation_in mnemonics m)) (λ o. head_by (suffix_of f) o)
   unfolding suffix_of suffix_by same bytes
-  head_found none = (at (operation_in mnemonics m) refl).plain
-  head_found (some []) = no_suffix [] refl refl m heads suffixes_known
-  head_found (some (b ∷ s)) = go (same (b ∷ s) (bytes "L")) refl (same (b ∷ s) (bytes "W")) refl
+  head_found None = (at (operation_in mnemonics m) refl).plain
+  head_found (Some []) = no_suffix [] refl refl m heads suffixes_known ∙ nothing_after (operation_of (operation_in mnemonics m))
+  head_found (Some (b ∷ s)) = go (same (b ∷ s) (bytes "L")) refl (same (b ∷ s) (bytes "W")) refl
     where
       go : (x : Bool) → same (b ∷ s) (bytes "L") ≡ x → (y : Bool) → same (b ∷ s) (bytes "W") ≡ y
-          → head_in heads m (some (b ∷ s)) ≡ head_by (suffix_by (b ∷ s)) (operation_of (operation_in mnemonics m))
+          → head_in heads m (Some (b ∷ s)) ≡ bind (operation_of (operation_in mnemonics m)) (λ o. head_by (suffix_by (b ∷ s)) o)
       go true p y q = rw (p, same_is (b ∷ s) (bytes "L") p) (at (operation_in mnemonics m) refl).long
       go false p true q = rw (p, q, same_is (b ∷ s) (bytes "W") q) (at (operation_in mnemonics m) refl).word
-      go false p false q = rw (p, q) (no_suffix (b ∷ s) q p m heads suffixes_known)
+      go false p false q = rw (p, q) (no_suffix (b ∷ s) q p m heads suffixes_known ∙ nothing_after (operation_of (operation_in mnemonics m)))
 
 -- ---- a branch's condition, as the code works it out, and its range
-pub low_condition : (c : ℕ) → c < 8 → c ≡ manual_condition c
+pub same_condition : (c : ℕ) → (c ≡ 8 → ⊥) → (c ≡ 9 → ⊥) → c ≡ manual_condition c
 unfolding manual_condition
-low_condition c h = rw (lt-leb 8 c h)
-
-pub high_condition : (c : ℕ) → 9 < c → c ≡ manual_condition c
-unfolding manual_condition
-high_condition c h = rw (le-leb 8 c (omega arith), lt-leb c 9 h)
-
-pub moved_condition : (c : ℕ) → 8 ≤ c → c ≤ 9 → c + 2 ≡ manual_condition c
-unfolding manual_condition
-moved_condition c h k = rw (le-leb 8 c h, le-leb c 9 k)
+same_condition c h k = go (ltb c 8) refl
+  where
+    go : (y : Bool) → ltb c 8 ≡ y → c ≡ cond (leb 8 c && leb c 9) (c + 2) c
+    go true p = let l = ltb-true c 8 p in rw (lt-leb 8 c l)
+    go false p = let l = ltb-false c 8 p in rw (le-leb 8 c l, lt-leb c 9 (omega arith))
 
 pub condition_small : (k : Condition) → condition k < 16
 unfolding condition

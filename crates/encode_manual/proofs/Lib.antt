@@ -1,10 +1,11 @@
-mod Coded
-mod Distances
-mod Displaced
-mod Written
+mod Forms
 mod Words
-mod Readings
+mod Operands
+mod Raised
+mod Written
+mod Displaced
 mod HeadsFound
+mod Coded
 mod Operations
 mod Instructions
 pub mod Callers

@@ -1,35 +1,41 @@
--- A displacement as the code answers it: the first that fits, in sixteen bits; whether there is one at all. Assumes nothing.
-use Rattle.std.specs.Prelude.{Bool, true, false, List, [], ◌∷◌, ℤ}
-use Rattle.std.proofs.Math.Option.{Option, none, some}
+-- A displacement as the code answers it: the first that fits, in sixteen bits; or whether there is one at all. Assumes nothing.
+use Rattle.std.specs.Prelude.{ℕ, Bool, ◌&&◌, ltb, List, [], ◌∷◌, ℤ, Option, None, Some, Result, Ok, Err}
 use Rattle.manual.specs.Manual.{T, sixteen_bits}
 use Rattle.requests.specs.ManualCall.{Branching, branch, loop, first_that}
 use Rattle.numeral.specs.declared.Failure.{Failure}
 use Rattle.numeral.specs.declared.Failure.TheVariants.{NoDigits, BadDigit, OutOfRange}
-use Rattle.encode_manual.specs.declared.branch.Displacement.{Displacement}
-use Rattle.encode_manual.specs.declared.branch.Displacement.TheVariants.{Value, Outside, Nothing}
+use Rattle.encode_manual.specs.declared.Fault.{Fault}
+use Rattle.encode_manual.specs.declared.Fault.TheVariants.{NoEncoding, OutOfReach}
+use Rattle.encode_manual.specs.declared.displacement.Room.{Room}
+use Rattle.encode_manual.specs.declared.displacement.Room.TheVariants.{Byte, Word}
+use Rattle.encode_manual.specs.declared.displacement.Unfit.{Unfit}
+use Rattle.encode_manual.specs.declared.displacement.Unfit.TheVariants.{Outside, Nothing}
 
--- an instruction with its displacement in a byte, and one with it in a word: which of them does not matter to what fits
-abbrev pub branching_by : Bool → Branching
-branching_by true = branch T
-branching_by false = loop 0
+-- an instruction with its displacement there: which of them does not matter to what fits
+abbrev pub branching_in : Room → Branching
+branching_in Byte = branch T
+branching_in Word = loop 0
 
-abbrev pub reached : Option ℤ → Displacement
-reached none = Outside
-reached (some z) = Value (sixteen_bits z)
+-- whether one fits there, by how far it is from 0, or from -1 where it is negative
+abbrev pub room_for : Room → ℕ → Bool
+room_for Byte n = ltb 0 n && ltb n 128
+room_for Word n = ltb n 32768
+
+abbrev pub reached : Option ℤ → Result ℕ Unfit
+reached None = Err Outside
+reached (Some z) = Ok (sixteen_bits z)
 
 -- of the displacements there are, the first that fits
-abbrev pub displacement_in : (ℤ → Bool) → List ℤ → Displacement
-displacement_in f [] = Nothing
+abbrev pub displacement_in : (ℤ → Bool) → List ℤ → Result ℕ Unfit
+displacement_in f [] = Err Nothing
 displacement_in f (d ∷ ds) = reached (first_that f (d ∷ ds))
 
--- where there was one before that does not fit
-abbrev pub or_outside : Displacement → Displacement
-or_outside (Value w) = Value w
-or_outside Outside = Outside
-or_outside Nothing = Outside
-
 -- a number that can't be read: too large or too small, it is there all the same
-abbrev pub displacement_unread : Failure → Displacement
-displacement_unread NoDigits = Nothing
-displacement_unread BadDigit = Nothing
-displacement_unread OutOfRange = Outside
+abbrev pub unfit_of : Failure → Unfit
+unfit_of NoDigits = Nothing
+unfit_of BadDigit = Nothing
+unfit_of OutOfRange = Outside
+
+abbrev pub unfit_fault : ℕ → Unfit → Fault
+unfit_fault n Outside = OutOfReach n
+unfit_fault n Nothing = NoEncoding n

@@ -1,31 +1,42 @@
--- What a form comes to, as the code answers it. Assumes nothing.
-use Rattle.std.specs.Prelude.{ℕ, ◌+◌, ◌≡◌, [], ◌∷◌}
-use Rattle.std.proofs.Math.Option.{Option, some, bind, get_or}
+-- What an instruction says, as the code reads it: the rules' forms with their words. Assumes nothing.
+use Rattle.std.specs.Prelude.{ℕ, ◌+◌, ◌/◌, ◌%◌, ◌≡◌, [], ◌∷◌, Option, None, Some}
 use Rattle.rules.specs.Text.{Text}
-use Rattle.rules.specs.Label.{Table}
 use Rattle.rules.specs.Encode.{R, data_register, ◌>>=◌}
-use Rattle.manual.specs.Manual.{Instruction, quick, manual_words}
-use Rattle.requests.specs.ManualCall.{Form, said, registers, quickly, form_size, form_fault, form_contents}
-use Rattle.encode_manual.specs.Code.{size_in, fault_of, contents_of}
-use Rattle.encode_manual.specs.declared.ManualCode.{ManualCode}
+use Rattle.manual.specs.Manual.{Instruction, condition, quick, operation_word, manual_words}
+use Rattle.requests.specs.ManualCall.{Form, said, labelled, displaced, addressed, branch, loop, registers, quickly}
+use Rattle.encode_manual.specs.declared.form.Form.{Form as Read}
+use Rattle.encode_manual.specs.declared.form.Form.TheVariants.{Word, Value, Long, Labelled, Branch, Loop}
 
--- r is what the form g comes to at address a, by the labels ls
-pub record Codes (ls : Table) (a : ℕ) (g : Option Form) (r : ManualCode) : Type 0 where
-  pub sized : size_in r ≡ form_size g
-  pub fault : fault_of r ≡ form_fault ls a g
-  pub words : contents_of r ≡ get_or (bind g (λ f. form_contents ls a f)) []
+-- a form of the code says what a form of the rules says
+abbrev pub Says : Form → Read → Type 0
+Says (said i) (Word w) = manual_words i ≡ w ∷ []
+Says (said i) (Value w v) = manual_words i ≡ w ∷ v ∷ []
+Says (said i) (Long w v) = manual_words i ≡ w ∷ v / 65536 ∷ v % 65536 ∷ []
+Says (said i) _ = ⊥
+Says (labelled g l) (Labelled w name) = ((x : ℕ) → operation_word (addressed g x) ≡ w) × (l ≡ name.now)
+Says (labelled g l) _ = ⊥
+Says (displaced (branch c) s) (Branch n t) = (n ≡ condition c) × (s ≡ t.now)
+Says (displaced (branch c) s) _ = ⊥
+Says (displaced (loop n) s) (Loop w t) = (w ≡ 0x51C8 + n) × (s ≡ t.now)
+Says (displaced (loop n) s) _ = ⊥
 
--- at every address, by whatever labels
-abbrev pub Fixed : Option Form → ManualCode → Type 0
-Fixed g r = (ls : Table) (a : ℕ) → Codes ls a g r
+abbrev pub SaysIf : Option Form → Option Read → Type 0
+SaysIf None None = Unit
+SaysIf None (Some f) = ⊥
+SaysIf (Some g) None = ⊥
+SaysIf (Some g) (Some f) = Says g f
+
+-- r is the form g, where there is one
+pub record Reads (g : Option Form) (r : Option Read) : Type 0 where
+  pub says : SaysIf g r
 
 -- an instruction of two data registers whose word is the opcode with the second in bits 9 to 11 and the first in the low ones
-abbrev pub RegistersGives : ℕ → Text → Text → ManualCode → Type 0
-RegistersGives opcode s t r = (f : ℕ → ℕ → Instruction) → ((n m : ℕ) → manual_words (f n m) ≡ (opcode + R m + n) ∷ []) → Fixed (registers f s t) r
+abbrev pub RegistersGives : ℕ → Text → Text → Option Read → Type 0
+RegistersGives opcode s t r = (f : ℕ → ℕ → Instruction) → ((n m : ℕ) → manual_words (f n m) ≡ (opcode + R m + n) ∷ []) → Reads (registers f s t) r
 
 -- an instruction of a number from 1 to 8 and a data register
 abbrev pub quick_form : (ℕ → ℕ → Instruction) → Text → Text → Option Form
-quick_form f s t = do k ← quickly s; n ← data_register t; some (said (f k n))
+quick_form f s t = do k ← quickly s; n ← data_register t; Some (said (f k n))
 
-abbrev pub QuickGives : ℕ → Text → Text → ManualCode → Type 0
-QuickGives opcode s t r = (f : ℕ → ℕ → Instruction) → ((k n : ℕ) → manual_words (f k n) ≡ (opcode + n + R (quick k)) ∷ []) → Fixed (quick_form f s t) r
+abbrev pub QuickGives : ℕ → Text → Text → Option Read → Type 0
+QuickGives opcode s t r = (f : ℕ → ℕ → Instruction) → ((k n : ℕ) → manual_words (f k n) ≡ (opcode + n + R (quick k)) ∷ []) → Reads (quick_form f s t) r

@@ -1,13 +1,13 @@
 -- The heads of the manual's call, by the operation that 01's mnemonic names and by the suffix. Assumes nothing.
-use Rattle.std.specs.Prelude.{ℕ, ◌+◌, ◌≡◌, ◌&&◌, cond, List, leb, eqb}
-use Rattle.std.proofs.Math.Option.{Option, none, some, bind}
+use Rattle.std.specs.Prelude.{ℕ, ◌+◌, ◌≡◌, ◌&&◌, cond, List, leb, eqb, Option, None, Some}
+use Rattle.rules.specs.Option.{bind}
 use Rattle.rules.specs.Text.{Text}
 use Rattle.manual.specs.Manual.{Condition, T, CC, CS, NE, EQ, PL, MI, GE, LT, GT, LE, condition}
 use Rattle.requests.specs.ManualCall.{Head, moveq, nop, jmp, dbra, branch_on, move_w, add_w, sub_w, cmp_w, muls_w, move_l, movea_l, cmp_l, tst_l, subq_l, asl_l, Form, form_of}
 use Rattle.opcode.specs.declared.mnemonic.Operation.{Operation}
-use Rattle.opcode.specs.declared.mnemonic.Operation.TheVariants.{Moveq, Move, Movea, Muls, Tst, Subq, Asl, Dbra, Nop, Simhalt, Add, Sub, Cmp, Jmp, Branch, Unknown}
+use Rattle.opcode.specs.declared.mnemonic.Operation.TheVariants.{Moveq, Move, Movea, Muls, Tst, Subq, Asl, Dbra, Nop, Add, Sub, Cmp, Jmp, Branch}
 use Rattle.instruction.specs.declared.Suffix.{Suffix}
-use Rattle.instruction.specs.declared.Suffix.TheVariants.{None, Empty, Long, Word, Other}
+use Rattle.instruction.specs.declared.Suffix.TheVariants.{None, Long, Word}
 
 -- 01 has BPL as 8 and BMI as 9, which the manual has as 10 and 11; the other conditions are the same
 unfoldable pub manual_condition : ℕ → ℕ
@@ -25,67 +25,37 @@ Conditioned o = (c : ℕ) → o ≡ Branch c → manual_condition c ≡ conditio
 
 -- without a suffix
 abbrev pub plain_head : Operation → Option Head
-plain_head Moveq = some moveq
-plain_head Move = none
-plain_head Movea = none
-plain_head Muls = none
-plain_head Tst = none
-plain_head Subq = none
-plain_head Asl = none
-plain_head Dbra = some dbra
-plain_head Nop = some nop
-plain_head Simhalt = none
-plain_head Add = none
-plain_head Sub = none
-plain_head Cmp = none
-plain_head Jmp = some jmp
-plain_head (Branch c) = some (branch_on (condition_by c))
-plain_head Unknown = none
+plain_head Moveq = Some moveq
+plain_head Dbra = Some dbra
+plain_head Nop = Some nop
+plain_head Jmp = Some jmp
+plain_head (Branch c) = Some (branch_on (condition_by c))
+plain_head _ = None
 
 -- with W
 abbrev pub word_head : Operation → Option Head
-word_head Moveq = none
-word_head Move = some move_w
-word_head Movea = none
-word_head Muls = some muls_w
-word_head Tst = none
-word_head Subq = none
-word_head Asl = none
-word_head Dbra = none
-word_head Nop = none
-word_head Simhalt = none
-word_head Add = some add_w
-word_head Sub = some sub_w
-word_head Cmp = some cmp_w
-word_head Jmp = none
-word_head (Branch c) = none
-word_head Unknown = none
+word_head Move = Some move_w
+word_head Muls = Some muls_w
+word_head Add = Some add_w
+word_head Sub = Some sub_w
+word_head Cmp = Some cmp_w
+word_head _ = None
 
 -- with L
 abbrev pub long_head : Operation → Option Head
-long_head Moveq = none
-long_head Move = some move_l
-long_head Movea = some movea_l
-long_head Muls = none
-long_head Tst = some tst_l
-long_head Subq = some subq_l
-long_head Asl = some asl_l
-long_head Dbra = none
-long_head Nop = none
-long_head Simhalt = none
-long_head Add = none
-long_head Sub = none
-long_head Cmp = some cmp_l
-long_head Jmp = none
-long_head (Branch c) = none
-long_head Unknown = none
+long_head Move = Some move_l
+long_head Movea = Some movea_l
+long_head Tst = Some tst_l
+long_head Subq = Some subq_l
+long_head Asl = Some asl_l
+long_head Cmp = Some cmp_l
+long_head _ = None
 
 abbrev pub head_by : Suffix → Operation → Option Head
 head_by None o = plain_head o
-head_by Empty o = none
 head_by Long o = long_head o
 head_by Word o = word_head o
-head_by Other o = none
+head_by _ o = None
 
 -- the form of a head with the operands ps
 abbrev pub form_by : Option Head → List Text → Option Form

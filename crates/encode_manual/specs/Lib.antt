@@ -1,4 +1,4 @@
 pub mod Code
 pub mod Form
-pub mod Heads
 pub mod Displacement
+pub mod Heads

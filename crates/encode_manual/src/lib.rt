@@ -1,208 +1,146 @@
 #![tactic(auto)]
 
 // One instruction of the manual's call to its words, by value; or its fault, with the size that it takes all the same.
-ghost use Rattle.std.specs.Prelude.{◌≡◌, [], ◌∷◌, ◌≤◌, length};
+ghost use Rattle.std.specs.Prelude.{◌≡◌, ◌≤◌, length, Some};
 ghost use Rattle.rules.specs.Limits.{max_source};
 ghost use Rattle.rules.specs.Line.{instruction_of};
-ghost use Rattle.label.specs.Table.{table_of, Held};
-ghost use Rattle.instruction.specs.Split.{operands_in, operands_at};
-ghost use Rattle.encode_manual.specs.Code.{size_in, second_words, third_words, EncodeManualGives};
-ghost use Rattle.encode_manual.specs.Form.{Codes, Fixed};
+ghost use Rattle.rules.specs.Assemble.{words_by};
+ghost use Rattle.requests.specs.ManualCall.{Form as Said, manual_size, manual_fault, manual_encode};
+ghost use Rattle.instruction.specs.Split.{operands_in};
+ghost use Rattle.encode_manual.specs.Code.{size_of, fault_size, size_in, fault_of, contents_of, Codes};
+ghost use Rattle.encode_manual.specs.Form.{Says};
 ghost use Rattle.encode_manual.specs.Heads.{Conditioned, head_by, form_by};
 
-use copied::encode_copied;
-use instruction::{Operands, Suffix};
-use named::{
-    encode_long_one, encode_long_two, encode_plain_one, encode_plain_two, encode_word_two,
-};
+use displacement::{Room, parse_displacement};
+use form::Form;
+use instruction::Suffix;
+use label::Labels;
 use opcode::mnemonic::Operation;
+use opcode::word::branch_word;
 
-mod form; // form.rt: registers and immediates
-mod labelled; // labelled.rt: MOVE.L, MOVEA, JMP
-mod branch; // branch.rt: branches and DBRA
-mod named; // named.rt: by the operation
 mod copied; // copied.rt: an instruction by a copy of its tail
+mod displacement; // displacement.rt: of branches and DBRA
+mod form; // form.rt: what an instruction says
+mod operand; // operand.rt: what an operand says
+mod operation; // operation.rt: the form of an operation
 
-// What an instruction comes to in the manual's call: its words, or its fault, 14 or 15, with the size that it takes all the same.
-#[derive(Clone, Copy)]
+/// The words of an instruction in the manual's call.
+#[derive(Clone, Copy, Debug, PartialEq, Eq, Hash)]
 pub enum ManualCode {
-    Fault(u8, u32),
     Word(u16),
-    // A word and one extension word: the value of MULS, DBRA's displacement.
+    /// A word and one extension word: the value of MULS, DBRA's displacement.
     Value(u16, u16),
-    // A word and a long in two extension words.
+    /// A word and a long in two extension words.
     Long(u16, u32),
-    // A word and a label's address in two extension words.
+    /// A word and a label's address in two extension words.
     Address(u16, u32),
 }
 
-// ---- The size.
+/// Why an instruction has no words, and how many bytes it takes all the same.
+#[derive(Clone, Copy, Debug, PartialEq, Eq, Hash)]
+pub enum Fault {
+    /// 14: it has no encoding here.
+    NoEncoding(u32),
+    /// 15: its only fault is a displacement out of range.
+    OutOfReach(u32),
+}
 
-// Whether there is a second word, and a third.
-fn second_words(code: ManualCode) -> u32
-    ensures { result ≡ second_words code }
-{
-    match code {
-        ManualCode::Fault(_, _) => 0,
-        ManualCode::Word(_) => 0,
-        ManualCode::Value(_, _) => 1,
-        ManualCode::Long(_, _) => 1,
-        ManualCode::Address(_, _) => 1,
+impl ManualCode {
+    /// How many bytes the words take. Of one `match` with 2, 4 and 6 the compiler makes a table of them.
+    pub fn size(self) -> u32
+        ensures { result ≡ size_of self }
+    {
+        let second = !matches!(self, ManualCode::Word(_));
+        let third = matches!(self, ManualCode::Long(..) | ManualCode::Address(..));
+        2 * (1 + u32::from(second) + u32::from(third))
     }
 }
 
-fn third_words(code: ManualCode) -> u32
-    ensures { result ≡ third_words code }
-{
-    match code {
-        ManualCode::Fault(_, _) => 0,
-        ManualCode::Word(_) => 0,
-        ManualCode::Value(_, _) => 0,
-        ManualCode::Long(_, _) => 1,
-        ManualCode::Address(_, _) => 1,
+impl Fault {
+    /// How many bytes the instruction takes.
+    pub fn size(self) -> u32
+        ensures { result ≡ fault_size self }
+    {
+        match self {
+            Fault::NoEncoding(size) | Fault::OutOfReach(size) => size,
+        }
     }
 }
 
-// How many bytes an instruction takes. Of one `match` with 2, 4 and 6 the compiler makes a table of them.
-pub fn code_size(code: ManualCode) -> u32
+/// How many bytes an instruction takes, by what it comes to.
+pub fn code_size(code: Result<ManualCode, Fault>) -> u32
     ensures { result ≡ size_in code }
 {
-    if let ManualCode::Fault(_, size) = code {
-        return size;
+    match code {
+        Ok(code) => code.size(),
+        Err(fault) => fault.size(),
     }
-    2 * (1 + second_words(code) + third_words(code))
 }
 
-// ---- The form, by the operands' count and the suffix.
+// An instruction with no form.
+const NO_FORM: Fault = Fault::NoEncoding(0);
 
-// No operand: NOP.
-fn encode_bare(o: Operation, x: Suffix) -> ManualCode
-    ensures { Fixed (form_by (head_by x o) []) result }
+// ---- The words.
+
+// The words of a form at an address; or its fault, with the bytes that it takes all the same.
+fn encode_form(form: Form<'_>, labels: &Labels<'_>, address: u32) -> Result<ManualCode, Fault>
+    requires { (g : Said) × Says g form }
+    ensures { (g : Said) → Says g form.entry → Codes labels.now.table address (Some g) result }
 {
-    let Suffix::None = x else {
-        return ManualCode::Fault(14, 0);
-    };
-    if let Operation::Nop = o {
-        return ManualCode::Word(0x4E71);
-    }
-    ManualCode::Fault(14, 0)
-}
-
-// One operand.
-fn encode_one(
-    source: &[u8],
-    table: &[u32],
-    labels: usize,
-    address: u32,
-    o: Operation,
-    x: Suffix,
-    s: &[u8],
-) -> ManualCode
-    requires { Held source.now table.now labels × Conditioned o }
-    ensures { Codes (table_of source.now table.now labels) address (form_by (head_by x o) (s.now ∷ [])) result }
-{
-    match x {
-        Suffix::None => encode_plain_one(source, table, labels, address, o, s),
-        Suffix::Empty => ManualCode::Fault(14, 0),
-        Suffix::Long => encode_long_one(o, s),
-        Suffix::Word => ManualCode::Fault(14, 0),
-        Suffix::Other => ManualCode::Fault(14, 0),
+    match form {
+        Form::Word(w) => Ok(ManualCode::Word(w)),
+        Form::Value(w, v) => Ok(ManualCode::Value(w, v)),
+        Form::Long(w, v) => Ok(ManualCode::Long(w, v)),
+        Form::Labelled(w, name) => match labels.find(name) {
+            Some(x) => Ok(ManualCode::Address(w, x)),
+            None => Err(Fault::NoEncoding(6)),
+        },
+        Form::Branch(condition, s) => match parse_displacement(labels, address, Room::Byte, s) {
+            Ok(d) => Ok(ManualCode::Word(branch_word(condition, (d % 256) as u8))),
+            Err(unfit) => Err(unfit.fault(2)),
+        },
+        Form::Loop(w, s) => match parse_displacement(labels, address, Room::Word, s) {
+            Ok(d) => Ok(ManualCode::Value(w, d)),
+            Err(unfit) => Err(unfit.fault(4)),
+        },
     }
 }
 
-// Two.
-fn encode_two(
-    source: &[u8],
-    table: &[u32],
-    labels: usize,
-    address: u32,
-    o: Operation,
-    x: Suffix,
-    s: &[u8],
-    t: &[u8],
-) -> ManualCode
-    requires { Held source.now table.now labels }
-    ensures { Codes (table_of source.now table.now labels) address (form_by (head_by x o) (s.now ∷ t.now ∷ [])) result }
-{
-    match x {
-        Suffix::None => encode_plain_two(source, table, labels, address, o, s, t),
-        Suffix::Empty => ManualCode::Fault(14, 0),
-        Suffix::Long => encode_long_two(source, table, labels, o, s, t),
-        Suffix::Word => encode_word_two(o, s, t),
-        Suffix::Other => ManualCode::Fault(14, 0),
-    }
-}
-
-// The form of an operation, its operands `found` in `tail`; none has more than two.
-fn encode_operands(
-    source: &[u8],
-    table: &[u32],
-    labels: usize,
-    address: u32,
-    o: Operation,
-    x: Suffix,
-    found: Operands,
-    tail: &[u8],
-) -> ManualCode
-    requires held { Held source.now table.now labels × Conditioned o }
-    requires found_value { found ≡ operands_at tail.now }
-    ensures { Codes (table_of source.now table.now labels) address (form_by (head_by x o) (operands_in tail.now)) result }
-{
-    let count = found.count;
-    if count == 0 {
-        return encode_bare(o, x);
-    }
-    let a = found.first.start;
-    let b = found.first.end;
-    let s = &tail[a..b];
-    if count == 1 {
-        return encode_one(source, table, labels, address, o, x, s);
-    }
-    if count != 2 {
-        return ManualCode::Fault(14, 0);
-    }
-    let c = found.second.start;
-    let d = found.second.end;
-    encode_two(source, table, labels, address, o, x, s, &tail[c..d])
-}
-
-// The form of an operation, its operands cut from `tail`.
+// The words of an operation, its operands cut from `tail`.
 fn encode_tail(
-    source: &[u8],
-    table: &[u32],
-    labels: usize,
+    labels: &Labels<'_>,
     address: u32,
     o: Operation,
     x: Suffix,
     tail: &[u8],
-) -> ManualCode
-    requires { Held source.now table.now labels × Conditioned o }
-    ensures { Codes (table_of source.now table.now labels) address (form_by (head_by x o) (operands_in tail.now)) result }
+) -> Result<ManualCode, Fault>
+    requires { Conditioned o }
+    ensures { Codes labels.now.table address (form_by (head_by x o) (operands_in tail.now)) result }
 {
     let found = instruction::split_operands(tail);
-    encode_operands(source, table, labels, address, o, x, found, tail)
+    let Some(form) = operation::read_operands(o, x, found, tail) else {
+        return Err(NO_FORM);
+    };
+    encode_form(form, labels, address)
 }
 
-// What the instruction whose text is `t` comes to at an address; its tail is copied only where it does not stand joined.
-pub fn encode_manual(
-    source: &[u8],
-    table: &[u32],
-    labels: usize,
-    address: u32,
-    t: &[u8],
-) -> ManualCode
-    requires { Held source.now table.now labels × (length t.now ≤ max_source) }
-    ensures { EncodeManualGives (table_of source.now table.now labels) address (instruction_of t.now) result }
+/// What the instruction whose text is `t` comes to at an address: its words; or its fault, with the bytes that it takes all the same.
+/// Its tail is copied only where it does not stand joined.
+pub fn encode_manual(labels: &Labels<'_>, address: u32, t: &[u8]) -> Result<ManualCode, Fault>
+    requires { length t.now ≤ max_source }
+    ensures size { size_in result ≡ manual_size (instruction_of t.now) }
+    ensures fault { fault_of result ≡ manual_fault labels.now.table address (instruction_of t.now) }
+    ensures words { contents_of result ≡ words_by manual_encode labels.now.table address (instruction_of t.now) }
 {
     let head = instruction::read_head(t);
-    let a = head.start;
-    let b = head.end;
-    let tail = head.tail;
-    let o = opcode::mnemonic::find_operation(&t[a..b]);
+    let Some(o) = opcode::mnemonic::find_operation(&t[head.start..head.end]) else {
+        return Err(NO_FORM);
+    };
     let x = instruction::suffix_of(t, head);
-    let start = text::skip_blanks(t, tail);
+    let start = text::skip_blanks(t, head.tail);
     if instruction::is_joined(t, start) {
-        return encode_tail(source, table, labels, address, o, x, &t[start..]);
+        encode_tail(labels, address, o, x, &t[start..])
+    } else {
+        copied::encode_copied(labels, address, o, x, t, head.tail)
     }
-    encode_copied(source, table, labels, address, o, x, t, tail)
 }
