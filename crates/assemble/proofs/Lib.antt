@@ -1,3 +1,3 @@
 pub mod Lists
-pub mod TwoPasses
 pub mod Faults
+pub mod Outcomes

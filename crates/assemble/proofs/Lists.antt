@@ -1,90 +1,102 @@
--- What a call gives once the list is known: refusal 7 or the list; and whether the list fits. Assumes nothing.
-use mathlib.Core.Path.{◌≡◌, refl, sym, ap, ◌∙◌}
-use mathlib.Core.Bool.{Bool, true, false, false≢true, not, ◌||◌}
-use mathlib.Core.List.{List, []}
-use Prim.Native.Nat.{ℕ, ◌≤◌}
-use native.Mathlib.Omega.{arith}
-use borrow.Author.Tests.{ltb-false, le-ltb}
-use lib.Dec.{ltb}
-use lib.ListN.{length}
-use Rattle.rules.specs.Answer.{Answer as Ruled, accepted, refused, refuse_if, and_then}
-use Rattle.rules.specs.Assemble.{Place, Slices, short, room, over, holding, write_list}
-use Rattle.answer.specs.declared.Answer.TheVariants.{Accepted, Refused}
-use Rattle.emit.specs.Emit.{Room}
-use Rattle.assemble.specs.Assembled.{fit_by, fit_of, Outcome}
-use Rattle.assemble.specs.declared.Fit.{Fit}
-use Rattle.assemble.specs.declared.Fit.TheVariants.{Fits, Short}
+-- What a call gives once the list is known: refusal 7, or the list in the slices. Assumes nothing.
+use Rattle.std.proofs.Common.{◌≡◌, ℕ, ◌*◌, ◌≤◌, List, Bool, true, false, ◌||◌, ltb, ltb-false, le-ltb, length, refl, sym, ◌∙◌, arith}
+use mathlib.Core.Bool.{false≢true}
+use Rattle.rules.specs.Limits.{max_lines}
+use Rattle.rules.specs.Text.{cut_at}
+use Rattle.rules.specs.Line.{size}
+use Rattle.rules.specs.Encode.{Mnemonic, encode_by}
+use Rattle.rules.specs.Answer.{Answer, accepted, refused, refuse_if, and_then}
+use Rattle.rules.specs.Assemble.{Place, Slices, slices, short, room, holding, write_list, assemble_by, second_pass_by}
+use Rattle.promises.specs.Lawful.{RulesAreLawful}
+use Rattle.promises.specs.Longest.{AtMostALine}
+use Rattle.promises.proofs.Lawful.{rules_are_lawful}
+use Rattle.promises.proofs.Longest.{at_most_a_line}
+use Rattle.label.specs.Labelled.{Labelled}
+use Rattle.first.specs.Pass.{pass_in, Holds}
+use Rattle.first.specs.declared.Pass.{Pass}
+use Rattle.emit.specs.Places.{Room, placed}
+use Rattle.emit.specs.declared.places.Places.{Places}
+use Rattle.assemble.specs.Assembled.{called, fits}
 
--- a refusal changes nothing
-pub refusal : (list : Ruled (List Place)) (x : Slices) (n p : ℕ) → list ≡ refused n p → Outcome list x (Refused n p) x
-unfolding and_then write_list
-refusal list x n p e = rw e (record { answer = refl; slices = refl })
+-- ---- how long a list is
+module _ (ns : List Mnemonic) {labels : Labelled} {cells : List ℕ} {p : Pass} (h : Holds labels cells p) where
+  holds_list : assemble_by size (encode_by ns) p.base labels.source ≡ accepted (second_pass_by (encode_by ns) (pass_in labels cells p))
+  unfolding assemble_by and_then
+  holds_list = rw h.passed
 
-module _ (l : List Place) (x : Slices) (n : ℕ) (e : n ≡ length l) where
-  pub refusal_7 : short x n ≡ true → Outcome (accepted l) x (Refused 7 n) x
-  unfolding and_then room refuse_if write_list
-  refusal_7 s = let t = rw e at s in record { answer = rw (t, e); slices = rw (t, write_list) }
+  -- "at most two a line", and so few lines that twice their number is a `usize`
+  pub list_few : (length (second_pass_by (encode_by ns) (pass_in labels cells p)) ≤ 2 * length (cut_at 10 labels.source)) × (length (cut_at 10 labels.source) ≤ max_lines)
+  unfolding AtMostALine RulesAreLawful
+  list_few = at_most_a_line size (encode_by ns) 2 (rules_are_lawful ns) labels.source p.base _ holds_list
 
-  pub listed : short x n ≡ false → (y : Slices) → y ≡ holding l x → Outcome (accepted l) x (Accepted n) y
-  unfolding and_then room refuse_if write_list
-  listed s y h = let t = rw e at s in record { answer = rw (t, e); slices = h ∙ rw (t, write_list) }
-
--- none of three tests holds
+-- ---- room
 none_of : (a b c : Bool) → (a || b || c) ≡ false → (a ≡ false) × (b ≡ false) × (c ≡ false)
 none_of false false false e = (refl, refl, refl)
 none_of false false true e = absurd (false≢true (sym e))
 none_of false true c e = absurd (false≢true (sym e))
 none_of true b c e = absurd (false≢true (sym e))
 
--- slices that are not short have room, and those that have room are not short
 pub has_room : (x : Slices) (n : ℕ) → short x n ≡ false → Room n x
 unfolding short
 has_room x n s =
     let t = none_of (ltb (length x.addresses) n) (ltb (length x.words) n) (ltb (length x.marks) n) s in
     record { addresses = ltb-false _ n t.0; words = ltb-false _ n t.1; marks = ltb-false _ n t.2 }
 
-not_short : (x : Slices) (n : ℕ) → Room n x → short x n ≡ false
+-- more room than it needs
+pub more_room : (x : Slices) (m n : ℕ) → short x m ≡ false → n ≤ m → short x n ≡ false
 unfolding short
-not_short x n r = rw (le-ltb _ n r.addresses, le-ltb _ n r.words, le-ltb _ n r.marks)
+more_room x m n s h = let r = has_room x m s in rw (le-ltb (length x.addresses) n (omega (arith, r.addresses)), le-ltb (length x.words) n (omega (arith, r.words)), le-ltb (length x.marks) n (omega (arith, r.marks)))
 
--- ---- whether the list fits
+-- ---- a call by its list
+module _ (list : Answer (List Place)) (x : Slices) (r p : ℕ) (e : list ≡ refused r p) where
+  pub refusal : refused r p ≡ called list x
+  unfolding and_then
+  refusal = rw e
+
+  pub refusal_keeps : x ≡ write_list list x
+  unfolding write_list
+  refusal_keeps = rw e
+
 module _ (l : List Place) (x : Slices) where
-  -- more room than it needs
-  pub fits_surely : (m : ℕ) → length l ≤ m → short x m ≡ false → Fits ≡ fit_of l x
-  fits_surely m h s =
-      let r = has_room x m s in
-      rw (not_short x (length l) (record { addresses = omega (arith, r.addresses); words = omega (arith, r.words); marks = omega (arith, r.marks) }))
+  pub fits_ok : short x (length l) ≡ false → accepted tt ≡ fits x l
+  unfolding refuse_if
+  fits_ok s = rw s
 
   module _ (n : ℕ) (e : n ≡ length l) where
-    pub fits_counted : short x n ≡ false → Fits ≡ fit_of l x
-    fits_counted s = rw (rw e at s)
+    pub fits_7 : short x n ≡ true → refused 7 n ≡ fits x l
+    unfolding refuse_if
+    fits_7 s = let t = rw e at s in rw (t, e)
 
-    pub short_counted : short x n ≡ true → Short n ≡ fit_of l x
-    short_counted s = rw (rw e at s) (ap Short e)
+    pub short_7 : short x n ≡ true → refused 7 n ≡ called (accepted l) x
+    unfolding and_then room refuse_if
+    short_7 s = let t = rw e at s in rw (t, e)
 
-fit_short : (y : Bool) (m n : ℕ) → fit_by y m ≡ Short n → (y ≡ true) × (n ≡ m)
-fit_short true m n e = (refl, cc)
-fit_short false m n e = absurd (false≢true cc)
+    pub short_keeps : short x n ≡ true → x ≡ write_list (accepted l) x
+    unfolding write_list
+    short_keeps s = let t = rw e at s in rw (t, write_list)
 
-fit_fits : (y : Bool) (m : ℕ) → fit_by y m ≡ Fits → y ≡ false
-fit_fits true m e = absurd (false≢true cc)
-fit_fits false m e = refl
+    pub listed : short x (length l) ≡ false → accepted n ≡ called (accepted l) x
+    unfolding and_then room refuse_if
+    listed s = rw (s, e)
 
-module _ (l : List Place) (x : Slices) (r : Fit) (e : r ≡ fit_of l x) where
-  pub too_short : (n : ℕ) → r ≡ Short n → Outcome (accepted l) x (Refused 7 n) x
-  too_short n f = let k = fit_short (short x (length l)) (length l) n (sym e ∙ f) in refusal_7 l x n k.1 (ap (short x) k.1 ∙ k.0)
+  module _ (r p : ℕ) (e : refused r p ≡ fits x l) where
+    pub no_room : refused r p ≡ called (accepted l) x
+    unfolding and_then room refuse_if
+    no_room = go (short x (length l)) refl
+      where
+        go : (b : Bool) → short x (length l) ≡ b → refused r p ≡ refuse_if (short x (length l)) 7 (length l) (accepted (length l))
+        go true s = let d = rw s at e in let u : r ≡ 7 = cc in let v : p ≡ length l = cc in rw (s, u, v)
+        go false s = absurd (let d = rw s at e in false≢true cc)
 
-  pub fits : r ≡ Fits → short x (length l) ≡ false
-  fits f = fit_fits (short x (length l)) (length l) (sym e ∙ f)
+    pub no_room_keeps : x ≡ write_list (accepted l) x
+    unfolding write_list refuse_if
+    no_room_keeps = go (short x (length l)) refl
+      where
+        go : (b : Bool) → short x (length l) ≡ b → x ≡ write_list (accepted l) x
+        go true s = rw (s, write_list)
+        go false s = absurd (let d = rw s at e in false≢true cc)
 
-pub is_not : (b : Bool) → not b ≡ true → b ≡ false
-is_not true e = absurd (false≢true e)
-is_not false e = refl
-
--- nothing held changes nothing
-pub nothing_held : {x y : Slices} → y ≡ holding [] x → y ≡ x
-unfolding holding over
-nothing_held e = e
-
-pub never : {A : Type 0} → false ≡ true → A
-never e = absurd (false≢true e)
+  pub listed_slices : short x (length l) ≡ false → (q : Places) → placed q ≡ holding l x → {xs ws ms : List ℕ}
+      → xs ≡ q.addresses.now → ws ≡ q.words.now → ms ≡ q.marks.now → slices xs ws ms ≡ write_list (accepted l) x
+  unfolding write_list
+  listed_slices s q h a b c = rw (a, b, c) (h ∙ rw (s, write_list))

@@ -1,209 +1,251 @@
 #![tactic(auto)]
 
-// The assembler: refusals 1 to 7, and the list of a source at a base in three lent slices; the same under a branch table (W-210),
-// with refusals 16 and 17; and the manual's call of W-207, with 14 and 15. `lent` and `names`, last in each pass so that 01's call
-// keeps its registers, are the names in use, as in `branches`; where no table is lent, the source stands for it and is not read as one.
-ghost use Rattle.std.specs.Prelude.{◌≡◌, ◌≤◌};
-ghost use Rattle.rules.specs.Answer.{accepted};
-ghost use Rattle.rules.specs.Line.{size};
+//! The assembler: the list of a source at a base in three lent slices; the same under a branch table; and by the manual's own words.
+ghost use Rattle.std.specs.Prelude.{◌≡◌, ◌≤◌, ◌+◌, ◌*◌, ◌<◌, ◌^◌, min, false, Result, IfOk, IfErr, OnOk, length, [], List, None, Some};
+ghost use Rattle.rules.specs.Limits.{max_labels, max_lines};
+ghost use Rattle.rules.specs.Text.{cut_at};
 ghost use Rattle.rules.specs.Encode.{encode_by};
-ghost use Rattle.rules.specs.Assemble.{slices, assemble_by};
-ghost use Rattle.branches.specs.Branch.{names_in};
-ghost use Rattle.assemble.specs.Assembled.{SecondPassNeeds, PassesInNeeds, list_of, fit_of, Outcome, Starting, StartGives, short_lines, Assembled, AssembledUnder, AssembledManual};
+ghost use Rattle.rules.specs.Answer.{Answer};
+ghost use Rattle.rules.specs.Assemble.{Pass as Passed, Place, slices, short, write_list, encoded, second_pass_by, assemble_answer, assemble_slices};
+ghost use Rattle.requests.specs.Branches.{assemble_under_answer, assemble_under_slices};
+ghost use Rattle.requests.specs.ManualAssemble.{manual_answer, manual_slices};
+ghost use Rattle.answer.specs.Refusal.{answer_of};
+ghost use Rattle.label.specs.Table.{hashes};
+ghost use Rattle.first.specs.Pass.{pass_in, HoldsBy, Holds};
+ghost use Rattle.emit.specs.Emit.{names_of};
+ghost use Rattle.assemble.specs.Assembled.{list_by, called, fits, Refuses, Starting};
 
-use answer::Answer;
-use first::{Entered, Pass};
+use answer::Refusal;
+use emit::Encoding;
+use emit::places::Places;
+use first::{Pass, ScriptSizes, Sizing};
+use label::Labels;
 
-mod manual_call; // manual_call.rt: both passes of the manual's call
+mod manual_call; // manual_call.rt: the manual's second pass
 
-// Whether the slices have room for the list: if not, how many places it has.
-#[derive(Clone, Copy)]
-enum Fit {
-    Fits,
-    Short(usize),
+/// The most lines whose labels, two a line, have room in a small table.
+const SHORT: usize = label::SMALL_LABELS / 2;
+
+/// The cells of so many lines, and of as many as there may be.
+const SHORT_CELLS: usize = 2 * SHORT;
+
+const LONG_CELLS: usize = 2 * rules::MAX_LINES;
+
+/// An assembling call: the sizes that its first pass goes by, and its second pass.
+trait Call {
+    type Sizes: Sizing;
+
+    // What the second pass makes of the first one's.
+    ghost list: { Self → Passed → Answer (List Place) };
+
+    /// The list in the first places of the three slices, and its count; or refused, with nothing written.
+    fn second_pass(
+        &self,
+        labels: &Labels<'_>,
+        cells: &[u32],
+        pass: Pass,
+        lines: usize,
+        addresses: &mut [u32],
+        words: &mut [u16],
+        marks: &mut [u8],
+    ) -> Result<usize, Refusal>
+        requires holds { HoldsBy Self.Sizes.sizes labels.now cells.now pass }
+        requires lines { lines ≡ length (cut_at 10 labels.now.source) }
+        requires few { length cells.now ≤ 2 * max_lines }
+        ensures answer { answer_of result ≡ called (list self.now (pass_in labels.now cells.now pass)) (slices addresses.old words.old marks.old) }
+        ensures slices { slices addresses.new words.new marks.new ≡ write_list (list self.now (pass_in labels.now cells.now pass)) (slices addresses.old words.old marks.old) };
 }
 
-// Looks whether the list fits. It is counted only where two places a line, the most that it has, would not.
+/// Refused where the slices have no room for the list. It is counted only where two places a line, the most that it has, would not do.
 fn fit_list(
-    source: &[u8],
-    table: &[u32],
+    names: Option<&[u8]>,
+    labels: &Labels<'_>,
     cells: &[u32],
     pass: Pass,
     lines: usize,
-    addresses: &mut [u32],
-    words: &mut [u16],
-    marks: &mut [u8],
-    lent: bool,
-    names: &[u8],
-) -> Fit
-    requires { SecondPassNeeds source.now table.now cells.now pass lines }
-    ensures value { result ≡ fit_of (list_of (names_in lent names.now) source.now table.now cells.now pass) (slices addresses.old words.old marks.old) }
-    ensures marks_unchanged { slices addresses.new words.new marks.new ≡ slices addresses.old words.old marks.old }
+    addresses: &[u32],
+    words: &[u16],
+    marks: &[u8],
+) -> Result<(), Refusal>
+    requires holds { Holds labels.now cells.now pass }
+    requires lines { lines ≡ length (cut_at 10 labels.now.source) }
+    ensures answer { answer_of result ≡ fits (slices addresses.now words.now marks.now) (second_pass_by (encode_by (names_of names.entry)) (pass_in labels.now cells.now pass)) }
+    ensures room { OnOk result (short (slices addresses.now words.now marks.now) (length (second_pass_by (encode_by (names_of names.entry)) (pass_in labels.now cells.now pass))) ≡ false) }
 {
     if !answer::is_short(addresses, words, marks, 2 * lines) {
-        return Fit::Fits;
+        return Ok(());
     }
-    let count = emit::emit_words(
-        false, false, source, table, cells, cells, pass, addresses, words, marks, lent, names,
-    );
+    let count = emit::count_words(names, labels, cells, pass);
     if answer::is_short(addresses, words, marks, count) {
-        return Fit::Short(count);
+        return Err(Refusal::ShortSlice(count));
     }
-    Fit::Fits
+    Ok(())
 }
 
-// The second pass: refusal 7, or the words.
-fn second_pass(
-    source: &[u8],
-    table: &[u32],
-    cells: &[u32],
-    pass: Pass,
-    lines: usize,
-    addresses: &mut [u32],
-    words: &mut [u16],
-    marks: &mut [u8],
-    lent: bool,
-    names: &[u8],
-) -> Answer
-    requires { SecondPassNeeds source.now table.now cells.now pass lines }
-    ensures { Outcome (accepted (list_of (names_in lent names.now) source.now table.now cells.now pass)) (slices addresses.old words.old marks.old) result (slices addresses.new words.new marks.new) }
+/// The words of a script, by the names in use.
+#[derive(Clone, Copy)]
+struct Script<'a> {
+    names: Option<&'a [u8]>,
+}
+
+impl<'a> Call for Script<'a> {
+    type Sizes = ScriptSizes;
+
+    ghost list = { λ call. encoded (encode_by (names_of call.names)) };
+
+    fn second_pass(
+        &self,
+        labels: &Labels<'_>,
+        cells: &[u32],
+        pass: Pass,
+        lines: usize,
+        addresses: &mut [u32],
+        words: &mut [u16],
+        marks: &mut [u8],
+    ) -> Result<usize, Refusal> {
+        fit_list(
+            self.names, labels, cells, pass, lines, addresses, words, marks,
+        )?;
+        let mut places = Places::new(addresses, words, marks);
+        let words = Encoding::Named(self.names);
+        let count = emit::emit_words(words, labels, cells, pass, &mut places);
+        Ok(count)
+    }
+}
+
+/// How many lines a source has that refusals 1 to 4 let pass.
+fn start(source: &[u8], base: u32) -> Result<usize, Refusal>
+    ensures starting { IfOk result (Starting source.now base) }
+    ensures refused { IfErr result (Refuses source.now base) }
 {
-    let room = fit_list(
-        source, table, cells, pass, lines, addresses, words, marks, lent, names,
-    );
-    if let Fit::Short(count) = room {
-        return Answer::Refused(7, count);
+    let lines = source::check_source(source)?;
+    if base >= rules::ADDRESS_LIMIT {
+        return Err(Refusal::HighBase);
     }
-    let count = emit::emit_words(
-        false, true, source, table, cells, cells, pass, addresses, words, marks, lent, names,
-    );
-    Answer::Accepted(count)
+    Ok(lines)
 }
 
-// Both passes over a source within the limits, of so many lines, with a table that has no labels yet and two cells a line.
-fn passes_in(
-    source: &[u8],
+/// Both passes over a source, with labels and cells that are lent.
+fn passes_in<C: Call>(
+    call: &C,
+    labels: &mut Labels<'_>,
     base: u32,
     lines: usize,
-    table: &mut [u32],
     cells: &mut [u32],
     addresses: &mut [u32],
     words: &mut [u16],
     marks: &mut [u8],
-    lent: bool,
-    names: &[u8],
-) -> Answer
-    requires { PassesInNeeds source.now base lines table.old cells.old }
-    ensures { Outcome (assemble_by size (encode_by (names_in lent names.now)) base source.now) (slices addresses.old words.old marks.old) result (slices addresses.new words.new marks.new) }
+) -> Result<usize, Refusal>
+    requires starting { Starting labels.old.source base lines }
+    requires empty { labels.old.table ≡ [] }
+    requires rows { min (2 * lines) max_labels ≤ labels.old.room }
+    requires lines { 2 * lines ≤ length cells.old }
+    requires few { length cells.old ≤ 2 * max_lines }
+    ensures answer { answer_of result ≡ called (list_by C.Sizes.sizes (C.list call.now) base labels.old.source) (slices addresses.old words.old marks.old) }
+    ensures slices { slices addresses.new words.new marks.new ≡ write_list (list_by C.Sizes.sizes (C.list call.now) base labels.old.source) (slices addresses.old words.old marks.old) }
 {
-    match first::first_pass(false, source, base, table, cells) {
-        Entered::Refused(n, p) => Answer::Refused(n, p),
-        Entered::Done(pass) => {
-            second_pass(
-                source, table, cells, pass, lines, addresses, words, marks, lent, names,
-            )
-        }
-    }
+    let pass = first::first_pass::<C::Sizes>(labels, base, cells)?;
+    call.second_pass(labels, cells, pass, lines, addresses, words, marks)
 }
 
-// The most lines whose labels, two a line, have room in a small table.
-pub const SHORT: usize = label::SMALL_LABELS / 2;
-
-// Both passes over a short source.
-fn short_passes(
+/// The same, with a table and cells of these sizes.
+fn passes_with<C: Call, const TABLE: usize, const CELLS: usize>(
+    call: &C,
     source: &[u8],
     base: u32,
     lines: usize,
     addresses: &mut [u32],
     words: &mut [u16],
     marks: &mut [u8],
-    lent: bool,
-    names: &[u8],
-) -> Answer
-    requires { Starting source.now base lines × (lines ≤ short_lines) }
-    ensures { Outcome (assemble_by size (encode_by (names_in lent names.now)) base source.now) (slices addresses.old words.old marks.old) result (slices addresses.new words.new marks.new) }
+) -> Result<usize, Refusal>
+    requires starting { Starting source.now base lines }
+    requires table { hashes + 4 * min (2 * lines) max_labels ≤ TABLE }
+    requires cells { 2 * lines ≤ CELLS }
+    requires small { TABLE < 2 ^ 32 }
+    requires few { CELLS ≤ 2 * max_lines }
+    ensures answer { answer_of result ≡ called (list_by C.Sizes.sizes (C.list call.now) base source.now) (slices addresses.old words.old marks.old) }
+    ensures slices { slices addresses.new words.new marks.new ≡ write_list (list_by C.Sizes.sizes (C.list call.now) base source.now) (slices addresses.old words.old marks.old) }
 {
-    let mut table = [0u32; label::SMALL];
-    let mut cells = [0u32; 2 * SHORT];
+    let mut table = [0; TABLE];
+    let mut cells = [0; CELLS];
+    let mut labels = Labels::new(source, &mut table);
     passes_in(
-        source, base, lines, &mut table, &mut cells, addresses, words, marks, lent, names,
+        call,
+        &mut labels,
+        base,
+        lines,
+        &mut cells,
+        addresses,
+        words,
+        marks,
     )
 }
 
-// Both passes over any source.
-fn long_passes(
+/// Both passes. A shorter source has a smaller table and fewer cells, since they are cleared for each call.
+fn passes<C: Call>(
+    call: &C,
     source: &[u8],
     base: u32,
     lines: usize,
     addresses: &mut [u32],
     words: &mut [u16],
     marks: &mut [u8],
-    lent: bool,
-    names: &[u8],
-) -> Answer
-    requires { Starting source.now base lines }
-    ensures { Outcome (assemble_by size (encode_by (names_in lent names.now)) base source.now) (slices addresses.old words.old marks.old) result (slices addresses.new words.new marks.new) }
-{
-    let mut table = [0u32; label::TABLE];
-    let mut cells = [0u32; 2 * rules::MAX_LINES];
-    passes_in(
-        source, base, lines, &mut table, &mut cells, addresses, words, marks, lent, names,
-    )
-}
-
-// Both passes. A shorter source has a smaller table and fewer cells, since they are cleared for each call.
-fn passes(
-    source: &[u8],
-    base: u32,
-    lines: usize,
-    addresses: &mut [u32],
-    words: &mut [u16],
-    marks: &mut [u8],
-    lent: bool,
-    names: &[u8],
-) -> Answer
-    requires { Starting source.now base lines }
-    ensures { Outcome (assemble_by size (encode_by (names_in lent names.now)) base source.now) (slices addresses.old words.old marks.old) result (slices addresses.new words.new marks.new) }
+) -> Result<usize, Refusal>
+    requires starting { Starting source.now base lines }
+    ensures answer { answer_of result ≡ called (list_by C.Sizes.sizes (C.list call.now) base source.now) (slices addresses.old words.old marks.old) }
+    ensures slices { slices addresses.new words.new marks.new ≡ write_list (list_by C.Sizes.sizes (C.list call.now) base source.now) (slices addresses.old words.old marks.old) }
 {
     if lines <= SHORT {
-        return short_passes(source, base, lines, addresses, words, marks, lent, names);
+        passes_with::<C, { label::SMALL }, SHORT_CELLS>(
+            call, source, base, lines, addresses, words, marks,
+        )
+    } else {
+        passes_with::<C, { label::TABLE }, LONG_CELLS>(
+            call, source, base, lines, addresses, words, marks,
+        )
     }
-    long_passes(source, base, lines, addresses, words, marks, lent, names)
 }
 
-// Refusals 1 to 4, or how many lines the source has.
-fn start(source: &[u8], base: u32) -> Answer
-    ensures { StartGives source.now base result }
+/// The whole call: refusals 1 to 4, and both passes.
+fn assemble_by<C: Call>(
+    call: &C,
+    source: &[u8],
+    base: u32,
+    addresses: &mut [u32],
+    words: &mut [u16],
+    marks: &mut [u8],
+) -> Result<usize, Refusal>
+    ensures answer { answer_of result ≡ called (list_by C.Sizes.sizes (C.list call.now) base source.now) (slices addresses.old words.old marks.old) }
+    ensures slices { slices addresses.new words.new marks.new ≡ write_list (list_by C.Sizes.sizes (C.list call.now) base source.now) (slices addresses.old words.old marks.old) }
 {
-    let checked = source::check_source(source);
-    let Answer::Accepted(_) = checked else {
-        return checked;
-    };
-    if rules::ADDRESS_LIMIT <= base {
-        return Answer::Refused(4, 0);
-    }
-    checked
+    let lines = start(source, base)?;
+    passes(call, source, base, lines, addresses, words, marks)
 }
 
-// Assembles a source at a base. Answers the list's count, with the list in the first places of the three slices, or
-// one of refusals 1 to 7, with nothing written.
+/// Assembles a source at a base: the list's count, with the list in the first places of the three slices; or refused, with nothing
+/// written.
+#[tactic(auto, unfolding(rules::specs::Assemble::assemble_answer, rules::specs::Assemble::assemble_slices, rules::specs::Assemble::assemble_by, branches::specs::Branch::names_in))]
 pub fn assemble(
     source: &[u8],
     base: u32,
     addresses: &mut [u32],
     words: &mut [u16],
     marks: &mut [u8],
-) -> Answer
-    ensures { Assembled base source.now (slices addresses.old words.old marks.old) result (slices addresses.new words.new marks.new) }
+) -> Result<usize, Refusal>
+    ensures answer { answer_of result ≡ assemble_answer base source.now (slices addresses.old words.old marks.old) }
+    ensures slices { slices addresses.new words.new marks.new ≡ assemble_slices base source.now (slices addresses.old words.old marks.old) }
 {
-    let started = start(source, base);
-    let Answer::Accepted(lines) = started else {
-        return started;
-    };
-    passes(source, base, lines, addresses, words, marks, false, source)
+    assemble_by(
+        &Script { names: None },
+        source,
+        base,
+        addresses,
+        words,
+        marks,
+    )
 }
 
-// The same under the branch table `names`: refusals 16 and 17 come before all else.
+/// The same under the branch table `names`, which is refused before all else.
 pub fn assemble_branches(
     names: &[u8],
     source: &[u8],
@@ -211,33 +253,32 @@ pub fn assemble_branches(
     addresses: &mut [u32],
     words: &mut [u16],
     marks: &mut [u8],
-) -> Answer
-    ensures { AssembledUnder names.now base source.now (slices addresses.old words.old marks.old) result (slices addresses.new words.new marks.new) }
+) -> Result<usize, Refusal>
+    ensures answer { answer_of result ≡ assemble_under_answer names.now base source.now (slices addresses.old words.old marks.old) }
+    ensures slices { slices addresses.new words.new marks.new ≡ assemble_under_slices names.now base source.now (slices addresses.old words.old marks.old) }
 {
-    let loaded = branches::load_branches(names);
-    let Answer::Accepted(_) = loaded else {
-        return loaded;
-    };
-    let started = start(source, base);
-    let Answer::Accepted(lines) = started else {
-        return started;
-    };
-    passes(source, base, lines, addresses, words, marks, true, names)
+    branches::load_branches(names)?;
+    assemble_by(
+        &Script { names: Some(names) },
+        source,
+        base,
+        addresses,
+        words,
+        marks,
+    )
 }
 
-// Assembles a source at a base by the manual's sizes and words: the same, with refusals 14 and 15, line by line, before 7.
+/// The same by the manual's sizes and words: refused too where a line has no encoding there, before the slices are too short.
+#[tactic(auto, unfolding(requests::specs::ManualAssemble::manual_answer, requests::specs::ManualAssemble::manual_slices, requests::specs::ManualAssemble::assemble_manual))]
 pub fn assemble_manual(
     source: &[u8],
     base: u32,
     addresses: &mut [u32],
     words: &mut [u16],
     marks: &mut [u8],
-) -> Answer
-    ensures { AssembledManual base source.now (slices addresses.old words.old marks.old) result (slices addresses.new words.new marks.new) }
+) -> Result<usize, Refusal>
+    ensures answer { answer_of result ≡ manual_answer base source.now (slices addresses.old words.old marks.old) }
+    ensures slices { slices addresses.new words.new marks.new ≡ manual_slices base source.now (slices addresses.old words.old marks.old) }
 {
-    let started = start(source, base);
-    let Answer::Accepted(lines) = started else {
-        return started;
-    };
-    manual_call::passes(source, base, lines, addresses, words, marks)
+    assemble_by(&manual_call::Manual, source, base, addresses, words, marks)
 }

@@ -1,119 +1,81 @@
-// Both passes of the manual's call (W-207): refusals 6 and 5 by its sizes, 14 and 15, then 7, or its words. Nothing is written
-// before the last refusal is decided.
-ghost use Rattle.std.specs.Prelude.{◌≤◌};
-ghost use Rattle.rules.specs.Assemble.{slices};
-ghost use Rattle.requests.specs.ManualAssemble.{encoded_manual, assemble_manual};
-ghost use Rattle.first.specs.Pass.{pass_in};
-ghost use Rattle.emit.specs.Codes.{FindFaultNeeds};
-ghost use Rattle.assemble.specs.Assembled.{Outcome, Starting, short_lines, ManualPassesNeeds};
+//! The second pass of the manual's call: each line's code is kept when it is looked for a fault, and nothing is written before that.
+ghost use Rattle.std.specs.Prelude.{◌≡◌, ◌≤◌, ◌*◌, ◌<◌, ◌^◌, length};
+ghost use Rattle.rules.specs.Assemble.{slices, write_list};
+ghost use Rattle.requests.specs.ManualCall.{manual_size};
+ghost use Rattle.requests.specs.ManualAssemble.{encoded_manual};
+ghost use Rattle.answer.specs.Refusal.{answer_of};
+ghost use Rattle.first.specs.Pass.{pass_in, HoldsBy};
+ghost use Rattle.assemble.specs.Assembled.{called};
 
-use crate::SHORT;
-use answer::Answer;
-use first::{Entered, Pass};
+use crate::{Call, LONG_CELLS, SHORT_CELLS};
+use answer::Refusal;
+use emit::Encoding;
+use emit::places::Places;
+use first::{Pass, Sizing};
+use label::Labels;
 
-// The second pass: 14 and 15, then 7, or the words.
-fn second_pass(
-    source: &[u8],
-    table: &[u32],
+/// The manual's sizes and words.
+#[derive(Clone, Copy)]
+pub struct Manual;
+
+/// The second pass, with cells for the codes.
+fn coded_pass<const CODES: usize>(
+    labels: &Labels<'_>,
     cells: &[u32],
-    codes: &mut [u32],
     pass: Pass,
     addresses: &mut [u32],
     words: &mut [u16],
     marks: &mut [u8],
-) -> Answer
-    requires { FindFaultNeeds source.now table.now cells.now codes.old pass }
-    ensures { Outcome (encoded_manual (pass_in source.now table.now cells.now pass)) (slices addresses.old words.old marks.old) result (slices addresses.new words.new marks.new) }
+) -> Result<usize, Refusal>
+    requires holds { HoldsBy manual_size labels.now cells.now pass }
+    requires codes { length cells.now ≤ CODES }
+    requires small { CODES < 2 ^ 32 }
+    ensures answer { answer_of result ≡ called (encoded_manual (pass_in labels.now cells.now pass)) (slices addresses.old words.old marks.old) }
+    ensures slices { slices addresses.new words.new marks.new ≡ write_list (encoded_manual (pass_in labels.now cells.now pass)) (slices addresses.old words.old marks.old) }
 {
-    let found = emit::codes::find_fault(source, table, cells, codes, pass);
-    let Answer::Accepted(count) = found else {
-        return found;
-    };
+    let mut codes = [0; CODES];
+    let count = emit::codes::find_fault(labels, cells, &mut codes, pass)?;
     if answer::is_short(addresses, words, marks, count) {
-        return Answer::Refused(7, count);
+        return Err(Refusal::ShortSlice(count));
     }
-    let put = emit::emit_words(
-        true, true, source, table, cells, codes, pass, addresses, words, marks, false, source,
-    );
-    Answer::Accepted(put)
+    let mut places = Places::new(addresses, words, marks);
+    let words = Encoding::Kept(&codes);
+    let count = emit::emit_words(words, labels, cells, pass, &mut places);
+    Ok(count)
 }
 
-// Both passes over a source within the limits, with a table that has no labels yet, two cells a line, and as many for codes.
-fn passes_in(
-    source: &[u8],
-    base: u32,
-    table: &mut [u32],
-    cells: &mut [u32],
-    codes: &mut [u32],
-    addresses: &mut [u32],
-    words: &mut [u16],
-    marks: &mut [u8],
-) -> Answer
-    requires { ManualPassesNeeds source.now base table.old cells.old codes.old }
-    ensures { Outcome (assemble_manual base source.now) (slices addresses.old words.old marks.old) result (slices addresses.new words.new marks.new) }
-{
-    match first::first_pass(true, source, base, table, cells) {
-        Entered::Refused(n, p) => Answer::Refused(n, p),
-        Entered::Done(pass) => {
-            second_pass(source, table, cells, codes, pass, addresses, words, marks)
+impl Call for Manual {
+    type Sizes = Manual;
+
+    ghost list = { λ _. encoded_manual };
+
+    fn second_pass(
+        &self,
+        labels: &Labels<'_>,
+        cells: &[u32],
+        pass: Pass,
+        _lines: usize,
+        addresses: &mut [u32],
+        words: &mut [u16],
+        marks: &mut [u8],
+    ) -> Result<usize, Refusal> {
+        if cells.len() <= SHORT_CELLS {
+            coded_pass::<SHORT_CELLS>(labels, cells, pass, addresses, words, marks)
+        } else {
+            coded_pass::<LONG_CELLS>(labels, cells, pass, addresses, words, marks)
         }
     }
 }
 
-// Both passes over a short source.
-fn short_passes(
-    source: &[u8],
-    base: u32,
-    lines: usize,
-    addresses: &mut [u32],
-    words: &mut [u16],
-    marks: &mut [u8],
-) -> Answer
-    requires { Starting source.now base lines × (lines ≤ short_lines) }
-    ensures { Outcome (assemble_manual base source.now) (slices addresses.old words.old marks.old) result (slices addresses.new words.new marks.new) }
-{
-    let mut table = [0u32; label::SMALL];
-    let mut cells = [0u32; 2 * SHORT];
-    let mut codes = [0u32; 2 * SHORT];
-    passes_in(
-        source, base, &mut table, &mut cells, &mut codes, addresses, words, marks,
-    )
-}
+impl Sizing for Manual {
+    ghost use Rattle.assemble.specs.ManualSizes.{manual_small};
 
-// Both passes over any source.
-fn long_passes(
-    source: &[u8],
-    base: u32,
-    lines: usize,
-    addresses: &mut [u32],
-    words: &mut [u16],
-    marks: &mut [u8],
-) -> Answer
-    requires { Starting source.now base lines }
-    ensures { Outcome (assemble_manual base source.now) (slices addresses.old words.old marks.old) result (slices addresses.new words.new marks.new) }
-{
-    let mut table = [0u32; label::TABLE];
-    let mut cells = [0u32; 2 * rules::MAX_LINES];
-    let mut codes = [0u32; 2 * rules::MAX_LINES];
-    passes_in(
-        source, base, &mut table, &mut cells, &mut codes, addresses, words, marks,
-    )
-}
+    ghost sizes = { manual_size };
 
-// Both passes, with smaller arrays for a shorter source.
-pub fn passes(
-    source: &[u8],
-    base: u32,
-    lines: usize,
-    addresses: &mut [u32],
-    words: &mut [u16],
-    marks: &mut [u8],
-) -> Answer
-    requires { Starting source.now base lines }
-    ensures { Outcome (assemble_manual base source.now) (slices addresses.old words.old marks.old) result (slices addresses.new words.new marks.new) }
-{
-    if lines <= SHORT {
-        return short_passes(source, base, lines, addresses, words, marks);
+    // The size is the same at any address and with any labels.
+    fn text_size(labels: &Labels<'_>, t: &[u8]) -> u32 {
+        encode_manual::code_size(encode_manual::encode_manual(labels, 0, t))
     }
-    long_passes(source, base, lines, addresses, words, marks)
+
+    ghost small = { manual_small };
 }

@@ -1,10 +1,10 @@
 pub mod Stores
 pub mod Slices
-pub mod LineCode
-pub mod Coding
 pub mod Filled
 pub mod Lines
 pub mod Callers
 pub mod Whole
-pub mod Finding
+pub mod LineCode
+pub mod Coding
 pub mod Emitting
+pub mod Finding

@@ -1,12 +1,16 @@
 -- Places put into the three slices: the laws of stores, for all three at once. Assumes nothing.
 use mathlib.Core.Path.{◌≡◌, refl, sym, ap, ◌∙◌}
 use mathlib.Core.List.{List, [], ◌++◌, map, map-append}
-use Prim.Native.Nat.{ℕ, ◌+◌, ◌-◌, ◌≤◌}
+use Prim.Native.Nat.{ℕ, ◌+◌, ◌≤◌}
+use native.Mathlib.Nat.{add-zero}
+use native.Mathlib.Omega.{arith}
+use borrow.Rule.Slice.PartMut.{put_mid}
+use Prim.Native.Nat.{◌-◌}
 use lib.ListN.{length, take, drop, length-map}
 use lib.Seq.{sets, length-sets}
-use borrow.Rule.Slice.PartMut.{put_mid}
 use Rattle.rules.specs.Assemble.{Place, Slices, slices, over, holding}
-use Rattle.emit.specs.Emit.{put_from, Room}
+use Rattle.emit.specs.Places.{put_from, Room, placed, SameSlices, Puts, Taken}
+use Rattle.emit.specs.declared.places.Places.{Places}
 use Rattle.emit.proofs.Stores.{sets_append, sets_swap, sets_lent, sets_over}
 
 -- ---- one field of the places
@@ -41,29 +45,42 @@ pub put_none : (n : ℕ) (x : Slices) → put_from n [] x ≡ x
 unfolding put_from
 put_none n x = refl
 
--- some places, then more
-pub put_both : (l k : List Place) (n : ℕ) (x x₁ x₂ : Slices) → x₁ ≡ put_from n l x → x₂ ≡ put_from (n + length l) k x₁ → x₂ ≡ put_from n (l ++ k) x
-put_both l k n x x₁ x₂ e f = f ∙ rw e (sym (put_append l k n x))
-
 -- ---- the slices keep their lengths
-pub record SameLengths (x x' : Slices) : Type 0 where
-  pub addresses : length x'.addresses ≡ length x.addresses
-  pub words : length x'.words ≡ length x.words
-  pub marks : length x'.marks ≡ length x.marks
-
-pub put_long : (n : ℕ) (l : List Place) (x : Slices) → SameLengths x (put_from n l x)
+pub put_room : (n : ℕ) (l : List Place) (m : ℕ) (x : Slices) → Room m x → Room m (put_from n l x)
 unfolding put_from
-put_long n l x =
+put_room n l m x r =
     record {
-      addresses = length-sets x.addresses n (map (λ p. p.address) l);
-      words = length-sets x.words n (map (λ p. p.word) l);
-      marks = length-sets x.marks n (map (λ p. p.mark) l);
+      addresses = rw (length-sets x.addresses n (map (λ p. p.address) l)) r.addresses;
+      words = rw (length-sets x.words n (map (λ p. p.word) l)) r.words;
+      marks = rw (length-sets x.marks n (map (λ p. p.mark) l)) r.marks;
     }
 
-pub put_room : (n : ℕ) (l : List Place) (m : ℕ) (x : Slices) → Room m x → Room m (put_from n l x)
-put_room n l m x r =
-    let h = put_long n l x in
-    record { addresses = rw h.addresses r.addresses; words = rw h.words r.words; marks = rw h.marks r.marks }
+pub room_less : {x : Slices} (m n : ℕ) → m ≤ n → Room n x → Room m x
+room_less m n h r = record { addresses = omega (arith, r.addresses); words = omega (arith, r.words); marks = omega (arith, r.marks) }
+
+-- ---- the same of places
+pub same_slices : (p : Places) → SameSlices p p
+same_slices p = record { addresses = refl; words = refl; marks = refl }
+
+pub then_same : {p q r : Places} → SameSlices p q → SameSlices q r → SameSlices p r
+then_same h g = record { addresses = g.addresses ∙ h.addresses; words = g.words ∙ h.words; marks = g.marks ∙ h.marks }
+
+pub puts_none : (n : ℕ) (p : Places) → Puts n [] p p
+puts_none n p = record { same = same_slices p; put = sym (put_none n (placed p)) }
+
+-- some places, then more
+pub puts_both : {l k : List Place} {n : ℕ} {p q r : Places} (m : ℕ) → m ≡ n + length l → Puts n l p q → Puts m k q r → Puts n (l ++ k) p r
+puts_both {l} {k} {n} {p} m e h g = record { same = then_same h.same g.same; put = g.put ∙ rw (e, h.put) (sym (put_append l k n (placed p))) }
+
+pub puts_room : {l : List Place} {n : ℕ} {p q : Places} (m : ℕ) → Puts n l p q → Room m (placed p) → Room m (placed q)
+puts_room {l} {n} {p} m h r = rw h.put (put_room n l m (placed p) r)
+
+-- nothing taken
+pub taken_none : (n : ℕ) (l : List Place) (p : Places) → l ≡ [] → Taken n l p n p
+taken_none n l p e = rw e (record { count = sym (add-zero n); puts = puts_none n p })
+
+pub taken_as : {n r : ℕ} {l k : List Place} {p q : Places} → k ≡ l → Taken n k p r q → Taken n l p r q
+taken_as e h = rw e at h
 
 -- the rest of three slices
 abbrev pub rest_of : ℕ → List ℕ → List ℕ

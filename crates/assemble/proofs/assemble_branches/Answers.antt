@@ -1,15 +1,16 @@
--- `assemble_branches` checks the table, then 1 to 4, and makes the passes. Assumes nothing.
-use Rattle.assemble.proofs.TwoPasses.{started, ruled, call_refused, table_refused, table_accepted}
+use Rattle.std.proofs.Common.{◌∙◌}
+use Rattle.std.proofs.lemmas.Result.{err_from_is_err_and}
+use Rattle.assemble.proofs.Outcomes.{under_refused, under_keeps, under_answer, under_slices}
 use Rattle.assemble.proofs.assemble_branches.Goals as goal
 
-pub returns-in_default : goal.returns-in_default
-returns-in_default c = table_refused _ _ _ _ c.load_branches-loaded.ensures _ _ c.in_default.is
+pub returns-in_err-load_branches-clause-answer : goal.returns-in_err-load_branches-clause-answer
+returns-in_err-load_branches-clause-answer c = let p = err_from_is_err_and c.from_residual.result c.from_residual.ensures.1 in rw (p.1, p.2) (under_refused _ _ _ _ _ _ c.in_err-load_branches.ensures)
 
-pub returns-in_default-started : goal.returns-in_default-started
-returns-in_default-started c = table_accepted _ _ _ _ c.load_branches-loaded.ensures _ c.in-Accepted.is _ _ (call_refused (ruled _ _ _) _ c.start-started.result c.start-started.ensures _ _ c.in_default-started.is)
+pub returns-in_err-load_branches-clause-slices : goal.returns-in_err-load_branches-clause-slices
+returns-in_err-load_branches-clause-slices c = under_keeps _ _ _ _ _ _ c.in_err-load_branches.ensures
 
-pub passes-requires : goal.passes-requires
-passes-requires c = started c.start-started.result c.start-started.ensures _ c.in-Accepted-started.is
+pub returns-clause-answer : goal.returns-clause-answer
+returns-clause-answer c = c.assemble_by.ensures.answer ∙ under_answer _ _ _ _ _ c.in_ok-load_branches.ensures
 
-pub returns : goal.returns
-returns c = table_accepted _ _ _ _ c.load_branches-loaded.ensures _ c.in-Accepted.is _ _ c.passes.ensures
+pub returns-clause-slices : goal.returns-clause-slices
+returns-clause-slices c = c.assemble_by.ensures.slices ∙ under_slices _ _ _ _ _ c.in_ok-load_branches.ensures

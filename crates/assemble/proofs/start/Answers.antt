@@ -1,12 +1,9 @@
--- `start` checks 1 to 4. Assumes nothing.
-use Rattle.assemble.proofs.TwoPasses.{start_refused, start_4, start_done}
+use Rattle.std.proofs.lemmas.Result.{err_from_is_err_and}
+use Rattle.assemble.proofs.Outcomes.{check_refuses, refuses_4}
 use Rattle.assemble.proofs.start.Goals as goal
 
-pub returns-in_default : goal.returns-in_default
-returns-in_default c = start_refused _ _ _ c.check_source-checked.ensures _ _ c.in_default.is
+pub returns-in_err-lines-clause-refused : goal.returns-in_err-lines-clause-refused
+returns-in_err-lines-clause-refused c = let p = err_from_is_err_and c.from_residual.result c.from_residual.ensures.1 in rw (p.1, p.2) (check_refuses _ _ _ _ c.in_err-lines.ensures.answer)
 
-pub returns-then-base-ge-ADDRESS_LIMIT : goal.returns-then-base-ge-ADDRESS_LIMIT
-returns-then-base-ge-ADDRESS_LIMIT c = start_4 _ _ _ c.check_source-checked.ensures _ c.in-Accepted.is c.if-base-ge-ADDRESS_LIMIT.true
-
-pub returns : goal.returns
-returns c = start_done _ _ _ c.check_source-checked.ensures _ c.in-Accepted.is c.if-base-ge-ADDRESS_LIMIT.false
+pub returns-then-base-ge-ADDRESS_LIMIT-clause-refused : goal.returns-then-base-ge-ADDRESS_LIMIT-clause-refused
+returns-then-base-ge-ADDRESS_LIMIT-clause-refused c = refuses_4 c.in_ok-lines.ensures.clear c.if-base-ge-ADDRESS_LIMIT.true

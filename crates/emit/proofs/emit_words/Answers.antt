@@ -1,77 +1,61 @@
--- `emit_words` takes one line after another. Assumes nothing.
-use native.Mathlib.Nat.{le_refl}
-use native.Mathlib.Omega.{arith}
-use Rattle.emit.proofs.Emitting.{emitting_start, rest_room, rest_lent, after_fits, value_needs, code_needs, emitting_more, emitting_long, all_counted, count_fits, all_put}
+-- `emit_words` puts the words of the first k lines. Assumes nothing.
+use Rattle.std.proofs.Common.{arith, refl}
+use Rattle.emit.proofs.Emitting.{emitting_start, below, value_needs, rest_lent, instruction_needs, after_fits, emitting_more, all_counted, all_put}
+use Rattle.emit.specs.Places.{Room, placed}
+use Rattle.emit.proofs.emit_words.Goals.{After-put_value-values}
 use Rattle.emit.proofs.emit_words.Goals as goal
 
 pub loop-k-init : goal.loop-k-init
-loop-k-init c = emitting_start _ _ _ _ _ _ _ _ _ c.rest_start-rest.ensures
+loop-k-init c = emitting_start _ _ _ _ _
 
 pub kept_line-kept-requires : goal.kept_line-kept-requires
 kept_line-kept-requires c = record { room = omega (arith, c.requires.holds.lines.room, c.loop-k-test.true) }
 
-pub take_value-values-requires : goal.take_value-values-requires
-take_value-values-requires c = value_needs c.requires c.loop-k.invariant c.loop-k-test.true _ c.kept_line-kept.ensures (omega arith)
+pub put_value-values-requires : goal.put_value-values-requires
+put_value-values-requires c =
+    let k = c.kept_line-kept.ensures in
+    (below c.requires c.loop-k.invariant c.loop-k-test.true k, value_needs c.requires c.loop-k.invariant c.loop-k-test.true k)
 
-pub offset_bounds-addresses-rest : goal.offset_bounds-addresses-rest
-offset_bounds-addresses-rest c = record { fits = omega (arith, (rest_room c.requires c.rest_start-rest.ensures).addresses) }
+-- what is lent starts in the slices
+lent : (c : After-put_value-values) → Room c.args.pass.values (placed c.put_value-values.new.self)
+lent c = rest_lent c.requires c.loop-k.invariant c.loop-k-test.true c.kept_line-kept.ensures (c.put_value-values.ensures c.args.labels.now.source).puts
 
-pub slice_bounds-encode_task-count : goal.slice_bounds-encode_task-count
-slice_bounds-encode_task-count c = (rest_lent c.requires c.loop-k.invariant c.loop-k-test.true _ _ _ _ _ (c.take_value-values.ensures c.args.source.now).put).addresses
+pub offset_bounds-places-rest : goal.offset_bounds-places-rest
+offset_bounds-places-rest c = record { fits = omega (arith, (lent (goal.at.offset_bounds-places-rest c).After-put_value-values).addresses) }
 
-pub slice_bounds-encode_task-start : goal.slice_bounds-encode_task-start
-slice_bounds-encode_task-start c = (rest_lent c.requires c.loop-k.invariant c.loop-k-test.true _ _ _ _ _ (c.take_value-values.ensures c.args.source.now).put).addresses
+pub offset_bounds-places-rest-in-loop-k : goal.offset_bounds-places-rest-in-loop-k
+offset_bounds-places-rest-in-loop-k c = record { fits = omega (arith, (lent (goal.at.offset_bounds-places-rest-in-loop-k c).After-put_value-values).addresses) }
 
-pub slice_bounds-encode_task-end : goal.slice_bounds-encode_task-end
-slice_bounds-encode_task-end c = le_refl _
+pub slice_bounds-put_instruction-count : goal.slice_bounds-put_instruction-count
+slice_bounds-put_instruction-count c = (lent (goal.at.slice_bounds-put_instruction-count c).After-put_value-values).addresses
 
-pub offset_bounds-words-rest : goal.offset_bounds-words-rest
-offset_bounds-words-rest c = record { fits = omega (arith, (rest_room c.requires c.rest_start-rest.ensures).words) }
+pub slice_bounds-put_instruction-start : goal.slice_bounds-put_instruction-start
+slice_bounds-put_instruction-start c = (lent (goal.at.slice_bounds-put_instruction-start c).After-put_value-values).addresses
 
-pub slice_bounds-encode_task-count-in-loop-k : goal.slice_bounds-encode_task-count-in-loop-k
-slice_bounds-encode_task-count-in-loop-k c = (rest_lent c.requires c.loop-k.invariant c.loop-k-test.true _ _ _ _ _ (c.take_value-values.ensures c.args.source.now).put).words
+pub slice_bounds-put_instruction-count-in-loop-k : goal.slice_bounds-put_instruction-count-in-loop-k
+slice_bounds-put_instruction-count-in-loop-k c = (lent (goal.at.slice_bounds-put_instruction-count-in-loop-k c).After-put_value-values).words
 
-pub slice_bounds-encode_task-start-in-loop-k : goal.slice_bounds-encode_task-start-in-loop-k
-slice_bounds-encode_task-start-in-loop-k c = (rest_lent c.requires c.loop-k.invariant c.loop-k-test.true _ _ _ _ _ (c.take_value-values.ensures c.args.source.now).put).words
+pub slice_bounds-put_instruction-start-in-loop-k : goal.slice_bounds-put_instruction-start-in-loop-k
+slice_bounds-put_instruction-start-in-loop-k c = (lent (goal.at.slice_bounds-put_instruction-start-in-loop-k c).After-put_value-values).words
 
-pub slice_bounds-encode_task-end-in-loop-k : goal.slice_bounds-encode_task-end-in-loop-k
-slice_bounds-encode_task-end-in-loop-k c = le_refl _
+pub slice_bounds-put_instruction-count-in-loop-k-2 : goal.slice_bounds-put_instruction-count-in-loop-k-2
+slice_bounds-put_instruction-count-in-loop-k-2 c = (lent (goal.at.slice_bounds-put_instruction-count-in-loop-k-2 c).After-put_value-values).marks
 
-pub slice_bounds-encode_task-count-in-loop-k-2 : goal.slice_bounds-encode_task-count-in-loop-k-2
-slice_bounds-encode_task-count-in-loop-k-2 c = (rest_lent c.requires c.loop-k.invariant c.loop-k-test.true _ _ _ _ _ (c.take_value-values.ensures c.args.source.now).put).marks
+pub slice_bounds-put_instruction-start-in-loop-k-2 : goal.slice_bounds-put_instruction-start-in-loop-k-2
+slice_bounds-put_instruction-start-in-loop-k-2 c = (lent (goal.at.slice_bounds-put_instruction-start-in-loop-k-2 c).After-put_value-values).marks
 
-pub slice_bounds-encode_task-start-in-loop-k-2 : goal.slice_bounds-encode_task-start-in-loop-k-2
-slice_bounds-encode_task-start-in-loop-k-2 c = (rest_lent c.requires c.loop-k.invariant c.loop-k-test.true _ _ _ _ _ (c.take_value-values.ensures c.args.source.now).put).marks
-
-pub slice_bounds-encode_task-end-in-loop-k-2 : goal.slice_bounds-encode_task-end-in-loop-k-2
-slice_bounds-encode_task-end-in-loop-k-2 c = le_refl _
-
-pub encode_task-n-requires : goal.encode_task-n-requires
-encode_task-n-requires c = code_needs c.requires c.loop-k.invariant c.loop-k-test.true _ c.kept_line-kept.ensures (omega arith) _ _ _ _ _ (c.take_value-values.ensures c.args.source.now).put
+pub put_instruction-codes-requires : goal.put_instruction-codes-requires
+put_instruction-codes-requires c = instruction_needs c.requires c.loop-k.invariant c.loop-k-test.true c.kept_line-kept.ensures (c.put_value-values.ensures c.args.labels.now.source).puts
 
 pub overflow_cast-turn : goal.overflow_cast-turn
-overflow_cast-turn c = record { fits = rw c.address_after.ensures (after_fits c.requires c.loop-k.invariant c.loop-k-test.true _ c.kept_line-kept.ensures) }
-
-pub overflow_add-k : goal.overflow_add-k
-overflow_add-k c = omega (arith, c.loop-k-test.true)
-
-pub loop-k-smaller : goal.loop-k-smaller
-loop-k-smaller c = omega (arith, c.loop-k-test.true)
+overflow_cast-turn c = record { fits = rw c.address_after.ensures (after_fits c.requires c.loop-k.invariant c.loop-k-test.true c.kept_line-kept.ensures) }
 
 pub loop-k-preserved : goal.loop-k-preserved
-loop-k-preserved c = emitting_more c.requires c.loop-k.invariant c.loop-k-test.true _ c.kept_line-kept.ensures c.take_value-values.ensures c.encode_task-n.ensures c.address_after.ensures
+loop-k-preserved c =
+    emitting_more c.requires c.loop-k.invariant c.loop-k-test.true c.kept_line-kept.ensures c.put_value-values.ensures c.put_instruction-codes.ensures c.address_after.ensures _ (record { addresses = refl; words = refl; marks = refl }) refl
 
 pub overflow_add-result : goal.overflow_add-result
-overflow_add-result c = record { fits = count_fits c.loop-k.invariant c.requires c.loop-k-test.false (omega arith) }
-
-pub shape_of-addresses : goal.shape_of-addresses
-shape_of-addresses c = (emitting_long c.loop-k.invariant).addresses
-
-pub shape_of-words : goal.shape_of-words
-shape_of-words c = (emitting_long c.loop-k.invariant).words
-
-pub shape_of-marks : goal.shape_of-marks
-shape_of-marks c = (emitting_long c.loop-k.invariant).marks
+overflow_add-result c = omega (arith, all_counted c.requires c.loop-k.invariant c.loop-k-test.false, c.requires.room)
 
 pub returns : goal.returns
-returns c = record { value = all_counted c.loop-k.invariant c.requires c.loop-k-test.false; marks_after = all_put c.loop-k.invariant c.requires c.loop-k-test.false }
+returns c = record { value = all_counted c.requires c.loop-k.invariant c.loop-k-test.false; list = all_put c.requires c.loop-k.invariant c.loop-k-test.false }

@@ -1,16 +1,19 @@
--- `cells_of` makes cells of each kind of code. Assumes nothing.
-use native.Mathlib.Omega.{arith}
-use Rattle.emit.proofs.Coding.{word_cells, value_cells, long_cells, address_cells}
+-- `cells_of` keeps a code's words in two cells. Assumes nothing.
+use Rattle.std.proofs.Common.{arith}
+use Rattle.emit.proofs.Coding.{no_cells, word_cells, value_cells, long_cells, address_cells}
 use Rattle.emit.proofs.codes.cells_of.Goals as goal
 
+pub returns-in_default : goal.returns-in_default
+returns-in_default c = rw c.in_default.is no_cells
+
 pub returns-in-Word : goal.returns-in-Word
-returns-in-Word c = word_cells (omega arith) c.in-Word.is
+returns-in-Word c = rw (c.in-Some.is, c.from.ensures) (word_cells (omega arith) c.in-Word.is)
 
 pub returns-in-Value : goal.returns-in-Value
-returns-in-Value c = value_cells (omega arith) _ (omega arith) c.in-Value.is
+returns-in-Value c = rw (c.in-Some.is, c.from-in-Value.ensures, c.from-in-Value-2.ensures) (value_cells (omega arith) (omega arith) c.in-Value.is)
 
 pub returns-in-Long : goal.returns-in-Long
-returns-in-Long c = long_cells (omega arith) _ c.in-Long.is
+returns-in-Long c = rw (c.in-Some.is, c.from-in-Long.ensures) (long_cells (omega arith) c.in-Long.is)
 
 pub returns-in-Address : goal.returns-in-Address
-returns-in-Address c = address_cells (omega arith) _ c.in-Address.is
+returns-in-Address c = rw (c.in-Some.is, c.from-in-Address.ensures) (address_cells (omega arith) c.in-Address.is)

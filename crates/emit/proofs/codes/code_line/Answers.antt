@@ -1,22 +1,26 @@
--- `code_line` encodes an instruction; no other task has words or a fault. Assumes nothing.
-use Rattle.first.proofs.Passing.{span_in, text_short}
-use Rattle.emit.proofs.Coding.{no_code, said_code}
+-- `code_line` looks for an instruction's fault. Assumes nothing.
+use Rattle.std.proofs.Common.{refl}
+use Rattle.answer.specs.declared.Refusal.TheVariants.{NoEncoding, OutOfReach}
+use Rattle.emit.proofs.Coding.{no_code, said_code, said_fault}
 use Rattle.emit.proofs.codes.code_line.Goals as goal
 
 pub returns-in_default : goal.returns-in_default
-returns-in_default c = no_code _ c.args.source.now _ c.args.task c.in_default.not-Instruction
+returns-in_default c = no_code _ _ _ c.args.line c.args.task c.in_default.not-Instruction
 
-pub slice_bounds-encode_manual-count : goal.slice_bounds-encode_manual-count
-slice_bounds-encode_manual-count c = (span_in c.requires c.in-Instruction.is).ordered
+pub returns-in-Ok : goal.returns-in-Ok
+returns-in-Ok c =
+    let f = rw c.source-source.ensures at c.encode_manual.ensures.fault in
+    let w = rw c.source-source.ensures at c.encode_manual.ensures.words in
+    said_code _ _ _ c.args.line c.in-Instruction.is f w c.in-Ok.is
 
-pub slice_bounds-encode_manual-start : goal.slice_bounds-encode_manual-start
-slice_bounds-encode_manual-start c = (span_in c.requires c.in-Instruction.is).ordered
+pub returns-in-Err-NoEncoding : goal.returns-in-Err-NoEncoding
+returns-in-Err-NoEncoding c =
+    let f = rw c.source-source.ensures at c.encode_manual.ensures.fault in
+    let w = rw c.source-source.ensures at c.encode_manual.ensures.words in
+    said_fault _ _ _ c.args.line c.in-Instruction.is f w c.in-Err-NoEncoding.is (NoEncoding c.args.line) (rw c.in-Err-NoEncoding.field-0-is) refl
 
-pub slice_bounds-encode_manual-end : goal.slice_bounds-encode_manual-end
-slice_bounds-encode_manual-end c = (span_in c.requires c.in-Instruction.is).inside
-
-pub encode_manual-code-requires : goal.encode_manual-code-requires
-encode_manual-code-requires c = (c.requires.held, text_short c.requires c.in-Instruction.is)
-
-pub returns : goal.returns
-returns c = said_code _ _ _ _ _ c.in-Instruction.is _ c.encode_manual-code.ensures c.cells_of.result c.cells_of.ensures
+pub returns-in-Err-OutOfReach : goal.returns-in-Err-OutOfReach
+returns-in-Err-OutOfReach c =
+    let f = rw c.source-source.ensures at c.encode_manual.ensures.fault in
+    let w = rw c.source-source.ensures at c.encode_manual.ensures.words in
+    said_fault _ _ _ c.args.line c.in-Instruction.is f w c.in-Err-OutOfReach.is (OutOfReach c.args.line) (rw c.in-Err-OutOfReach.field-0-is) refl

@@ -1,46 +1,33 @@
--- `find_fault` goes from line to line, up to the first that has a fault. Assumes nothing.
-use native.Mathlib.Omega.{arith}
-use Rattle.emit.proofs.Finding.{finding_start, readable, in_codes, address_fits, faulty, count_fits, finding_next, all_sound}
+-- `find_fault` keeps the codes of the first k lines. Assumes nothing.
+use Rattle.std.proofs.Common.{arith}
+use Rattle.std.proofs.lemmas.Result.{err_from_is_err_and}
+use Rattle.emit.proofs.Finding.{finding_start, line_needs, address_fits, count_fits, faulty, finding_next, all_sound, all_held}
 use Rattle.emit.proofs.codes.find_fault.Goals as goal
 
 pub loop-k-init : goal.loop-k-init
-loop-k-init c = finding_start _ _ _ _ _
+loop-k-init c = finding_start _ _ _ _
 
 pub kept_line-kept-requires : goal.kept_line-kept-requires
 kept_line-kept-requires c = record { room = omega (arith, c.requires.holds.lines.room, c.loop-k-test.true) }
 
 pub code_line-requires : goal.code_line-requires
-code_line-requires c = readable c.requires c.loop-k.invariant c.loop-k-test.true _ c.kept_line-kept.ensures
+code_line-requires c = line_needs c.requires c.loop-k.invariant c.loop-k-test.true c.kept_line-kept.ensures
 
-pub overflow_add-result : goal.overflow_add-result
-overflow_add-result c = omega (arith, c.loop-k-test.true)
-
-pub shape_of-codes-in-Faulty : goal.shape_of-codes-in-Faulty
-shape_of-codes-in-Faulty c = c.loop-k.invariant.long
-
-pub returns-in-Faulty : goal.returns-in-Faulty
-returns-in-Faulty c = faulty c.requires c.loop-k.invariant c.loop-k-test.true _ c.kept_line-kept.ensures c.code_line.result c.code_line.ensures _ c.in-Faulty.is
-
-pub keep_code-requires : goal.keep_code-requires
-keep_code-requires c = in_codes c.requires c.loop-k.invariant c.loop-k-test.true _ c.kept_line-kept.ensures
+pub returns-in_err-code-clause-answer : goal.returns-in_err-code-clause-answer
+returns-in_err-code-clause-answer c =
+    let p = err_from_is_err_and c.from_residual.result c.from_residual.ensures.1 in
+    rw (p.1, p.2) (faulty c.requires c.loop-k.invariant c.loop-k-test.true c.kept_line-kept.ensures _ c.in_err-code.ensures)
 
 pub overflow_add-count : goal.overflow_add-count
-overflow_add-count c = record { fits = count_fits c.requires c.loop-k.invariant c.loop-k-test.true _ c.kept_line-kept.ensures c.code_line.result c.code_line.ensures _ _ c.in-Cells.is (omega arith) }
+overflow_add-count c =
+    record { fits = count_fits c.requires c.loop-k.invariant c.loop-k-test.true c.kept_line-kept.ensures _ c.in_ok-code.ensures c.cells_of-head.ensures (omega arith) }
 
 pub overflow_cast-address : goal.overflow_cast-address
-overflow_cast-address c = record { fits = rw c.address_after-address.ensures (address_fits c.requires c.loop-k.invariant c.loop-k-test.true _ c.kept_line-kept.ensures) }
-
-pub overflow_add-k : goal.overflow_add-k
-overflow_add-k c = omega (arith, c.loop-k-test.true)
-
-pub loop-k-smaller : goal.loop-k-smaller
-loop-k-smaller c = omega (arith, c.loop-k-test.true)
+overflow_cast-address c = record { fits = rw c.address_after-address.ensures (address_fits c.requires c.loop-k.invariant c.loop-k-test.true c.kept_line-kept.ensures) }
 
 pub loop-k-preserved : goal.loop-k-preserved
-loop-k-preserved c = finding_next c.requires c.loop-k.invariant c.loop-k-test.true _ c.kept_line-kept.ensures c.code_line.result c.code_line.ensures _ _ c.in-Cells.is _ _ c.keep_code.ensures c.address_after-address.ensures
-
-pub shape_of-codes : goal.shape_of-codes
-shape_of-codes c = c.loop-k.invariant.long
+loop-k-preserved c =
+    finding_next c.requires c.loop-k.invariant c.loop-k-test.true c.kept_line-kept.ensures _ c.in_ok-code.ensures c.cells_of-head.ensures c.put_cells.ensures c.address_after-address.ensures
 
 pub returns : goal.returns
-returns c = all_sound c.requires c.loop-k.invariant c.loop-k-test.false
+returns c = record { answer = all_sound c.requires c.loop-k.invariant c.loop-k-test.false; codes = all_held c.requires c.loop-k.invariant c.loop-k-test.false }
