@@ -1,201 +1,125 @@
 -- Operands as their readers answer: whether the word is made in a place, and what is wrong there. Assumes nothing.
-use Prim.Native.Nat.{ℕ}
-use mathlib.Core.Path.{◌≡◌, refl, sym, ap, ◌∙◌}
-use mathlib.Core.Bool.{Bool, true, false, not, ◌||◌}
-use mathlib.Core.Option.{Option, none, some, bind, or_else}
-use lib.IntN.{ℤ}
-use borrow.Author.Tests.{not-true, not-false}
+use Rattle.std.specs.Prelude.{Option, None, Some, ℕ, ◌≡◌, Bool, true, false, ◌||◌, cond, ℤ, [], ◌∷◌}
+use Rattle.std.specs.Option.{option_map}
+use Rattle.rules.specs.Option.{bind, or_else}
+use mathlib.Core.Path.{refl, ap, ◌∙◌}
 use Rattle.rules.specs.Text.{Text, bytes, starts, after}
 use Rattle.rules.specs.Number.{no_digits, bad_digit, out_of_range, Reading, read, failed, value_of, reading8, reading16, signed_reading, immediate, imm8, imm16, number16, hex_tail}
 use Rattle.rules.specs.Label.{Table, find}
 use Rattle.rules.specs.Encode.{data_register, address_register, indirect, reach, written_reading, written_signed, displacement, is_some, all_digits, jumps}
-use Rattle.rules.specs.Forms.{Dn, An, AtAn}
-use Rattle.requests.specs.Explain.{out_of_reach, meets, fault, failing, unless_found, unless_reached, unless}
-use Rattle.numeral.specs.Number.{number_of, signed_of, immediate_of, signed_immediate_of, reach_of}
-use Rattle.numeral.specs.declared.unsigned.Number.{Number}
-use Rattle.numeral.specs.declared.unsigned.Number.TheVariants as N
-use Rattle.numeral.specs.declared.unsigned.Immediate.{Immediate}
-use Rattle.numeral.specs.declared.unsigned.Immediate.TheVariants as I
-use Rattle.numeral.specs.declared.signed.Signed.{Signed}
-use Rattle.numeral.specs.declared.signed.Signed.TheVariants as S
-use Rattle.numeral.specs.declared.signed.SignedImmediate.{SignedImmediate}
-use Rattle.numeral.specs.declared.signed.SignedImmediate.TheVariants as J
-use Rattle.numeral.specs.declared.signed.Reach.{Reach}
-use Rattle.numeral.specs.declared.signed.Reach.TheVariants as R
-use Rattle.label.specs.Table.{address_of}
-use Rattle.label.specs.declared.Address.{Address}
-use Rattle.label.specs.declared.Address.TheVariants as A
-use Rattle.opcode.specs.Register.{register_of}
-use Rattle.explain.specs.Verdict.{fault_of, failure_verdict}
-use Rattle.explain.specs.Operand.{fit_at, immediate8_fit, immediate16_fit, label_fit, hash_fit, jump_fit, branch_fit, register_fit, reach_fit, signed_fit}
-use Rattle.explain.specs.declared.Verdict.{Verdict}
-use Rattle.explain.specs.declared.Verdict.TheVariants.{Emitted, NotRecorded, OutOfReach}
+use Rattle.rules.specs.Forms.{i8, u16, hash_label, Dn, An, AtAn, label, jump_target, branch_target}
+use Rattle.requests.specs.Explain.{not_recorded, out_of_reach, meets, fault, failing, unless_found, unless_reached}
+use Rattle.numeral.specs.Number.{result_of, number_of, signed_of, immediate_of, signed_immediate_of}
+use Rattle.explain.specs.Verdict.{fault_of}
+use Rattle.explain.specs.Operand.{fit_at, fit, read_fit, register_fit, label_fit, hash_fit, near_fit, reach_fit, signed_fit}
 use Rattle.explain.specs.declared.operand.Fit.{Fit}
 
-abbrev fit : Bool → Verdict → Fit
-fit y v = record { met = y; fault = v }
+-- ---- numbers
+module _ {A : Type 0} where
+  number : (r : Reading A) → read_fit (Some (result_of r)) ≡ fit (is_some (value_of r)) (fault_of (failing r))
+  unfolding value_of is_some failing
+  number (read v) = refl
+  number (failed no_digits) = refl
+  number (failed bad_digit) = refl
+  number (failed out_of_range) = refl
 
--- ---- immediates
-abbrev by8 : SignedImmediate → Fit
-by8 (J.Value z) = fit true Emitted
-by8 (J.Failed f) = fit false (failure_verdict f)
-by8 J.NotImmediate = fit false Emitted
+  immediate_number : (o : Option (Reading A)) → read_fit (option_map result_of o) ≡ fit (is_some (bind o value_of)) (fault_of (bind o failing))
+  unfolding value_of is_some failing bind
+  immediate_number None = refl
+  immediate_number (Some r) = number r
 
-pub immediate8 : (s : Text) {x : SignedImmediate} → x ≡ signed_immediate_of (immediate reading8 s) → by8 x ≡ immediate8_fit s
-unfolding meets fault imm8 bind value_of is_some failing unless
-immediate8 s e = ap by8 e ∙ go (immediate reading8 s)
-  where
-    go : (o : Option (Reading ℤ)) → by8 (signed_immediate_of o) ≡ fit (is_some (bind o value_of)) (fault_of (bind o failing))
-    go none = refl
-    go (some (read z)) = refl
-    go (some (failed no_digits)) = refl
-    go (some (failed bad_digit)) = refl
-    go (some (failed out_of_range)) = refl
-
-abbrev by16 : Immediate → Fit
-by16 (I.Value v) = fit true Emitted
-by16 (I.Failed f) = fit false (failure_verdict f)
-by16 I.NotImmediate = fit false Emitted
-
-pub immediate16 : (s : Text) {x : Immediate} → x ≡ immediate_of (immediate reading16 s) → by16 x ≡ immediate16_fit s
-unfolding meets fault imm16 bind value_of is_some failing unless
-immediate16 s e = ap by16 e ∙ go (immediate reading16 s)
-  where
-    go : (o : Option (Reading ℕ)) → by16 (immediate_of o) ≡ fit (is_some (bind o value_of)) (fault_of (bind o failing))
-    go none = refl
-    go (some (read v)) = refl
-    go (some (failed no_digits)) = refl
-    go (some (failed bad_digit)) = refl
-    go (some (failed out_of_range)) = refl
-
--- ---- registers
-registers : (o : Option ℕ) → register_fit (register_of o) ≡ fit (is_some o) Emitted
+registers : (o : Option ℕ) → register_fit o ≡ fit (is_some o) None
 unfolding is_some
-registers none = refl
-registers (some n) = refl
+registers None = refl
+registers (Some n) = refl
 
 module _ (ls : Table) (a : ℕ) (s : Text) where
-  pub as_dn : register_fit (register_of (data_register s)) ≡ fit_at ls a Dn s
-  unfolding meets fault unless
+  pub as_i8 : read_fit (signed_immediate_of (immediate reading8 s)) ≡ fit_at ls a i8 s
+  unfolding meets fault imm8
+  as_i8 = immediate_number (immediate reading8 s)
+
+  pub as_u16 : read_fit (immediate_of (immediate reading16 s)) ≡ fit_at ls a u16 s
+  unfolding meets fault imm16
+  as_u16 = immediate_number (immediate reading16 s)
+
+  pub as_dn : register_fit (data_register s) ≡ fit_at ls a Dn s
+  unfolding meets fault
   as_dn = registers (data_register s)
 
-  pub as_an : register_fit (register_of (address_register s)) ≡ fit_at ls a An s
-  unfolding meets fault unless
+  pub as_an : register_fit (address_register s) ≡ fit_at ls a An s
+  unfolding meets fault
   as_an = registers (address_register s)
 
-  pub as_at_an : register_fit (register_of (indirect s)) ≡ fit_at ls a AtAn s
-  unfolding meets fault unless
+  pub as_at_an : register_fit (indirect s) ≡ fit_at ls a AtAn s
+  unfolding meets fault
   as_at_an = registers (indirect s)
 
 -- ---- labels
-abbrev by_address : Address → Fit
-by_address (A.At n) = fit true Emitted
-by_address A.Nothing = fit false NotRecorded
-
-module _ (ls : Table) (s : Text) where
-  pub as_label : {x : Address} → x ≡ address_of (find s ls) → by_address x ≡ label_fit ls s
-  unfolding meets fault unless_found unless is_some
-  as_label e = ap by_address e ∙ go (find s ls) refl
+module _ (ls : Table) where
+  found : (l : Text) → label_fit (find l ls) ≡ fit (is_some (find l ls)) (fault_of (unless_found ls l))
+  unfolding unless_found is_some
+  found l = go (find l ls)
     where
-      go : (o : Option ℕ) → find s ls ≡ o → by_address (address_of o) ≡ label_fit ls s
-      go none q = rw (q, unless_found, fault)
-      go (some n) q = rw (q, unless_found, fault)
+      go : (o : Option ℕ) → label_fit o ≡ fit (is_some o) (fault_of (elim o [ None ↦ Some not_recorded | Some x ↦ None ]))
+      go None = refl
+      go (Some x) = refl
 
-  pub no_name : after (bytes "#") s ≡ none → fit false Emitted ≡ hash_fit ls s
-  unfolding meets fault bind is_some unless
-  no_name e = rw e
+  pub as_label : (a : ℕ) (s : Text) → label_fit (find s ls) ≡ fit_at ls a label s
+  unfolding meets fault
+  as_label a s = found s
 
-  pub named : {t : Text} {x : Fit} → after (bytes "#") s ≡ some t → x ≡ label_fit ls t → x ≡ hash_fit ls s
-  unfolding meets fault bind
-  named e q = rw e q
+  pub as_hash : (a : ℕ) (s : Text) → hash_fit ls (after (35 ∷ []) s) ≡ fit_at ls a hash_label s
+  unfolding meets fault bytes bind is_some
+  as_hash a s = go (after (35 ∷ []) s)
+    where
+      go : (o : Option Text) → hash_fit ls o ≡ fit (is_some (bind o (λ l. find l ls))) (fault_of (bind o (unless_found ls)))
+      go None = refl
+      go (Some l) = found l
 
--- ---- JMP's number or label
-abbrev by_number : Number → Fit
-by_number (N.Value v) = fit true Emitted
-by_number (N.Failed f) = fit false (failure_verdict f)
-
-by_number_lem : (r : Reading ℕ) → by_number (number_of r) ≡ fit (is_some (value_of r)) (fault_of (failing r))
-unfolding value_of is_some failing unless
-by_number_lem (read v) = refl
-by_number_lem (failed no_digits) = refl
-by_number_lem (failed bad_digit) = refl
-by_number_lem (failed out_of_range) = refl
-
-module _ (ls : Table) (s : Text) {y : Bool} (e : y ≡ (is_some (hex_tail s) || all_digits s)) where
-  pub jump_label : {x : Fit} → not y ≡ true → x ≡ label_fit ls s → x ≡ jump_fit ls s
-  unfolding meets fault jumps
-  jump_label h q = rw (sym e ∙ not-true y h) q
-
-  pub jump_number_lem : {x : Number} → not y ≡ false → x ≡ number_of (reading16 s) → by_number x ≡ jump_fit ls s
+  -- JMP's number or label
+  pub as_jump : (a : ℕ) (s : Text) → cond (is_some (hex_tail s) || all_digits s) (read_fit (Some (number_of (reading16 s)))) (label_fit (find s ls)) ≡ fit_at ls a jump_target s
   unfolding meets fault jumps number16
-  jump_number_lem h q = rw (sym e ∙ not-false y h) (ap by_number q ∙ by_number_lem (reading16 s))
-
--- ---- a label in reach
-abbrev by_reach : Reach → Fit
-by_reach (R.Value z) = fit true Emitted
-by_reach R.Outside = fit false OutOfReach
-
-module _ (ls : Table) (a : ℕ) (s : Text) where
-  pub not_found : find s ls ≡ none → fit false NotRecorded ≡ reach_fit ls a s
-  unfolding unless_reached bind is_some unless
-  not_found e = rw (e, unless_reached)
-
-  pub reached : {n : ℕ} {x : Reach} → find s ls ≡ some n → x ≡ reach_of (reach n a) → by_reach x ≡ reach_fit ls a s
-  unfolding unless_reached bind is_some unless
-  reached {n} e q = rw (e, unless_reached) (ap by_reach q ∙ go (reach n a) refl)
+  as_jump a s = go (is_some (hex_tail s) || all_digits s)
     where
-      go : (o : Option ℤ) → reach n a ≡ o → by_reach (reach_of o) ≡ fit (is_some (reach n a)) (fault_of (elim (reach n a) [ none ↦ some out_of_reach | some z ↦ none ]))
-      go none f = rw f
-      go (some z) f = rw f
+      go : (y : Bool) → cond y (read_fit (Some (number_of (reading16 s)))) (label_fit (find s ls))
+          ≡ fit (cond y (is_some (value_of (reading16 s))) (is_some (find s ls))) (fault_of (cond y (failing (reading16 s)) (unless_found ls s)))
+      go true = number (reading16 s)
+      go false = found s
 
--- ---- a branch's signed operand
-abbrev by_signed : Bool → Signed → Fit
-by_signed y (S.Value z) = fit true Emitted
-by_signed y (S.Failed f) = fit y (failure_verdict f)
+  -- ---- a branch's displacement: of a label in reach, else as written
+  module _ (a : ℕ) (s : Text) where
+    reached : reach_fit a (find s ls) ≡ fit (is_some (bind (find s ls) (λ x. reach x a))) (fault_of (unless_reached ls a s))
+    unfolding unless_reached bind is_some
+    reached = go (find s ls)
+      where
+        near : (o : Option ℤ) → near_fit o ≡ fit (is_some o) (fault_of (elim o [ None ↦ Some out_of_reach | Some z ↦ None ]))
+        near None = refl
+        near (Some z) = refl
 
-pub signed_fit_lem : (y : Bool) (s : Text) {x : Signed} → x ≡ signed_of (signed_reading 10 128 s) → by_signed y x ≡ signed_fit y (signed_reading 10 128 s)
-unfolding failing unless
-signed_fit_lem y s e = ap (by_signed y) e ∙ go (signed_reading 10 128 s)
-  where
-    go : (r : Reading ℤ) → by_signed y (signed_of r) ≡ signed_fit y r
-    go (read z) = refl
-    go (failed no_digits) = refl
-    go (failed bad_digit) = refl
-    go (failed out_of_range) = refl
+        go : (o : Option ℕ) → reach_fit a o ≡ fit (is_some (bind o (λ x. reach x a))) (fault_of (elim o [ None ↦ Some not_recorded | Some x ↦ elim (reach x a) [ None ↦ Some out_of_reach | Some z ↦ None ] ]))
+        go None = refl
+        go (Some x) = near (reach x a)
 
--- ---- a branch's displacement: of a label in reach, else as written
-module _ (ls : Table) (a : ℕ) (s : Text) where
-  abbrev near : Option ℤ
-  near = bind (find s ls) (λ x. reach x a)
+    pub as_branch : cond (starts (43 ∷ []) s || starts (45 ∷ []) s) (signed_fit (reach_fit a (find s ls)).met (signed_of (signed_reading 10 128 s))) (reach_fit a (find s ls)) ≡ fit_at ls a branch_target s
+    unfolding meets fault displacement written_signed written_reading bytes bind or_else value_of is_some failing
+    as_branch = rw reached (go (starts (43 ∷ []) s || starts (45 ∷ []) s) (bind (find s ls) (λ x. reach x a)))
+      where
+        signed : (o : Option ℤ) (r : Reading ℤ) → signed_fit (is_some o) (signed_of r) ≡ fit (is_some (or_else o (value_of r))) (fault_of (failing r))
+        signed None (read z) = refl
+        signed None (failed no_digits) = refl
+        signed None (failed bad_digit) = refl
+        signed None (failed out_of_range) = refl
+        signed (Some d) (read z) = refl
+        signed (Some d) (failed no_digits) = refl
+        signed (Some d) (failed bad_digit) = refl
+        signed (Some d) (failed out_of_range) = refl
 
-  written_met : (o : Option ℤ) (r : Reading ℤ) → fit (is_some (or_else o (value_of r))) (fault_of (failing r)) ≡ signed_fit (is_some o) r
-  unfolding or_else value_of is_some failing unless
-  written_met none (read z) = refl
-  written_met none (failed f) = refl
-  written_met (some d) (read z) = refl
-  written_met (some d) (failed f) = refl
+        unsigned : (o : Option ℤ) → is_some o ≡ is_some (or_else o None)
+        unsigned None = refl
+        unsigned (Some d) = refl
 
-  unwritten_met : (o : Option ℤ) → is_some (or_else o none) ≡ is_some o
-  unfolding or_else is_some
-  unwritten_met none = refl
-  unwritten_met (some d) = refl
-
-  written : {x : Fit} → (starts (bytes "+") s || starts (bytes "-") s) ≡ true → x ≡ signed_fit (reach_fit ls a s).met (signed_reading 10 128 s) → x ≡ branch_fit ls a s
-  unfolding meets fault displacement written_signed written_reading bind
-  written e q = rw (e, written_reading, fault) (q ∙ sym (written_met near (signed_reading 10 128 s)))
-
-  unwritten : {x : Fit} → (starts (bytes "+") s || starts (bytes "-") s) ≡ false → x ≡ reach_fit ls a s → x ≡ branch_fit ls a s
-  unfolding meets fault displacement written_signed written_reading bind
-  unwritten e q = rw (e, written_reading, fault, unwritten_met near) q
-
-  -- by the operand's first byte
-  module _ {b : Bool} (p : b ≡ starts (bytes "+") s) {f : Fit} (g : f ≡ reach_fit ls a s) where
-    pub plus : {x : Fit} → b ≡ true → x ≡ signed_fit f.met (signed_reading 10 128 s) → x ≡ branch_fit ls a s
-    plus h q = written (rw (sym p ∙ h)) (rw g at q)
-
-    module _ (h : b ≡ false) {d : Bool} (r : d ≡ starts (bytes "-") s) where
-      pub minus : {x : Fit} → d ≡ true → x ≡ signed_fit f.met (signed_reading 10 128 s) → x ≡ branch_fit ls a s
-      minus k q = written (rw (sym p ∙ h, sym r ∙ k)) (rw g at q)
-
-      pub unsigned : d ≡ false → f ≡ branch_fit ls a s
-      unsigned k = unwritten (rw (sym p ∙ h, sym r ∙ k)) g
+        go : (y : Bool) (o : Option ℤ)
+            → cond y (signed_fit (is_some o) (signed_of (signed_reading 10 128 s))) (fit (is_some o) (fault_of (unless_reached ls a s)))
+            ≡ fit (is_some (or_else o (bind (cond y (Some (signed_reading 10 128 s)) None) value_of))) (fault_of (elim (cond y (Some (signed_reading 10 128 s)) None) [ None ↦ unless_reached ls a s | Some r ↦ failing r ]))
+        go true o = signed o (signed_reading 10 128 s)
+        go false o = rw (← unsigned)

@@ -1,9 +1,9 @@
 -- An operation's forms, and the verdict by the operands that stand in a text. Assumes nothing.
+use Rattle.std.specs.Prelude.{Option, None, Some}
 use Prim.Native.Nat.{ℕ, ◌<◌, ◌+◌, ◌-◌}
 use native.Mathlib.Omega.{arith}
 use mathlib.Core.Path.{◌≡◌, refl, sym, ap, ◌∙◌}
 use mathlib.Core.Bool.{Bool, true, false}
-use mathlib.Core.Option.{Option, none, some}
 use mathlib.Core.List.{List, [], ◌∷◌}
 use lib.ListN.{length, take, drop}
 use borrow.Author.Tests.{eq-eqb, ne_eqb, le-leb, lt-leb}
@@ -13,10 +13,9 @@ use Rattle.rules.specs.Line.{instruction_of}
 use Rattle.rules.specs.Encode.{Mnemonic, operation_in}
 use Rattle.rules.specs.Encode.{moveq, move, movea, muls, tst, subq, asl, dbra, nop, simhalt, add, sub, cmp, jmp, branch}
 use Rattle.rules.specs.Encode.{Operation as Ruled}
-use Rattle.rules.specs.Forms.{Operand, Count, exactly, or_more, counted, forms_of}
+use Rattle.rules.specs.Forms.{Forms, counted, forms_of}
 use Rattle.requests.specs.Explain.{unknown_mnemonic, because, why_forms, why_operation, why, one_met, met}
-use Rattle.requests.specs.Explain.{Verdict as Said}
-use Rattle.opcode.specs.Operation.{operation_of}
+use Rattle.opcode.specs.Operation.{coded, operation_of}
 use Rattle.opcode.specs.declared.mnemonic.Operation.{Operation}
 use Rattle.text.specs.declared.Span.{Span}
 use Rattle.text.specs.Spans.{part, span_text, SpanIn}
@@ -29,31 +28,31 @@ use Rattle.instruction.proofs.FirstPiece.{instruction_read}
 use Rattle.instruction.proofs.Joined.{joined_there}
 use Rattle.instruction.proofs.Places.{operands_of_lem}
 use Rattle.explain.specs.Verdict.{verdict_of}
-use Rattle.explain.specs.Form.{shape_of, forms_for, why_by}
+use Rattle.explain.specs.Form.{WhyOneGives, pairs_of, shape_of, forms_for, why_by}
 use Rattle.explain.specs.declared.Verdict.{Verdict}
-use Rattle.explain.specs.declared.Verdict.TheVariants.{Emitted, WrongCount}
+use Rattle.explain.specs.declared.Verdict.TheVariants.{Emitted, UnknownMnemonic, WrongCount}
+use Rattle.explain.specs.declared.operand.Operand.{Operand}
+use Rattle.explain.specs.declared.form.Pairs.{Pairs}
 use Rattle.explain.specs.declared.form.Shape.{Shape}
+use Rattle.explain.specs.declared.form.Shape.TheVariants.{Any, One, OneOrMore, Two}
 
 -- ---- by the count
-module _ (ls : Table) (a : ℕ) (c : Count) (fs : List (List Operand)) (ps : List Text) where
-  abbrev why_counted : Said
-  why_counted = why_by (some (record { count = c; forms = fs })) ls a ps
-
-  miscounted : counted c (length ps) ≡ false → WrongCount ≡ verdict_of why_counted
+module _ (ls : Table) (a : ℕ) (f : Forms) (ps : List Text) where
+  pub miscounted : counted f.count (length ps) ≡ false → WrongCount ≡ verdict_of (why_by f ls a ps)
   unfolding why_by
   miscounted e = rw e
 
-  well_counted : {r : Verdict} → counted c (length ps) ≡ true → r ≡ verdict_of (why_forms ls a fs ps) → r ≡ verdict_of why_counted
+  well_counted : {r : Verdict} → counted f.count (length ps) ≡ true → r ≡ verdict_of (why_forms ls a f.forms ps) → r ≡ verdict_of (why_by f ls a ps)
   unfolding why_by
   well_counted e q = rw e q
 
 -- an operation of any count and no place
-pub always : (ls : Table) (a : ℕ) (ps : List Text) → Emitted ≡ verdict_of (why_by (some (record { count = or_more 0; forms = [] ∷ [] })) ls a ps)
+pub always : (ls : Table) (a : ℕ) (ps : List Text) → Emitted ≡ verdict_of (why_by (forms_for Any) ls a ps)
 unfolding why_by counted why_forms one_met met
 always ls a ps = rw (le-leb 0 (length ps) (omega arith))
 
 -- ---- the operands that stand in the text
-module _ {t : Text} {o : Operands} {ps : List Text} (x : OperandsOf t o ps) where
+module _ {t : Text} {o : Operands} {ps : List Text} (w : OperandsOf t o ps) where
   -- the first, and what comes after it
   record Headed : Type 0 where
     pub others : List Text
@@ -61,7 +60,7 @@ module _ {t : Text} {o : Operands} {ps : List Text} (x : OperandsOf t o ps) wher
 
   headed : 0 < o.count → Headed
   unfolding first_text
-  headed h = go ps x.count (x.first h).text refl
+  headed h = go ps w.count (w.first h).text refl
     where
       go : (qs : List Text) → o.count ≡ length qs → span_text t o.first ≡ first_text qs → ps ≡ qs → Headed
       go [] n e q = absurd (omega arith)
@@ -69,7 +68,7 @@ module _ {t : Text} {o : Operands} {ps : List Text} (x : OperandsOf t o ps) wher
 
   both_there : o.count ≡ 2 → ps ≡ span_text t o.first ∷ span_text t o.second ∷ []
   unfolding first_text other_texts
-  both_there h = go ps x.count (x.first (omega arith)).text (x.second (omega arith)).text
+  both_there h = go ps w.count (w.first (omega arith)).text (w.second (omega arith)).text
     where
       go : (qs : List Text) → o.count ≡ length qs → span_text t o.first ≡ first_text qs → span_text t o.second ≡ first_text (other_texts qs) → qs ≡ span_text t o.first ∷ span_text t o.second ∷ []
       go [] n e f = absurd (omega arith)
@@ -77,18 +76,33 @@ module _ {t : Text} {o : Operands} {ps : List Text} (x : OperandsOf t o ps) wher
       go (s ∷ u ∷ []) n e f = rw (e, f)
       go (s ∷ u ∷ v ∷ qs) n e f = absurd (omega arith)
 
-  module _ (ls : Table) (a : ℕ) (fs : List (List Operand)) where
-    pub told_by_first : {r : Verdict} (c : Count) → counted c o.count ≡ true → 0 < o.count → ((qs : List Text) → r ≡ verdict_of (why_forms ls a fs (span_text t o.first ∷ qs)))
-        → r ≡ verdict_of (why_by (some (record { count = c; forms = fs })) ls a ps)
-    told_by_first c k h g = let i = headed h in well_counted ls a c fs ps (rw x.count at k) (rw i.is (g i.others))
-
-    pub told_by_two : {r : Verdict} → o.count ≡ 2 → r ≡ verdict_of (why_forms ls a fs (span_text t o.first ∷ span_text t o.second ∷ []))
-        → r ≡ verdict_of (why_by (some (record { count = exactly 2; forms = fs })) ls a ps)
+  module _ (ls : Table) (a : ℕ) where
+    -- by the one operand, whatever comes after it
+    pub told_by_one : (x : Operand) {r : Verdict} → o.count ≡ 1 → WhyOneGives ls a x (span_text t o.first) r → r ≡ verdict_of (why_by (forms_for (One x)) ls a ps)
     unfolding counted
-    told_by_two h q = let i = both_there h in well_counted ls a (exactly 2) fs ps (rw i) (rw i q)
+    told_by_one x h g = let i = headed (omega arith) in well_counted ls a (forms_for (One x)) ps (rw (← w.count) (eq-eqb o.count 1 h)) (rw i.is (g i.others))
 
-    pub told_miscounted : (c : Count) → counted c o.count ≡ false → WrongCount ≡ verdict_of (why_by (some (record { count = c; forms = fs })) ls a ps)
-    told_miscounted c k = miscounted ls a c fs ps (rw x.count at k)
+    pub told_by_first : (x : Operand) {r : Verdict} → 0 < o.count → WhyOneGives ls a x (span_text t o.first) r → r ≡ verdict_of (why_by (forms_for (OneOrMore x)) ls a ps)
+    unfolding counted
+    told_by_first x h g = let i = headed h in well_counted ls a (forms_for (OneOrMore x)) ps (rw (← w.count) (le-leb 1 o.count h)) (rw i.is (g i.others))
+
+    pub told_by_two : (p : Pairs) {r : Verdict} → o.count ≡ 2 → r ≡ verdict_of (why_forms ls a (pairs_of p) (span_text t o.first ∷ span_text t o.second ∷ []))
+        → r ≡ verdict_of (why_by (forms_for (Two p)) ls a ps)
+    unfolding counted
+    told_by_two p h q = let i = both_there h in well_counted ls a (forms_for (Two p)) ps (rw (← w.count) (eq-eqb o.count 2 h)) (rw i q)
+
+    -- of another count
+    pub not_one : (x : Operand) → (o.count ≡ 1 → ⊥) → WrongCount ≡ verdict_of (why_by (forms_for (One x)) ls a ps)
+    unfolding counted
+    not_one x d = miscounted ls a (forms_for (One x)) ps (rw (← w.count) (ne_eqb o.count 1 d))
+
+    pub not_any : (x : Operand) → o.count ≡ 0 → WrongCount ≡ verdict_of (why_by (forms_for (OneOrMore x)) ls a ps)
+    unfolding counted
+    not_any x h = miscounted ls a (forms_for (OneOrMore x)) ps (rw (← w.count) (lt-leb 1 o.count (omega arith)))
+
+    pub not_two : (p : Pairs) → (o.count ≡ 2 → ⊥) → WrongCount ≡ verdict_of (why_by (forms_for (Two p)) ls a ps)
+    unfolding counted
+    not_two p d = miscounted ls a (forms_for (Two p)) ps (rw (← w.count) (ne_eqb o.count 2 d))
 
 -- ---- where the first two stand lies in the text, also where there are fewer
 pub record Lying (t : Text) (o : Operands) : Type 0 where
@@ -117,55 +131,56 @@ lying t o e = go (spans 0 (cut_at 44 t)) e
           second = record { ordered = omega (arith, z.some); inside = z.within };
         }
 
--- ---- counts
-pub is_one : {n : ℕ} → n ≡ 1 → counted (exactly 1) n ≡ true
-unfolding counted
-is_one e = eq-eqb _ 1 e
-
-pub not_count : {n : ℕ} (k : ℕ) → (n ≡ k → ⊥) → counted (exactly k) n ≡ false
-unfolding counted
-not_count k d = ne_eqb _ k d
-
-pub at_least_one : {n : ℕ} → (n ≡ 0 → ⊥) → counted (or_more 1) n ≡ true
-unfolding counted
-at_least_one {n} d = le-leb 1 n (omega arith)
-
-pub not_any : {n : ℕ} → n ≡ 0 → counted (or_more 1) n ≡ false
-unfolding counted
-not_any {n} e = lt-leb 1 n (omega arith)
+-- by the shape x that was found, which is y
+pub as_shape : {x y : Shape} → x ≡ y → (ls : Table) (a : ℕ) (ps : List Text) {r : Verdict} → r ≡ verdict_of (why_by (forms_for x) ls a ps) → r ≡ verdict_of (why_by (forms_for y) ls a ps)
+as_shape e ls a ps h = rw e at h
 
 -- ---- an instruction's operation, by the table
--- by the shape x that was found, and is y
-pub as_shape : {x y : Shape} → x ≡ y → (ls : Table) (a : ℕ) (ps : List Text) (r : Verdict) → r ≡ verdict_of (why_by (forms_for x) ls a ps) → r ≡ verdict_of (why_by (forms_for y) ls a ps)
-as_shape e ls a ps r h = rw e at h
-
-pub by_shape : (ls : Table) (a : ℕ) (q : Option Ruled) (ps : List Text)
-    → why_by (forms_for (shape_of (operation_of q))) ls a ps ≡ elim q [ none ↦ because unknown_mnemonic | some o ↦ why_operation ls a o ps ]
+by_shape : (ls : Table) (a : ℕ) (o : Ruled) (ps : List Text) → why_by (forms_for (shape_of (coded o))) ls a ps ≡ why_operation ls a o ps
 unfolding why_by why_operation forms_of
-by_shape ls a none ps = refl
-by_shape ls a (some moveq) ps = refl
-by_shape ls a (some move) ps = refl
-by_shape ls a (some movea) ps = refl
-by_shape ls a (some muls) ps = refl
-by_shape ls a (some tst) ps = refl
-by_shape ls a (some subq) ps = refl
-by_shape ls a (some asl) ps = refl
-by_shape ls a (some dbra) ps = refl
-by_shape ls a (some nop) ps = refl
-by_shape ls a (some simhalt) ps = refl
-by_shape ls a (some add) ps = refl
-by_shape ls a (some sub) ps = refl
-by_shape ls a (some cmp) ps = refl
-by_shape ls a (some jmp) ps = refl
-by_shape ls a (some (branch c)) ps = refl
+by_shape ls a moveq ps = refl
+by_shape ls a move ps = refl
+by_shape ls a movea ps = refl
+by_shape ls a muls ps = refl
+by_shape ls a tst ps = refl
+by_shape ls a subq ps = refl
+by_shape ls a asl ps = refl
+by_shape ls a dbra ps = refl
+by_shape ls a nop ps = refl
+by_shape ls a simhalt ps = refl
+by_shape ls a add ps = refl
+by_shape ls a sub ps = refl
+by_shape ls a cmp ps = refl
+by_shape ls a jmp ps = refl
+by_shape ls a (branch c) ps = refl
 
-module _ (names : List Mnemonic) (t : Text) (h : Head) (e : h ≡ head_of t) {o : Operation} (f : o ≡ operation_of (operation_in names (uppers (part t h.start h.end))))
-    (ls : Table) (a : ℕ) {r : Verdict} where
-  -- by the joined tail, however it is come by
-  pub why_read : r ≡ verdict_of (why_by (forms_for (shape_of o)) ls a (operands_in (joined (pieces (drop h.tail t))))) → r ≡ verdict_of (why names ls a (instruction_of t))
+module _ (ls : Table) (a : ℕ) (ps : List Text) {r : Verdict} where
+  known : (o : Operation) (q : Option Ruled) → Some o ≡ operation_of q → r ≡ verdict_of (why_by (forms_for (shape_of o)) ls a ps)
+      → r ≡ verdict_of (elim q [ None ↦ because unknown_mnemonic | Some p ↦ why_operation ls a p ps ])
+  known o None e h = absurd cc
+  known o (Some p) e h = let k : o ≡ coded p = cc in rw (← by_shape ls a p ps) (rw k at h)
+
+unknown : (ls : Table) (a : ℕ) (ps : List Text) (q : Option Ruled) → None ≡ operation_of q → UnknownMnemonic ≡ verdict_of (elim q [ None ↦ because unknown_mnemonic | Some p ↦ why_operation ls a p ps ])
+unknown ls a ps None e = refl
+unknown ls a ps (Some p) e = absurd cc
+
+module _ (names : List Mnemonic) (t : Text) (h : Head) (e : h ≡ head_of t) (ls : Table) (a : ℕ) where
+  abbrev named : Option Ruled
+  named = operation_in names (uppers (part t h.start h.end))
+
+  abbrev tail : List Text
+  tail = operands_in (joined (pieces (drop h.tail t)))
+
+  pub why_unknown : None ≡ operation_of named → UnknownMnemonic ≡ verdict_of (why names ls a (instruction_of t))
   unfolding why
-  why_read q = rw (instruction_read t h e, ← by_shape ls a (operation_in names (uppers (part t h.start h.end))) (operands_in (joined (pieces (drop h.tail t)))), ← f) q
+  why_unknown f = rw (instruction_read t h e) (unknown ls a tail named f)
 
-  pub why_there : {s : ℕ} {y : Bool} → s ≡ h.tail + leading (drop h.tail t) → y ≡ is_joined (drop s t) → y ≡ true
-      → r ≡ verdict_of (why_by (forms_for (shape_of o)) ls a (operands_in (take (length t - s) (drop s t)))) → r ≡ verdict_of (why names ls a (instruction_of t))
-  why_there {s} w j y q = why_read (rw (joined_there t h.tail s w j y) at q)
+  module _ {o : Operation} (f : Some o ≡ operation_of named) {r : Verdict} where
+    -- by the joined tail, however it is come by
+    pub why_read : r ≡ verdict_of (why_by (forms_for (shape_of o)) ls a tail) → r ≡ verdict_of (why names ls a (instruction_of t))
+    unfolding why
+    why_read q = rw (instruction_read t h e) (known ls a tail o named f q)
+
+    pub why_there : {s : ℕ} {y : Bool} → s ≡ h.tail + leading (drop h.tail t) → y ≡ is_joined (drop s t) → y ≡ true
+        → r ≡ verdict_of (why_by (forms_for (shape_of o)) ls a (operands_in (take (length t - s) (drop s t)))) → r ≡ verdict_of (why names ls a (instruction_of t))
+    why_there {s} w j y q = why_read (rw (joined_there t h.tail s w j y) at q)

@@ -1,7 +1,7 @@
--- The verdicts' numbers written over the first places, line by line, and END's; and the call's answer by the first pass. Assumes nothing.
+-- The verdicts written over the first places, line by line, and END's; and the call's answer by the first pass. Assumes nothing.
 use mathlib.Core.Path.{◌≡◌, refl, sym, ap, ◌∙◌}
 use mathlib.Core.List.{List, [], ◌∷◌, ◌++◌, append-nil, append_assoc, map-append}
-use Prim.Native.Nat.{ℕ, suc, ◌+◌, ◌*◌, ◌^◌, ◌≤◌, ◌<◌}
+use Prim.Native.Nat.{ℕ, suc, ◌+◌, ◌*◌, ◌≤◌, ◌<◌}
 use native.Mathlib.Numerals.{add-one}
 use native.Mathlib.Omega.{arith}
 use lib.ListN.{length, get_or, drop, set, replicate, length-append, length-drop, length-map, length-replicate}
@@ -10,134 +10,98 @@ use Rattle.rules.specs.Limits.{max_lines}
 use Rattle.rules.specs.Text.{Text, cut_at}
 use Rattle.rules.specs.Line.{size}
 use Rattle.rules.specs.Encode.{Mnemonic}
-use Rattle.rules.specs.Answer.{and_then}
-use Rattle.rules.specs.Assemble.{over}
+use Rattle.rules.specs.Answer.{accepted, refused, and_then}
+use Rattle.rules.specs.Assemble.{pass_at_by}
 use Rattle.requests.specs.Explain.{explain_all_by}
-use Rattle.label.specs.Table.{table_of}
-use Rattle.cells.specs.Cells.{after_by, kept_at}
+use Rattle.label.specs.Labelled.{Labelled}
+use Rattle.cells.specs.Cells.{kept_at}
 use Rattle.cells.specs.Puts.{address_at, puts_of}
-use Rattle.cells.specs.declared.Kept.{Kept}
-use Rattle.first.specs.Pass.{pass_in, Holds, EnterGives}
+use Rattle.first.specs.Pass.{pass_in, Holds}
 use Rattle.first.specs.declared.Pass.{Pass}
-use Rattle.first.specs.declared.Entered.{Entered}
-use Rattle.first.specs.declared.Entered.TheVariants.{Done, Refused as Stopped}
 use Rattle.first.proofs.Bounds.{within}
-use Rattle.first.proofs.Callers.{enter_refused, enter_base, enter_holds}
-use Rattle.answer.specs.declared.Answer.TheVariants as A
-use Rattle.explain.specs.Verdict.{verdict_number, numbers_of, count_of, written_over}
+use Rattle.explain.specs.Verdict.{verdict_of, verdicts_of, count_of, put_over, written_over}
 use Rattle.explain.specs.Lines.{verdict_on, verdicts_to, WriteNeeds, WriteGives}
 use Rattle.explain.specs.declared.Verdict.{Verdict}
-use Rattle.explain.proofs.Lines.{after_low, kept_count, with_end, without_end}
+use Rattle.explain.specs.declared.Verdict.TheVariants.{Emitted, NotInstruction}
+use Rattle.explain.proofs.Lines.{kept_count, with_end, without_end}
 
--- one number more
-over_more : (xs : List ℕ) (x n : ℕ) (old : List ℕ) → length xs ≡ n → n < length old → set (over xs old) n x ≡ over (xs ++ (x ∷ [])) old
-unfolding over
+-- one verdict more
+over_more : (xs : List Verdict) (x : Verdict) (n : ℕ) (old : List Verdict) → length xs ≡ n → n < length old → set (put_over xs old) n x ≡ put_over (xs ++ (x ∷ [])) old
+unfolding put_over
 over_more xs x n old e h =
     let l : length (xs ++ (x ∷ [])) ≡ suc n = length-append xs (x ∷ []) ∙ omega arith in
     rw (e, l)
-    (ap (λ (t : List ℕ). set (xs ++ t) n x) (drop-cons old n 0 h) ∙ set_at xs (get_or old n 0) (drop (suc n) old) x n e ∙ sym (append_assoc xs (x ∷ []) (drop (suc n) old)))
+    (ap (λ (t : List Verdict). set (xs ++ t) n x) (drop-cons old n Emitted h) ∙ set_at xs (get_or old n Emitted) (drop (suc n) old) x n e ∙ sym (append_assoc xs (x ∷ []) (drop (suc n) old)))
 
-over_long : (xs old : List ℕ) → length xs ≤ length old → length (over xs old) ≡ length old
-unfolding over
+over_long : (xs old : List Verdict) → length xs ≤ length old → length (put_over xs old) ≡ length old
+unfolding put_over
 over_long xs old h = rw (length-append, length-drop) (omega arith)
 
-module _ (names : List Mnemonic) (source : Text) (table cells : List ℕ) (pass : Pass) where
-  abbrev numbers_to : ℕ → List ℕ
-  numbers_to k = numbers_of (verdicts_to names source table cells pass k)
+module _ (names : List Mnemonic) (labels : Labelled) (cells : List ℕ) (pass : Pass) where
+  abbrev written_to : ℕ → List Verdict
+  written_to k = verdicts_of (verdicts_to names labels cells pass k)
 
-  numbers_count : (k : ℕ) → length (numbers_to k) ≡ k
-  numbers_count k = length-map (verdicts_to names source table cells pass k) _ ∙ kept_count names source table cells pass k
+  written_count : (k : ℕ) → length (written_to k) ≡ k
+  written_count k = length-map (verdicts_to names labels cells pass k) _ ∙ kept_count names labels cells pass k
 
-  abbrev number_at : ℕ → ℕ
-  number_at k = verdict_number (verdict_on names (table_of source table pass.labels) source (address_at pass.base cells k) (kept_at cells k).task)
-
-  numbers_more : (k : ℕ) → numbers_to (suc k) ≡ numbers_to k ++ (number_at k ∷ [])
+  written_more : (k : ℕ) → written_to (suc k) ≡ written_to k ++ (verdict_on names labels (address_at pass.base cells k) (kept_at cells k).task ∷ [])
   unfolding puts_of
-  numbers_more k = rw (map-append, map-append)
+  written_more k = rw (map-append, map-append)
 
--- ---- before line k: the numbers of the lines before it are written
-pub record Wrote (names : List Mnemonic) (source : Text) (table cells : List ℕ) (pass : Pass) (old out : List ℕ) (address k : ℕ) : Type 0 where
-  pub among : k ≤ pass.lines
-  pub here : address ≡ address_at pass.base cells k
-  pub put : out ≡ over (numbers_of (verdicts_to names source table cells pass k)) old
+  -- ---- before line k: the verdicts on the lines before it are written
+  module _ (old : List Verdict) where
+    pub wrote_none : old ≡ put_over (written_to 0) old
+    unfolding puts_of put_over
+    wrote_none = refl
 
-pub wrote_start : (names : List Mnemonic) (source : Text) (table cells : List ℕ) (pass : Pass) (old : List ℕ) → Wrote names source table cells pass old old pass.base 0
-unfolding address_at puts_of over
-wrote_start names source table cells pass old = record { among = omega arith; here = refl; put = refl }
+    module _ {out : List Verdict} {k : ℕ} (w : out ≡ put_over (written_to k) old) where
+      pub wrote_long : k ≤ length old → length out ≡ length old
+      wrote_long l = rw w (over_long _ old (rw (written_count k) l))
 
-module _ {names : List Mnemonic} {source : Text} {table cells : List ℕ} {pass : Pass} {old out : List ℕ} {address k : ℕ} (w : Wrote names source table cells pass old out address k) (room : pass.lines ≤ length old) where
-  pub wrote_long : length out ≡ length old
-  wrote_long = rw w.put (over_long _ old (rw (numbers_count names source table cells pass k) (omega (arith, w.among))))
+      pub wrote_on : k < length old → {v : Verdict} → v ≡ verdict_on names labels (address_at pass.base cells k) (kept_at cells k).task → set out k v ≡ put_over (written_to (k + 1)) old
+      wrote_on l e = rw (add-one k, w, e, written_more k) (over_more _ _ k old (written_count k) l)
 
-  module _ (l : k < pass.lines) {kept : Kept} (e : kept ≡ kept_at cells k) where
-    pub wrote_fits : Holds source table cells pass → after_by pass.base address kept < 2 ^ 32
-    wrote_fits h = rw (w.here, e) (after_low h k l)
-
-    pub wrote_on : {v : Verdict} {n a : ℕ} → v ≡ verdict_on names (table_of source table pass.labels) source address kept.task → n ≡ verdict_number v
-        → a ≡ after_by pass.base address kept → Wrote names source table cells pass old (set out k n) a (k + 1)
-    unfolding address_at
-    wrote_on {v} {n} q p r =
-        let here : v ≡ verdict_on names (table_of source table pass.labels) source (address_at pass.base cells k) (kept_at cells k).task = rw (w.here, e) at q in
-        let x : n ≡ number_at names source table cells pass k = p ∙ ap verdict_number here in
-        rw (add-one k)
-        (record {
-          among = omega arith;
-          here = r ∙ rw (w.here, e);
-          put = rw (w.put, x, numbers_more names source table cells pass k) (over_more _ _ k old (numbers_count names source table cells pass k) (omega arith));
-        })
-
-  pub wrote_all : pass.lines ≤ k → out ≡ over (numbers_of (verdicts_to names source table cells pass pass.lines)) old
-  wrote_all l = let z : k ≡ pass.lines = omega (arith, w.among) in rw z at w.put
-
--- ---- and END's number
-module _ (names : List Mnemonic) {source : Text} {table cells : List ℕ} {pass : Pass} {old out : List ℕ} (w : out ≡ over (numbers_of (verdicts_to names source table cells pass pass.lines)) old)
-    (needs : WriteNeeds source table cells pass old) {n : ℕ} (e : n ≡ length (cut_at 10 source)) where
-  pub wrote_kept : n ≤ pass.lines → WriteGives names source table cells pass old pass.lines out
+-- ---- and END's
+module _ (names : List Mnemonic) {labels : Labelled} {cells : List ℕ} {pass : Pass} {old out : List Verdict} (w : out ≡ put_over (verdicts_of (verdicts_to names labels cells pass pass.lines)) old)
+    (needs : WriteNeeds labels cells pass old) {n : ℕ} (e : n ≡ length (cut_at 10 labels.source)) where
+  pub wrote_kept : n ≤ pass.lines → WriteGives names labels cells pass old pass.lines out
   wrote_kept h =
-      let q = without_end names source table cells pass (omega arith) ∙ append-nil (verdicts_to names source table cells pass pass.lines) in
-      record { count = sym (ap length q ∙ kept_count names source table cells pass pass.lines); written = rw q w }
+      let q = without_end names labels cells pass (omega arith) ∙ append-nil (verdicts_to names labels cells pass pass.lines) in
+      record { count = sym (ap length q ∙ kept_count names labels cells pass pass.lines); within = needs.room; written = rw q w }
 
-  pub wrote_end : pass.lines < n → {m : ℕ} → m ≡ 1 → WriteGives names source table cells pass old (pass.lines + 1) (set out pass.lines m)
-  wrote_end h {m} p =
-      let q = with_end names source table cells pass (omega arith) in
-      let x = over_more (numbers_of (verdicts_to names source table cells pass pass.lines)) 1 pass.lines old (numbers_count names source table cells pass pass.lines) (omega (arith, needs.end_room)) in
+  pub wrote_end : pass.lines < n → WriteGives names labels cells pass old (pass.lines + 1) (set out pass.lines NotInstruction)
+  wrote_end h =
+      let q = with_end names labels cells pass (omega arith) in
+      let x = over_more (verdicts_of (verdicts_to names labels cells pass pass.lines)) NotInstruction pass.lines old (written_count names labels cells pass pass.lines) (omega (arith, needs.end_room)) in
       record {
-        count = sym (ap length q ∙ rw (length-append, kept_count names source table cells pass pass.lines));
-        written = rw (q, map-append, w, p) x;
+        count = sym (ap length q ∙ rw (length-append, kept_count names labels cells pass pass.lines));
+        within = omega (arith, needs.end_room);
+        written = rw (q, map-append, w) x;
       }
 
 -- ---- by the first pass
 -- two cells a line are enough lines
-pub write_needs : {source : Text} {base : ℕ} {table : List ℕ} {r : Entered} {table' cells' : List ℕ} → EnterGives source base table (replicate (2 * max_lines) 0) r table' cells'
-    → (p : Pass) → r ≡ Done p → (old : List ℕ) → length old ≡ max_lines → WriteNeeds source table' cells' p old
-write_needs {source} {table' = table'} {cells'} g p e old l =
-    let h = enter_holds g p e in
-    let b = within size p.base source (pass_in source table' cells' p) h.passed in
-    let m : length cells' ≡ 2 * max_lines = g.lines.long ∙ length-replicate {A = ℕ} (2 * max_lines) 0 in
+pub write_needs : {labels : Labelled} {cells : List ℕ} {p : Pass} → Holds labels cells p → length cells ≡ 2 * max_lines → (old : List Verdict) → length old ≡ max_lines → WriteNeeds labels cells p old
+write_needs {labels} {cells} {p} h m old l =
+    let b = within size p.base labels.source (pass_in labels cells p) h.passed in
     record { holds = h; room = omega (arith, h.lines.room); end_room = omega (arith, b.few) }
 
-module _ (names : List Mnemonic) {source : Text} {base : ℕ} {table cells : List ℕ} {r : Entered} {table' cells' : List ℕ} (g : EnterGives source base table cells r table' cells') where
-  module _ (n k : ℕ) (e : r ≡ Stopped n k) where
-    pub all_refused : A.Refused n k ≡ count_of (explain_all_by names base source)
+module _ (names : List Mnemonic) (source : Text) (base : ℕ) where
+  module _ {n p : ℕ} (e : refused n p ≡ pass_at_by size base source) where
+    pub all_refused : refused n p ≡ count_of (explain_all_by names base source)
     unfolding explain_all_by and_then
-    all_refused = rw (enter_refused g n k e)
+    all_refused = rw (← e)
 
-    pub all_unwritten : (old : List ℕ) → old ≡ written_over (explain_all_by names base source) old
+    pub all_unwritten : (old : List Verdict) → old ≡ written_over (explain_all_by names base source) old
     unfolding explain_all_by and_then
-    all_unwritten old = rw (enter_refused g n k e)
+    all_unwritten old = rw (← e)
 
-  module _ (p : Pass) (e : r ≡ Done p) where
-    module _ {old out : List ℕ} {n : ℕ} (w : WriteGives names source table' cells' p old n out) where
-      counted_here : A.Accepted n ≡ count_of (explain_all_by names p.base source)
-      unfolding explain_all_by and_then
-      counted_here = rw (enter_holds g p e).passed (ap A.Accepted w.count)
+module _ (names : List Mnemonic) {labels : Labelled} {cells : List ℕ} {p : Pass} {old out : List Verdict} {n : ℕ} (w : WriteGives names labels cells p old n out)
+    {base : ℕ} (b : p.base ≡ base) {source : Text} (s : labels.source ≡ source) (h : Holds labels cells p) where
+  pub all_counted : accepted n ≡ count_of (explain_all_by names base source)
+  unfolding explain_all_by and_then
+  all_counted = rw (← b, ← s, h.passed) (ap accepted w.count)
 
-      written_here : out ≡ written_over (explain_all_by names p.base source) old
-      unfolding explain_all_by and_then
-      written_here = rw (enter_holds g p e).passed w.written
-
-      pub all_counted : A.Accepted n ≡ count_of (explain_all_by names base source)
-      all_counted = rw (enter_base g p e) at counted_here
-
-      pub all_written : out ≡ written_over (explain_all_by names base source) old
-      all_written = rw (enter_base g p e) at written_here
+  pub all_written : out ≡ written_over (explain_all_by names base source) old
+  unfolding explain_all_by and_then
+  all_written = rw (← b, ← s, h.passed) w.written

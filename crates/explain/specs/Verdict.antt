@@ -1,19 +1,14 @@
--- W-205's verdicts and answers as the code's enums, and their numbers. Assumes nothing.
-use Rattle.std.specs.Prelude.{ℕ, List, map, length}
-use Rattle.std.proofs.Math.Option.{Option}
+-- W-205's verdicts and answers as the code's enum, and their numbers. Assumes nothing.
+use Rattle.std.specs.Prelude.{ℕ, List, map, length, drop, ◌++◌, Option}
+use Rattle.std.specs.Option.{option_map}
 use Rattle.rules.specs.Number.{no_digits, bad_digit, out_of_range}
-use Rattle.rules.specs.Answer.{Answer as Ruled, accepted, refused}
-use Rattle.rules.specs.Assemble.{over}
-use Rattle.requests.specs.Explain.{Reason, not_instruction, unknown_mnemonic, wrong_count, wrong_kinds, bad_number, not_recorded, out_of_reach, emitted, because, unless}
+use Rattle.rules.specs.Answer.{Answer, accepted, refused}
+use Rattle.requests.specs.Explain.{Reason, not_instruction, unknown_mnemonic, wrong_count, wrong_kinds, bad_number, not_recorded, out_of_reach, emitted, because}
 use Rattle.requests.specs.Explain.{Verdict as Said}
 use Rattle.numeral.specs.declared.Failure.{Failure}
 use Rattle.numeral.specs.declared.Failure.TheVariants as F
-use Rattle.answer.specs.declared.Answer.{Answer}
-use Rattle.answer.specs.declared.Answer.TheVariants as A
 use Rattle.explain.specs.declared.Verdict.{Verdict}
 use Rattle.explain.specs.declared.Verdict.TheVariants.{Emitted, NotInstruction, UnknownMnemonic, WrongCount, WrongKinds, NoDigits, BadDigit, OutOfRange, NotRecorded, OutOfReach}
-use Rattle.explain.specs.declared.Explained.{Explained}
-use Rattle.explain.specs.declared.Explained.TheVariants.{Line, Refused}
 
 abbrev pub verdict_of : Said → Verdict
 verdict_of emitted = Emitted
@@ -28,8 +23,8 @@ verdict_of (because not_recorded) = NotRecorded
 verdict_of (because out_of_reach) = OutOfReach
 
 -- what is wrong, if anything is
-abbrev pub fault_of : Option Reason → Verdict
-fault_of o = verdict_of (unless o)
+abbrev pub fault_of : Option Reason → Option Verdict
+fault_of o = option_map (λ r. verdict_of (because r)) o
 
 -- "a number and what failed in it"
 abbrev pub failure_verdict : Failure → Verdict
@@ -50,19 +45,23 @@ verdict_number OutOfRange = 7
 verdict_number NotRecorded = 8
 verdict_number OutOfReach = 9
 
--- the answer on one line
-abbrev pub explained_of : Ruled Said → Explained
-explained_of (accepted v) = Line (verdict_of v)
-explained_of (refused n p) = Refused n p
+-- ---- answers, with the verdicts as the code's
+-- on one line
+abbrev pub explained_of : Answer Said → Answer Verdict
+explained_of (accepted v) = accepted (verdict_of v)
+explained_of (refused n p) = refused n p
 
--- the answer on all lines: how many, and their numbers over the first places
-abbrev pub numbers_of : List Said → List ℕ
-numbers_of vs = map (λ v. verdict_number (verdict_of v)) vs
+-- on all lines: how many, and the verdicts over the first places
+abbrev pub verdicts_of : List Said → List Verdict
+verdicts_of vs = map verdict_of vs
 
-abbrev pub count_of : Ruled (List Said) → Answer
-count_of (accepted vs) = A.Accepted (length vs)
-count_of (refused n p) = A.Refused n p
+abbrev pub count_of : Answer (List Said) → Answer ℕ
+count_of (accepted vs) = accepted (length vs)
+count_of (refused n p) = refused n p
 
-abbrev pub written_over : Ruled (List Said) → List ℕ → List ℕ
-written_over (accepted vs) old = over (numbers_of vs) old
+unfoldable pub put_over : List Verdict → List Verdict → List Verdict
+put_over vs old = vs ++ drop (length vs) old
+
+abbrev pub written_over : Answer (List Said) → List Verdict → List Verdict
+written_over (accepted vs) old = put_over (verdicts_of vs) old
 written_over (refused n p) old = old

@@ -1,21 +1,27 @@
 // An operand in a place of a form: whether it makes the word there, what is wrong with it if its kind is right, and its kind.
-ghost use Rattle.std.specs.Prelude.{◌≡◌};
-ghost use Rattle.rules.specs.Forms.{kind_number, kind_for};
-ghost use Rattle.rules.specs.Number.{signed_reading};
-ghost use Rattle.label.specs.Table.{table_of, Held};
+ghost use Rattle.std.specs.Prelude.{◌≡◌, false, None, Some, [], ◌∷◌, ◌||◌, cond};
+ghost use Rattle.rules.specs.Text.{after, starts};
+ghost use Rattle.rules.specs.Forms.{kind_for};
+ghost use Rattle.rules.specs.Number.{signed_reading, reading16, hex_tail};
+ghost use Rattle.rules.specs.Label.{find};
+ghost use Rattle.rules.specs.Encode.{is_some, all_digits};
+ghost use Rattle.numeral.specs.Number.{number_of, signed_of};
+ghost use Rattle.opcode.specs.Kind.{operand_kind};
 ghost use Rattle.explain.specs.Near.{Near};
 ghost use Rattle.explain.specs.Verdict.{failure_verdict};
-ghost use Rattle.explain.specs.Operand.{operand_of, fit_at, label_fit, hash_fit, reach_fit, jump_fit, branch_fit, immediate8_fit, immediate16_fit, register_fit, signed_fit, place_at};
+ghost use Rattle.explain.specs.Operand.{operand_of, fit_at, fit, read_fit, register_fit, label_fit, hash_fit, reach_fit, signed_fit, place_at};
 
 use crate::Verdict;
-use label::Address;
+use label::Labels;
 use numeral::Failure;
-use numeral::signed::{Reach, Signed, SignedImmediate};
-use numeral::unsigned::{Immediate, Number};
-use opcode::register::Register;
+use numeral::signed::{displacement, parse_immediate, read_signed};
+use numeral::unsigned::{after_byte, looks_numeric, parse_immediate_u16, parse_u16};
+use opcode::register::{
+    OperandKind, kind_of, parse_address_register, parse_data_register, parse_indirect_register,
+};
 
-// What a form has in a place.
-#[derive(Clone, Copy)]
+/// What a form has in a place.
+#[derive(Clone, Copy, Debug, PartialEq, Eq, Hash)]
 pub enum Operand {
     I8,
     U16,
@@ -28,255 +34,202 @@ pub enum Operand {
     BranchTarget,
 }
 
-// Whether an operand makes the word in its place, and what is wrong with it there, `Emitted` for nothing.
-#[derive(Clone, Copy)]
+/// Whether an operand makes the word in its place, and what is wrong with it there.
+#[derive(Clone, Copy, Debug, PartialEq, Eq, Hash)]
 pub struct Fit {
     pub met: bool,
-    pub fault: Verdict,
+    pub fault: Option<Verdict>,
 }
 
-// The same, and whether its kind is that of the place; so of all operands of a form.
-#[derive(Clone, Copy)]
+/// The same, and whether its kind is that of the place; so of all operands of a form.
+#[derive(Clone, Copy, Debug, PartialEq, Eq, Hash)]
 pub struct Place {
     pub met: bool,
     pub stands: bool,
-    pub fault: Verdict,
+    pub fault: Option<Verdict>,
+}
+
+impl Place {
+    ghost use Rattle.explain.specs.Operand.{both_places};
+
+    /// Both of two operands in a form's places.
+    pub fn and(self, other: Place) -> Place
+        ensures { result ≡ both_places self other }
+    {
+        Place {
+            met: self.met && other.met,
+            stands: self.stands && other.stands,
+            fault: self.fault.or(other.fault),
+        }
+    }
+}
+
+// It makes the word.
+const MADE: Fit = Fit {
+    met: true,
+    fault: None,
+};
+
+// It is no such operand.
+const OTHER: Fit = Fit {
+    met: false,
+    fault: None,
+};
+
+// It is one, with a fault.
+fn blamed(fault: Verdict) -> Fit
+    ensures { result ≡ fit false (Some fault) }
+{
+    Fit {
+        met: false,
+        fault: Some(fault),
+    }
 }
 
 // ---- What is read.
 
-// A number and what failed in it.
-fn number_fault(f: Failure) -> Verdict
-    ensures { result ≡ failure_verdict f }
-{
-    match f {
-        Failure::NoDigits => Verdict::NoDigits,
-        Failure::BadDigit => Verdict::BadDigit,
-        Failure::OutOfRange => Verdict::OutOfRange,
+impl From<Failure> for Verdict {
+    ghost from_gives = { λ f v. v ≡ failure_verdict f };
+
+    fn from(failure: Failure) -> Verdict {
+        match failure {
+            Failure::NoDigits => Verdict::NoDigits,
+            Failure::BadDigit => Verdict::BadDigit,
+            Failure::OutOfRange => Verdict::OutOfRange,
+        }
     }
 }
 
-// #i8.
-fn fit_i8(s: &[u8]) -> Fit
-    ensures { result ≡ immediate8_fit s.now }
+// A number, where the operand is one.
+fn fit_read<T: Drop>(read: Option<Result<T, Failure>>) -> Fit
+    ensures { result ≡ read_fit read }
 {
-    match numeral::signed::parse_immediate(s) {
-        SignedImmediate::Value(_) => Fit {
-            met: true,
-            fault: Verdict::Emitted,
-        },
-        SignedImmediate::Failed(f) => Fit {
-            met: false,
-            fault: number_fault(f),
-        },
-        SignedImmediate::NotImmediate => Fit {
-            met: false,
-            fault: Verdict::Emitted,
-        },
+    match read {
+        Some(Ok(_)) => MADE,
+        Some(Err(failure)) => blamed(Verdict::from(failure)),
+        None => OTHER,
     }
 }
 
-// #u16.
-fn fit_u16(s: &[u8]) -> Fit
-    ensures { result ≡ immediate16_fit s.now }
+// A register, where the operand is one.
+fn fit_register(number: Option<u16>) -> Fit
+    ensures { result ≡ register_fit number }
 {
-    match numeral::unsigned::parse_immediate_u16(s) {
-        Immediate::Value(_) => Fit {
-            met: true,
-            fault: Verdict::Emitted,
-        },
-        Immediate::Failed(f) => Fit {
-            met: false,
-            fault: number_fault(f),
-        },
-        Immediate::NotImmediate => Fit {
-            met: false,
-            fault: Verdict::Emitted,
-        },
-    }
-}
-
-// A register, as it was read.
-fn fit_register(r: Register) -> Fit
-    ensures { result ≡ register_fit r }
-{
-    match r {
-        Register::At(_) => Fit {
-            met: true,
-            fault: Verdict::Emitted,
-        },
-        Register::Other => Fit {
-            met: false,
-            fault: Verdict::Emitted,
-        },
+    match number {
+        Some(_) => MADE,
+        None => OTHER,
     }
 }
 
 // A label.
-fn fit_label(source: &[u8], table: &[u32], labels: usize, s: &[u8]) -> Fit
-    requires { Held source.now table.now labels }
-    ensures { result ≡ label_fit (table_of source.now table.now labels) s.now }
+fn fit_label(labels: &Labels<'_>, s: &[u8]) -> Fit
+    ensures { result ≡ label_fit (find s.now labels.now.table) }
 {
-    match label::find_label(source, table, labels, s) {
-        Address::At(_) => Fit {
-            met: true,
-            fault: Verdict::Emitted,
-        },
-        Address::Nothing => Fit {
-            met: false,
-            fault: Verdict::NotRecorded,
-        },
+    match labels.find(s) {
+        Some(_) => MADE,
+        None => blamed(Verdict::NotRecorded),
     }
 }
 
 // #label: the name is all after `#`.
-fn fit_hash(source: &[u8], table: &[u32], labels: usize, s: &[u8]) -> Fit
-    requires { Held source.now table.now labels }
-    ensures { result ≡ hash_fit (table_of source.now table.now labels) s.now }
+fn fit_hash(labels: &Labels<'_>, s: &[u8]) -> Fit
+    ensures { result ≡ hash_fit labels.now.table (after (35 ∷ []) s.now) }
 {
-    let other = Fit {
-        met: false,
-        fault: Verdict::Emitted,
-    };
-    if s.len() == 0 {
-        return other;
+    match after_byte(s, b'#') {
+        Some(name) => fit_label(labels, name),
+        None => OTHER,
     }
-    if s[0] != b'#' {
-        return other;
-    }
-    fit_label(source, table, labels, &s[1..])
 }
 
 // JMP's number or label.
-fn fit_jump(source: &[u8], table: &[u32], labels: usize, s: &[u8]) -> Fit
-    requires { Held source.now table.now labels }
-    ensures { result ≡ jump_fit (table_of source.now table.now labels) s.now }
+fn fit_jump(labels: &Labels<'_>, s: &[u8]) -> Fit
+    ensures { result ≡ cond (is_some (hex_tail s.now) || all_digits s.now) (read_fit (Some (number_of (reading16 s.now)))) (label_fit (find s.now labels.now.table)) }
 {
-    if !numeral::unsigned::looks_numeric(s) {
-        return fit_label(source, table, labels, s);
-    }
-    match numeral::unsigned::parse_u16(s) {
-        Number::Value(_) => Fit {
-            met: true,
-            fault: Verdict::Emitted,
-        },
-        Number::Failed(f) => Fit {
-            met: false,
-            fault: number_fault(f),
-        },
+    if looks_numeric(s) {
+        fit_read(Some(parse_u16(s)))
+    } else {
+        fit_label(labels, s)
     }
 }
 
 // A label, and its displacement from the instruction.
-fn fit_reach(source: &[u8], table: &[u32], labels: usize, address: u32, s: &[u8]) -> Fit
-    requires { Near source.now table.now labels address }
-    ensures { result ≡ reach_fit (table_of source.now table.now labels) address s.now }
+fn fit_reach(labels: &Labels<'_>, address: u32, s: &[u8]) -> Fit
+    requires { Near labels.now address }
+    ensures { result ≡ reach_fit address (find s.now labels.now.table) }
 {
-    let Address::At(a) = label::find_label(source, table, labels, s) else {
-        return Fit {
-            met: false,
-            fault: Verdict::NotRecorded,
-        };
+    let Some(label) = labels.find(s) else {
+        return blamed(Verdict::NotRecorded);
     };
-    match numeral::signed::displacement(a, address) {
-        Reach::Value(_) => Fit {
-            met: true,
-            fault: Verdict::Emitted,
-        },
-        Reach::Outside => Fit {
-            met: false,
-            fault: Verdict::OutOfReach,
-        },
+    match displacement(label, address) {
+        Some(_) => MADE,
+        None => blamed(Verdict::OutOfReach),
     }
 }
 
-// A branch's signed operand: the number is blamed, though a label in reach makes the word.
-fn fit_signed(reached: bool, s: &[u8]) -> Fit
-    ensures { result ≡ signed_fit reached (signed_reading 10 128 s.now) }
+// A branch's displacement. A signed operand is blamed as a number, though a label in reach makes the word.
+fn fit_branch(labels: &Labels<'_>, address: u32, s: &[u8]) -> Fit
+    requires { Near labels.now address }
+    ensures { result ≡ cond (starts (43 ∷ []) s.now || starts (45 ∷ []) s.now) (signed_fit (reach_fit address (find s.now labels.now.table)).met (signed_of (signed_reading 10 128 s.now))) (reach_fit address (find s.now labels.now.table)) }
 {
-    match numeral::signed::read_signed(s, 10, 128) {
-        Signed::Value(_) => Fit {
-            met: true,
-            fault: Verdict::Emitted,
+    let reach = fit_reach(labels, address, s);
+    let signed = text::starts_with(s, b"+") || text::starts_with(s, b"-");
+    if !signed {
+        return reach;
+    }
+    match read_signed(s, 10, 128) {
+        Ok(_) => MADE,
+        Err(failure) => Fit {
+            met: reach.met,
+            fault: Some(Verdict::from(failure)),
         },
-        Signed::Failed(f) => Fit {
-            met: reached,
-            fault: number_fault(f),
-        },
     }
-}
-
-// A branch's displacement.
-fn fit_branch(source: &[u8], table: &[u32], labels: usize, address: u32, s: &[u8]) -> Fit
-    requires { Near source.now table.now labels address }
-    ensures { result ≡ branch_fit (table_of source.now table.now labels) address s.now }
-{
-    let reach = fit_reach(source, table, labels, address, s);
-    let plus = text::starts_with(s, b"+");
-    let minus = text::starts_with(s, b"-");
-    if plus {
-        return fit_signed(reach.met, s);
-    }
-    if minus {
-        return fit_signed(reach.met, s);
-    }
-    reach
 }
 
 // An operand in any place.
-fn fit_in(source: &[u8], table: &[u32], labels: usize, address: u32, x: Operand, s: &[u8]) -> Fit
-    requires { Near source.now table.now labels address }
-    ensures { result ≡ fit_at (table_of source.now table.now labels) address (operand_of x) s.now }
+fn fit_in(labels: &Labels<'_>, address: u32, x: Operand, s: &[u8]) -> Fit
+    requires { Near labels.now address }
+    ensures { result ≡ fit_at labels.now.table address (operand_of x) s.now }
 {
     match x {
-        Operand::I8 => fit_i8(s),
-        Operand::U16 => fit_u16(s),
-        Operand::HashLabel => fit_hash(source, table, labels, s),
-        Operand::Dn => fit_register(opcode::register::parse_data_register(s)),
-        Operand::An => fit_register(opcode::register::parse_address_register(s)),
-        Operand::AtAn => fit_register(opcode::register::parse_indirect_register(s)),
-        Operand::Label => fit_label(source, table, labels, s),
-        Operand::JumpTarget => fit_jump(source, table, labels, s),
-        Operand::BranchTarget => fit_branch(source, table, labels, address, s),
+        Operand::I8 => fit_read(parse_immediate(s)),
+        Operand::U16 => fit_read(parse_immediate_u16(s)),
+        Operand::HashLabel => fit_hash(labels, s),
+        Operand::Dn => fit_register(parse_data_register(s)),
+        Operand::An => fit_register(parse_address_register(s)),
+        Operand::AtAn => fit_register(parse_indirect_register(s)),
+        Operand::Label => fit_label(labels, s),
+        Operand::JumpTarget => fit_jump(labels, s),
+        Operand::BranchTarget => fit_branch(labels, address, s),
     }
 }
 
 // ---- Kinds.
 
-// The kind that stands in a place. Of one `match` with 0 to 4 the compiler makes a table of them.
-fn kind_for(x: Operand) -> u8
-    ensures { result ≡ kind_number (kind_for (operand_of x)) }
+// The kind that stands in a place. Of one `match` with the five kinds the compiler makes a table of them.
+#[tactic(auto, unfolding(rules::specs::Forms::kind_for))]
+fn kind_for(x: Operand) -> OperandKind
+    ensures { result ≡ operand_kind (kind_for (operand_of x)) }
 {
     match x {
-        Operand::Label => 4,
-        Operand::JumpTarget => 4,
-        Operand::BranchTarget => 4,
+        Operand::Label | Operand::JumpTarget | Operand::BranchTarget => OperandKind::Text,
         _ => match x {
-            Operand::Dn => 1,
-            Operand::An => 2,
-            Operand::AtAn => 3,
-            _ => 0,
+            Operand::Dn => OperandKind::Dn,
+            Operand::An => OperandKind::An,
+            Operand::AtAn => OperandKind::AtAn,
+            _ => OperandKind::Hash,
         },
     }
 }
 
-// An operand in a place, with its kind.
-pub fn place_of(
-    source: &[u8],
-    table: &[u32],
-    labels: usize,
-    address: u32,
-    x: Operand,
-    s: &[u8],
-) -> Place
-    requires { Near source.now table.now labels address }
-    ensures { result ≡ place_at (table_of source.now table.now labels) address (operand_of x) s.now }
+/// An operand in a place, with its kind.
+pub fn place_of(labels: &Labels<'_>, address: u32, x: Operand, s: &[u8]) -> Place
+    requires { Near labels.now address }
+    ensures { result ≡ place_at labels.now.table address (operand_of x) s.now }
 {
-    let fit = fit_in(source, table, labels, address, x, s);
-    let fault = fit.fault;
+    let Fit { met, fault } = fit_in(labels, address, x, s);
     Place {
-        met: fit.met,
-        stands: opcode::register::kind_of(s) == kind_for(x),
+        met,
+        stands: kind_of(s) == kind_for(x),
         fault,
     }
 }

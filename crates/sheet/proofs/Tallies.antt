@@ -1,8 +1,10 @@
 -- Totals by their lines: one line more, all lines of an accepted source, and how low they are. Assumes nothing.
+use Rattle.std.specs.Prelude.{Option, None, Some}
 use mathlib.Core.Path.{◌≡◌, refl, sym, ap, ◌∙◌}
 use mathlib.Core.Bool.{Bool, true, false, cond}
 use mathlib.Core.List.{List, [], ◌∷◌, ◌++◌, flat_map, append_assoc, map-append}
 use Prim.Native.Nat.{ℕ, zero, suc, ◌+◌, ◌-◌}
+use native.Mathlib.Nat.{add-zero, max-zero}
 use native.Mathlib.Omega.{arith}
 use lib.Dec.{eqb}
 use lib.ListN.{length, replicate, length-append}
@@ -15,7 +17,7 @@ use Rattle.line.specs.declared.Task.{Task}
 use Rattle.line.specs.declared.Task.TheVariants.{Skipped, End, Org, NoOrg, LabelOnly, Instruction, Value, Space}
 use Rattle.encode.specs.Code.{places_of}
 use Rattle.encode.specs.declared.Code.{Code}
-use Rattle.encode.specs.declared.Code.TheVariants.{Nothing, Word, Value as WithValue, Label}
+use Rattle.encode.specs.declared.Code.TheVariants.{Word, Value as WithValue, Label}
 use Rattle.sheet.specs.Lines.{counted_code, put_of, tally_of}
 
 -- ---- equal totals
@@ -75,50 +77,72 @@ places_totals l =
     totals (how_many skip c) (how_many origin c) (how_many bare_label c) (how_many datum c) (how_many emitting c) (how_many wordless c) (how_many ending c) (0 + length (l ++ []))
     (0 + marked_in (l ++ [])) 0 0 0
 
-by_code : (a : ℕ) (c : Code) → counted_code c ≡ places_totals (places_of a c)
+by_code : (a : ℕ) (c : Option Code) → counted_code c ≡ places_totals (places_of a c)
 unfolding places_totals how_many class_number word_class marked_in
-by_code a Nothing = refl
-by_code a (Word w) = refl
-by_code a (WithValue w v) = refl
-by_code a (Label w x) = refl
+by_code a None = refl
+by_code a (Some (Word w)) = refl
+by_code a (Some (WithValue w v)) = refl
+by_code a (Some (Label w x)) = refl
 
 -- what each kind of line adds
 abbrev pub OneLine : Table → Text → ℕ → Task → Said → Type 0
 OneLine ls source a k u = u ≡ tally_of ls (put_of source a k ∷ [])
 
 module _ (ls : Table) (source : Text) (a : ℕ) where
-  pub code_line : (s : Span) (c : Code) → places_of a c ≡ code_places ls (put_of source a (Instruction s)) → OneLine ls source a (Instruction s) (counted_code c)
+  pub code_line : (s : Span) (c : Option Code) → places_of a c ≡ code_places ls (put_of source a (Instruction s)) → OneLine ls source a (Instruction s) (counted_code c)
   unfolding tally_of read_classes class_of data_places data_contents places_at flat_map marked_in places_totals
   code_line s c e = by_code a c ∙ ap places_totals e
 
-  module _ (v n : ℕ) where
-    pub skipped_line : OneLine ls source a Skipped (totals 1 0 0 0 0 0 0 0 0 0 0 0)
-    unfolding tally_of read_classes class_of how_many class_number marked_in data_places data_contents code_places_by code_contents_by places_at flat_map
-    skipped_line = refl
+  pub skipped_line : OneLine ls source a Skipped (totals 1 0 0 0 0 0 0 0 0 0 0 0)
+  unfolding tally_of read_classes class_of how_many class_number marked_in data_places data_contents code_places_by code_contents_by places_at flat_map
+  skipped_line = refl
 
-    pub end_line : OneLine ls source a End (totals 0 0 0 0 0 0 1 0 0 0 0 0)
-    unfolding tally_of read_classes class_of how_many class_number marked_in data_places data_contents code_places_by code_contents_by places_at flat_map
-    end_line = refl
+  pub end_line : OneLine ls source a End (totals 0 0 0 0 0 0 1 0 0 0 0 0)
+  unfolding tally_of read_classes class_of how_many class_number marked_in data_places data_contents code_places_by code_contents_by places_at flat_map
+  end_line = refl
 
-    pub org_line : OneLine ls source a (Org v) (totals 0 1 0 0 0 0 0 0 0 0 0 0)
-    unfolding tally_of read_classes class_of how_many class_number marked_in data_places data_contents code_places_by code_contents_by places_at flat_map
-    org_line = refl
+  pub org_line : (v : ℕ) → OneLine ls source a (Org v) (totals 0 1 0 0 0 0 0 0 0 0 0 0)
+  unfolding tally_of read_classes class_of how_many class_number marked_in data_places data_contents code_places_by code_contents_by places_at flat_map
+  org_line v = refl
 
-    pub no_org_line : OneLine ls source a NoOrg (totals 0 1 0 0 0 0 0 0 0 0 0 0)
-    unfolding tally_of read_classes class_of how_many class_number marked_in data_places data_contents code_places_by code_contents_by places_at flat_map
-    no_org_line = refl
+  pub no_org_line : OneLine ls source a NoOrg (totals 0 1 0 0 0 0 0 0 0 0 0 0)
+  unfolding tally_of read_classes class_of how_many class_number marked_in data_places data_contents code_places_by code_contents_by places_at flat_map
+  no_org_line = refl
 
-    pub label_line_lem : OneLine ls source a LabelOnly (totals 0 0 1 0 0 0 0 0 0 0 0 0)
-    unfolding tally_of read_classes class_of how_many class_number marked_in data_places data_contents code_places_by code_contents_by places_at flat_map
-    label_line_lem = refl
+  pub label_line_lem : OneLine ls source a LabelOnly (totals 0 0 1 0 0 0 0 0 0 0 0 0)
+  unfolding tally_of read_classes class_of how_many class_number marked_in data_places data_contents code_places_by code_contents_by places_at flat_map
+  label_line_lem = refl
 
-    pub value_line : OneLine ls source a (Value n v) (totals 0 0 0 1 0 0 0 2 0 0 0 0)
-    unfolding tally_of read_classes class_of how_many class_number marked_in data_places data_contents code_places_by code_contents_by places_at flat_map
-    value_line = refl
+  pub value_line : (n v : ℕ) → OneLine ls source a (Value n v) (totals 0 0 0 1 0 0 0 2 0 0 0 0)
+  unfolding tally_of read_classes class_of how_many class_number marked_in data_places data_contents code_places_by code_contents_by places_at flat_map
+  value_line n v = refl
 
-    pub space_line : OneLine ls source a (Space n) (totals 0 0 0 1 0 0 0 0 0 0 0 0)
-    unfolding tally_of read_classes class_of how_many class_number marked_in data_places data_contents code_places_by code_contents_by places_at flat_map
-    space_line = refl
+  pub space_line : (n : ℕ) → OneLine ls source a (Space n) (totals 0 0 0 1 0 0 0 0 0 0 0 0)
+  unfolding tally_of read_classes class_of how_many class_number marked_in data_places data_contents code_places_by code_contents_by places_at flat_map
+  space_line n = refl
+
+-- totals with a line more, an instruction's as it is told
+abbrev pub with_line : Said → Said → Task → Said
+with_line t u Skipped = record t { skipped_lines = t.skipped_lines + 1 }
+with_line t u End = record t { end_lines = t.end_lines + 1 }
+with_line t u (Org v) = record t { org_lines = t.org_lines + 1 }
+with_line t u NoOrg = record t { org_lines = t.org_lines + 1 }
+with_line t u LabelOnly = record t { label_lines = t.label_lines + 1 }
+with_line t u (Instruction s) = plus t u
+with_line t u (Value n v) = record t { data_lines = t.data_lines + 1; words = t.words + 2 }
+with_line t u (Space n) = record t { data_lines = t.data_lines + 1 }
+
+pub with_line_lem : (ls : Table) (source : Text) (a : ℕ) (t : Said) (k : Task)
+    → with_line t (tally_of ls (put_of source a k ∷ [])) k ≡ plus t (tally_of ls (put_of source a k ∷ []))
+unfolding plus
+with_line_lem ls source a t Skipped = rw (← skipped_line ls source a) (simp (add-zero, max-zero))
+with_line_lem ls source a t End = rw (← end_line ls source a) (simp (add-zero, max-zero))
+with_line_lem ls source a t (Org v) = rw (← org_line ls source a v) (simp (add-zero, max-zero))
+with_line_lem ls source a t NoOrg = rw (← no_org_line ls source a) (simp (add-zero, max-zero))
+with_line_lem ls source a t LabelOnly = rw (← label_line_lem ls source a) (simp (add-zero, max-zero))
+with_line_lem ls source a t (Instruction s) = refl
+with_line_lem ls source a t (Value n v) = rw (← value_line ls source a n v) (simp (add-zero, max-zero))
+with_line_lem ls source a t (Space n) = rw (← space_line ls source a n) (simp (add-zero, max-zero))
 
 -- ---- the whole source
 none_ended : (c : Class) (n : ℕ) → eqb (class_number c) 6 ≡ false → how_many c (replicate n ending) ≡ 0

@@ -1,5 +1,5 @@
 -- The totals of the lines that are read: one line's, by its task and code, and all of them. Assumes nothing.
-use Rattle.std.specs.Prelude.{◌≡◌, ℕ, ◌+◌, ◌*◌, ◌≤◌, length}
+use Rattle.std.specs.Prelude.{◌≡◌, ℕ, ◌+◌, ◌*◌, ◌≤◌, length, Option, None, Some}
 use mathlib.Core.List.{List, flat_map}
 use Rattle.rules.specs.Limits.{max_source, max_lines}
 use Rattle.rules.specs.Text.{Text}
@@ -7,7 +7,7 @@ use Rattle.rules.specs.Label.{Table}
 use Rattle.rules.specs.Assemble.{Put, data_places, code_places}
 use Rattle.requests.specs.Sheet.{skip, origin, bare_label, datum, emitting, wordless, ending, read_classes, how_many, marked_in, totals}
 use Rattle.requests.specs.Sheet.{Totals as Said}
-use Rattle.label.specs.Table.{table_of}
+use Rattle.label.specs.Labelled.{Labelled}
 use Rattle.line.specs.Line.{task_at, TaskIn}
 use Rattle.line.specs.declared.Task.{Task}
 use Rattle.cells.specs.Puts.{puts_of}
@@ -15,16 +15,16 @@ use Rattle.first.specs.Pass.{Holds}
 use Rattle.first.specs.declared.Pass.{Pass}
 use Rattle.encode.specs.Near.{Near}
 use Rattle.encode.specs.declared.Code.{Code}
-use Rattle.encode.specs.declared.Code.TheVariants.{Nothing, Word, Value as WithValue, Label}
+use Rattle.encode.specs.declared.Code.TheVariants.{Word, Value as WithValue, Label}
 use Rattle.sheet.specs.declared.Totals.{Totals}
-use Rattle.sheet.specs.Totals.{said, UpTo}
+use Rattle.sheet.specs.Totals.{said, weight}
 
 -- ---- an instruction, by its code
-abbrev pub counted_code : Code → Said
-counted_code Nothing = totals 0 0 0 0 0 1 0 0 0 0 0 0
-counted_code (Word w) = totals 0 0 0 0 1 0 0 1 0 0 0 0
-counted_code (WithValue w v) = totals 0 0 0 0 1 0 0 2 0 0 0 0
-counted_code (Label w x) = totals 0 0 0 0 1 0 0 2 1 0 0 0
+abbrev pub counted_code : Option Code → Said
+counted_code None = totals 0 0 0 0 0 1 0 0 0 0 0 0
+counted_code (Some (Word w)) = totals 0 0 0 0 1 0 0 1 0 0 0 0
+counted_code (Some (WithValue w v)) = totals 0 0 0 0 1 0 0 2 0 0 0 0
+counted_code (Some (Label w x)) = totals 0 0 0 0 1 0 0 2 1 0 0 0
 
 -- ---- by what a line asks
 -- what a task asks at an address
@@ -39,17 +39,17 @@ tally_of ls us =
     (length (flat_map data_places us) + length (flat_map (code_places ls) us)) (marked_in (flat_map data_places us) + marked_in (flat_map (code_places ls) us)) 0 0 0
 
 -- ---- contracts
-pub record AddLineNeeds (t : Said) (source : Text) (table : List ℕ) (labels address : ℕ) (task : Task) : Type 0 where
-  pub near : Near source table labels address
-  pub short : length source ≤ max_source
-  pub within : TaskIn source task
-  pub low : UpTo (4 * max_lines) t
+pub record AddLineNeeds (t : Said) (labels : Labelled) (address : ℕ) (task : Task) : Type 0 where
+  pub near : Near labels.table address
+  pub short : length labels.source ≤ max_source
+  pub within : TaskIn labels.source task
+  pub low : weight t ≤ 4 * max_lines
 
-pub record ReadTotalsNeeds (source : Text) (table cells : List ℕ) (pass : Pass) : Type 0 where
-  pub holds : Holds source table cells pass
+pub record ReadTotalsNeeds (labels : Labelled) (cells : List ℕ) (pass : Pass) : Type 0 where
+  pub holds : Holds labels cells pass
   pub few : pass.lines ≤ max_lines
 
 -- those of the lines that are kept, and that they are low
-pub record ReadTotalsGives (source : Text) (table cells : List ℕ) (pass : Pass) (r : Totals) : Type 0 where
-  pub is : said r ≡ tally_of (table_of source table pass.labels) (puts_of source pass.base cells pass.lines)
-  pub low : UpTo (4 * pass.lines) (said r)
+pub record ReadTotalsGives (labels : Labelled) (cells : List ℕ) (pass : Pass) (r : Totals) : Type 0 where
+  pub is : said r ≡ tally_of labels.table (puts_of labels.source pass.base cells pass.lines)
+  pub low : weight (said r) ≤ 4 * pass.lines

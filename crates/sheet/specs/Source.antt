@@ -1,20 +1,15 @@
--- A source's own totals: what its functions need and give. Assumes nothing.
-use Rattle.std.specs.Prelude.{◌≡◌, List, ℕ, ◌-◌, ◌≤◌, length}
+-- A source's own totals: what its functions need. Assumes nothing.
+use Rattle.std.specs.Prelude.{◌≡◌, List, ℕ, ◌≤◌, length}
 use Rattle.rules.specs.Limits.{max_lines}
 use Rattle.rules.specs.Text.{Text, cut_at}
-use Rattle.requests.specs.Sheet.{totals}
-use Rattle.requests.specs.Sheet.{Totals as Said}
+use Rattle.label.specs.Labelled.{Labelled}
 use Rattle.source.specs.Clear.{Clear}
-use Rattle.first.specs.Pass.{Lent, Holds}
+use Rattle.first.specs.Pass.{Holds}
 use Rattle.first.specs.declared.Pass.{Pass}
 
--- what is counted once
-abbrev pub whole_totals : Pass → ℕ → Said
-whole_totals pass lines = totals 0 0 0 0 0 0 (lines - pass.lines) 0 0 pass.labels 1 0
-
-pub record PassTotalsNeeds (source : Text) (table cells : List ℕ) (pass : Pass) (lines : ℕ) : Type 0 where
-  pub holds : Holds source table cells pass
-  pub lines_are : lines ≡ length (cut_at 10 source)
+pub record PassTotalsNeeds (labels : Labelled) (cells : List ℕ) (pass : Pass) (lines : ℕ) : Type 0 where
+  pub holds : Holds labels cells pass
+  pub lines_are : lines ≡ length (cut_at 10 labels.source)
   pub read : pass.lines ≤ lines
   pub few : lines ≤ max_lines
 
@@ -22,11 +17,3 @@ pub record PassTotalsNeeds (source : Text) (table cells : List ℕ) (pass : Pass
 pub record Starting (source : Text) (lines : ℕ) : Type 0 where
   pub clear : Clear source
   pub lines_are : lines ≡ length (cut_at 10 source)
-
--- so many lines have room for their labels in the small table
-abbrev pub short_lines : ℕ
-short_lines = 32
-
-pub record TotalsInNeeds (source : Text) (lines : ℕ) (table cells : List ℕ) : Type 0 where
-  pub starting : Starting source lines
-  pub lent : Lent source table cells

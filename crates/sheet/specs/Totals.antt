@@ -1,11 +1,11 @@
 -- Totals and answers as the code has them, read as W-214's; and what a sum needs. Assumes nothing.
-use Rattle.std.specs.Prelude.{List, [], ◌∷◌, ℕ, ◌+◌, ◌^◌, ◌≤◌, ◌<◌, max, get_or}
+use Rattle.std.specs.Prelude.{List, ℕ, ◌+◌, get_or, Result, Ok, Err}
 use Rattle.rules.specs.Answer.{Answer, accepted, refused}
 use Rattle.requests.specs.Sheet.{totals}
 use Rattle.requests.specs.Sheet.{Totals as Said}
+use Rattle.answer.specs.Refusal.{number_of, place_of}
+use Rattle.answer.specs.declared.Refusal.{Refusal}
 use Rattle.sheet.specs.declared.Totals.{Totals}
-use Rattle.sheet.specs.declared.Added.{Added}
-use Rattle.sheet.specs.declared.Added.TheVariants.{Sum, Refused}
 
 -- what the twelve numbers say
 abbrev pub said : Totals → Said
@@ -20,39 +20,12 @@ lent_totals ns =
     (get_or ns 11 0)
 
 -- and an answer
-abbrev pub answered : Added → Answer Said
-answered (Sum t) = accepted (said t)
-answered (Refused n p) = refused n p
+abbrev pub answered : Result Totals Refusal → Answer Said
+answered (Ok t) = accepted (said t)
+answered (Err e) = refused (number_of e) (place_of e)
 
--- each sum has 64 bits
-pub record SumFits (t u : Totals) : Type 0 where
-  pub of_skipped : t.skipped + u.skipped < 2 ^ 64
-  pub of_org : t.org + u.org < 2 ^ 64
-  pub of_label : t.label + u.label < 2 ^ 64
-  pub of_data : t.defined + u.defined < 2 ^ 64
-  pub of_word : t.worded + u.worded < 2 ^ 64
-  pub of_wordless : t.wordless + u.wordless < 2 ^ 64
-  pub of_end : t.ended + u.ended < 2 ^ 64
-  pub of_words : t.words + u.words < 2 ^ 64
-  pub of_marked : t.marked + u.marked < 2 ^ 64
-  pub of_accepted : t.accepted + u.accepted < 2 ^ 64
-  pub of_refused : t.refused + u.refused < 2 ^ 64
-
--- no total that is a sum is above n
-pub record UpTo (n : ℕ) (t : Said) : Type 0 where
-  pub of_skipped : t.skipped_lines ≤ n
-  pub of_org : t.org_lines ≤ n
-  pub of_label : t.label_lines ≤ n
-  pub of_data : t.data_lines ≤ n
-  pub of_word : t.word_lines ≤ n
-  pub of_wordless : t.wordless_lines ≤ n
-  pub of_end : t.end_lines ≤ n
-  pub of_words : t.words ≤ n
-  pub of_marked : t.marked ≤ n
-  pub of_accepted : t.accepted_sources ≤ n
-  pub of_refused : t.refused_sources ≤ n
-
--- the highest of some numbers
-unfoldable pub highest_of : List ℕ → ℕ
-highest_of [] = 0
-highest_of (n ∷ ns) = max n (highest_of ns)
+-- the eleven that are added up, together: each is at most that
+abbrev pub weight : Said → ℕ
+weight t =
+    t.skipped_lines + t.org_lines + t.label_lines + t.data_lines + t.word_lines + t.wordless_lines + t.end_lines + t.words + t.marked
+    + t.accepted_sources + t.refused_sources

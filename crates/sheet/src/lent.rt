@@ -5,32 +5,49 @@ ghost use Rattle.sheet.specs.Totals.{said, lent_totals};
 
 use crate::Totals;
 
-// The totals that the numbers are.
-pub fn totals_of(numbers: &[u64; 12]) -> Totals
-    ensures { said result ≡ lent_totals numbers.now }
-{
-    Totals {
-        skipped: numbers[0],
-        org: numbers[1],
-        label: numbers[2],
-        defined: numbers[3],
-        worded: numbers[4],
-        wordless: numbers[5],
-        ended: numbers[6],
-        words: numbers[7],
-        marked: numbers[8],
-        labels: numbers[9],
-        accepted: numbers[10],
-        refused: numbers[11],
+impl From<[u64; 12]> for Totals {
+    ghost from_gives = { λ numbers t. said t ≡ lent_totals numbers };
+
+    fn from(numbers: [u64; 12]) -> Totals {
+        let [
+            skipped,
+            org,
+            label,
+            defined,
+            worded,
+            wordless,
+            ended,
+            words,
+            marked,
+            labels,
+            accepted,
+            refused,
+        ] = numbers;
+        Totals {
+            skipped,
+            org,
+            label,
+            defined,
+            worded,
+            wordless,
+            ended,
+            words,
+            marked,
+            labels,
+            accepted,
+            refused,
+        }
     }
 }
 
-// Puts totals in the place of the numbers.
-pub fn put_totals(t: Totals, numbers: &mut [u64; 12])
-    ensures { numbers.new ≡ numbers_in (said t) }
-{
-    *numbers = [
-        t.skipped, t.org, t.label, t.defined, t.worded, t.wordless, t.ended, t.words, t.marked,
-        t.labels, t.accepted, t.refused,
-    ];
+impl From<Totals> for [u64; 12] {
+    ghost from_gives = { λ t numbers. numbers ≡ numbers_in (said t) };
+
+    #[tactic(auto, unfolding(requests::specs::Sheet::numbers_in))]
+    fn from(t: Totals) -> [u64; 12] {
+        [
+            t.skipped, t.org, t.label, t.defined, t.worded, t.wordless, t.ended, t.words, t.marked,
+            t.labels, t.accepted, t.refused,
+        ]
+    }
 }

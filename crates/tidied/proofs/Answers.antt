@@ -7,11 +7,8 @@ use lib.ListN.{length, take, drop, replicate, length-append, length-replicate}
 use lib.Seq.{take_at, length-take-le}
 use Rattle.rules.specs.Limits.{max_source}
 use Rattle.rules.specs.Text.{Text, cut_at}
-use Rattle.rules.specs.Answer.{accepted, refused, refuse_if}
+use Rattle.rules.specs.Answer.{Answer, accepted, refused, refuse_if}
 use Rattle.rules.specs.Assemble.{checks, over}
-use Rattle.answer.specs.Answer.{answer_of}
-use Rattle.answer.specs.declared.Answer.{Answer}
-use Rattle.answer.specs.declared.Answer.TheVariants.{Accepted, Refused}
 use Rattle.text.specs.Spans.{over_from}
 use Rattle.text.proofs.Over.{put_over}
 use Rattle.source.specs.Clear.{Clear}
@@ -32,11 +29,11 @@ module _ (t old : Text) where
   has_room h = rw (le-ltb (length old) (length t) h)
 
   module _ {n : ℕ} (e : n ≡ length t) where
-    pub short_answer : length old < n → (Refused 18 n ≡ answer_of (room_for (length old) t)) × (old ≡ write_copy (room_for (length old) t) t old)
+    pub short_answer : length old < n → (refused 18 n ≡ (room_for (length old) t)) × (old ≡ write_copy (room_for (length old) t) t old)
     unfolding write_copy
     short_answer h = rw (no_room (omega arith), e) (refl, refl)
 
-    pub copied_answer : n ≤ length old → {out : Text} → out ≡ over t old → (Accepted n ≡ answer_of (room_for (length old) t)) × (out ≡ write_copy (room_for (length old) t) t old)
+    pub copied_answer : n ≤ length old → {out : Text} → out ≡ over t old → (accepted n ≡ (room_for (length old) t)) × (out ≡ write_copy (room_for (length old) t) t old)
     unfolding write_copy
     copied_answer h g = rw (has_room (omega arith), e) (refl, g)
 
@@ -66,28 +63,28 @@ module _ {t old : Text} {n : ℕ} {copy : Text} (a : Adds t 0 old n copy) where
     pub front_fits : 0 + length (take n copy) ≤ length out
     front_fits = omega (arith, front_length)
 
-    pub apart_answer : {last : Text} → last ≡ over_from 0 (take n copy) out → (Accepted n ≡ answer_of (room_for (length out) t)) × (last ≡ write_copy (room_for (length out) t) t out)
+    pub apart_answer : {last : Text} → last ≡ over_from 0 (take n copy) out → (accepted n ≡ (room_for (length out) t)) × (last ≡ write_copy (room_for (length out) t) t out)
     apart_answer g = copied_answer t out front_counted h (g ∙ rw front_is (put_over t out))
 
-  pub apart_short : (out : Text) → length out < n → (Refused 18 n ≡ answer_of (room_for (length out) t)) × (out ≡ write_copy (room_for (length out) t) t out)
+  pub apart_short : (out : Text) → length out < n → (refused 18 n ≡ (room_for (length out) t)) × (out ≡ write_copy (room_for (length out) t) t out)
   apart_short out h = short_answer t out front_counted h
 
 -- ---- `tidy_copy`
 module _ (s out : Text) where
   -- refused by 1 to 3
-  pub stopped_answer : (n p : ℕ) → Refused n p ≡ answer_of (checks s (accepted (length (cut_at 10 s))))
-      → (Refused n p ≡ answer_of (tidy_answer (length out) s)) × (out ≡ tidy_slice s out)
+  pub stopped_answer : (n p : ℕ) → refused n p ≡ checks s (accepted (length (cut_at 10 s)))
+      → (refused n p ≡ tidy_answer (length out) s) × (out ≡ tidy_slice s out)
   unfolding tidy_answer tidy_slice write_copy
-  stopped_answer n p e = rw (stopped s n p e (room_for (length out) (tidy s))) (refl, refl)
+  stopped_answer n p e = rw (← stopped s _ n p e (room_for (length out) (tidy s))) (refl, refl)
 
   -- past them
-  module _ (c : Clear s) {r : Answer} {last : Text} where
-    pub cleared_answer : (r ≡ answer_of (room_for (length out) (tidy s))) × (last ≡ write_copy (room_for (length out) (tidy s)) (tidy s) out)
-        → (r ≡ answer_of (tidy_answer (length out) s)) × (last ≡ tidy_slice s out)
+  module _ (c : Clear s) {r : Answer ℕ} {last : Text} where
+    pub cleared_answer : (r ≡ room_for (length out) (tidy s)) × (last ≡ write_copy (room_for (length out) (tidy s)) (tidy s) out)
+        → (r ≡ tidy_answer (length out) s) × (last ≡ tidy_slice s out)
     unfolding tidy_answer tidy_slice
     cleared_answer a = rw (checks_clear s c (room_for (length out) (tidy s))) a
 
   pub in_place : length s ≤ length out → {n : ℕ} {last : Text} → Adds (tidy s) 0 out n last
-      → (Accepted n ≡ answer_of (room_for (length out) (tidy s))) × (last ≡ write_copy (room_for (length out) (tidy s)) (tidy s) out)
+      → (accepted n ≡ (room_for (length out) (tidy s))) × (last ≡ write_copy (room_for (length out) (tidy s)) (tidy s) out)
   unfolding CopyIsShort
   in_place h a = copied_answer (tidy s) out (front_counted a) (omega (arith, front_counted a, copy_is_short s)) (a.after ∙ put_over (tidy s) out)

@@ -1,4 +1,5 @@
 -- What the writers of a line that reaches step 4 write: around a colon, and where there is none. Assumes nothing.
+use Rattle.std.specs.Prelude.{None, Some}
 use mathlib.Core.Path.{◌≡◌, refl, sym, ap, ◌∙◌}
 use mathlib.Core.Bool.{Bool, true, false, not}
 use mathlib.Core.List.{[], ◌∷◌, ◌++◌, append_assoc}
@@ -10,26 +11,15 @@ use lib.ListN.{length, take, drop, set, length-append, length-drop}
 use lib.Seq.{length-take-le}
 use Rattle.rules.specs.Text.{Text, bytes, uppers, trim, contains}
 use Rattle.rules.specs.Line.{is_data}
-use Rattle.text.specs.Find.{index_of, found_of}
+use Rattle.text.specs.Find.{index_of}
 use Rattle.text.specs.Spans.{over_from}
-use Rattle.text.specs.declared.Found.TheVariants.{At, Nothing}
-use Rattle.text.proofs.Find.{found_at, found_nowhere}
+use Rattle.text.proofs.Find.{indexed, unindexed}
 use Rattle.text.proofs.Trim.{trim_le}
 use Rattle.requests.specs.Tidy.{squeezed, around_colon, tidy_rest}
 use Rattle.tidylaws.proofs.Neat.{squeezed_trim}
 use Rattle.tidylaws.proofs.Shapes.{around_none, around_some, rest_data, rest_code}
 use Rattle.tidied.specs.Copy.{Adds, named}
 use Rattle.tidied.proofs.Adding.{adds_one, adds_long, adds_both}
-
--- ---- `is_data`
-module _ (s : Text) {y : Bool} (e : y ≡ contains (68 ∷ 67 ∷ 46 ∷ []) (uppers s)) where
-  pub data_dc : y ≡ true → true ≡ is_data s
-  unfolding is_data bytes
-  data_dc t = rw (← e, t)
-
-  pub data_ds : y ≡ false → {z : Bool} → z ≡ contains (68 ∷ 83 ∷ 46 ∷ []) (uppers s) → z ≡ is_data s
-  unfolding is_data bytes
-  data_ds t {z} f = rw (← e, t) f
 
 -- ---- `write_name`: the colon at c of s, and x the name before it
 module _ (s : Text) (c : ℕ) (old : Text) (n : ℕ) (h : (c < length s) × (n + length s ≤ length old)) where
@@ -65,24 +55,24 @@ pub trimmed_le : (s : Text) (c : ℕ) → length (trim (drop (c + 1) s)) ≤ len
 trimmed_le s c = omega (arith, trim_le (drop (c + 1) s), length-drop (c + 1) s)
 
 -- ---- `write_rest` and `write_parts`
-pub colon_within : (s : Text) (c : ℕ) → found_of (index_of 58 s) ≡ At c → c < length s
-colon_within s c e = (found_at 58 s c e).within
+pub colon_within : (s : Text) (c : ℕ) → index_of 58 s ≡ Some c → c < length s
+colon_within s c e = (indexed 58 s c e).within
 
 -- a text without a colon; the texts around the first one
 module _ (f : Text → Text) (s : Text) where
-  pub no_colon : found_of (index_of 58 s) ≡ Nothing → around_colon f s ≡ squeezed s
-  no_colon e = around_none f s (found_nowhere 58 s e).cut
+  pub no_colon : index_of 58 s ≡ None → around_colon f s ≡ squeezed s
+  no_colon e = around_none f s (unindexed 58 s e).cut
 
-  pub at_colon : (c : ℕ) → found_of (index_of 58 s) ≡ At c → around_colon f s ≡ named (take c s) ++ f (trim (drop (c + 1) s))
-  at_colon c e = rw (add-one c) (around_some f s (found_at 58 s c e).cut ∙ sym (append_assoc (trim (take c s)) (58 ∷ []) (f (trim (drop (suc c) s)))))
+  pub at_colon : (c : ℕ) → index_of 58 s ≡ Some c → around_colon f s ≡ named (take c s) ++ f (trim (drop (c + 1) s))
+  at_colon c e = rw (add-one c) (around_some f s (indexed 58 s c e).cut ∙ sym (append_assoc (trim (take c s)) (58 ∷ []) (f (trim (drop (suc c) s)))))
 
 module _ (s : Text) {y : Bool} (e : y ≡ is_data s) where
   pub not_data : not y ≡ true → tidy_rest s ≡ squeezed s
   not_data t = rest_code s (sym e ∙ not-true y t)
 
   module _ (t : not y ≡ false) where
-    pub data_no_colon : found_of (index_of 58 s) ≡ Nothing → tidy_rest s ≡ squeezed s
+    pub data_no_colon : index_of 58 s ≡ None → tidy_rest s ≡ squeezed s
     data_no_colon f = rest_data s (sym e ∙ not-false y t) ∙ no_colon squeezed s f
 
-    pub data_at_colon : (c : ℕ) → found_of (index_of 58 s) ≡ At c → tidy_rest s ≡ named (take c s) ++ squeezed (drop (c + 1) s)
+    pub data_at_colon : (c : ℕ) → index_of 58 s ≡ Some c → tidy_rest s ≡ named (take c s) ++ squeezed (drop (c + 1) s)
     data_at_colon c f = rest_data s (sym e ∙ not-false y t) ∙ at_colon squeezed s c f ∙ rw (squeezed_trim (drop (c + 1) s))

@@ -1,4 +1,5 @@
 -- What the copy gains by a line, and what the loop of `write_lines` keeps. Assumes nothing.
+use Rattle.std.specs.Prelude.{Option, None, Some}
 use mathlib.Core.Path.{◌≡◌, refl, sym, ap, ◌∙◌}
 use mathlib.Core.Bool.{Bool, true, false, not}
 use mathlib.Core.List.{List, [], ◌∷◌, ◌++◌, append-nil, append_assoc}
@@ -26,6 +27,7 @@ use Rattle.tidylaws.proofs.Short.{squeezed_le, open_le}
 use Rattle.tidylaws.proofs.Shapes.{open_of, Fits, fits_skip, fits_end, fits_org, fits_no_org, fits_label, fits_code, fits_value, fits_space, line_fits, copy_by, copy_by_lem, before_by, lines_more}
 use Rattle.tidylaws.proofs.Reading.{some_open}
 use Rattle.tidied.specs.declared.Way.{Way}
+use Rattle.tidied.specs.declared.Way.TheVariants.{Squeezed, Parted as InParts}
 use Rattle.tidied.specs.Copy.{Adds, way_of, line_break, copy_text, addition}
 use Rattle.tidied.proofs.Adding.{adds_none, adds_one, adds_as, adds_long, adds_both}
 
@@ -50,32 +52,22 @@ module _ (n : ℕ) (old : Text) (h : n + length (line_break n) ≤ length old) (
       go (suc n) d a = a
 
 -- ---- `add_line`
-pub not_kept : (k p : Bool) (n : ℕ) (s old : Text) → not k ≡ true → Adds (addition k p n s) n old n old
-not_kept k p n s old t = rw (not-true k t) (adds_none n old)
-
 -- after the break
 module _ {n : ℕ} {old : Text} {m : ℕ} {mid : Text} (a : Adds (line_break n) n old m mid) (s : Text) (h : n + length (line_break n) + length s ≤ length old) where
   pub line_room : m + length s ≤ length mid
   line_room = omega (arith, a.counted, adds_long a (omega arith))
 
-  module _ (k p : Bool) (t : not k ≡ false) {r : ℕ} {last : Text} where
-    line_added : Adds (copy_text p s) m mid r last → Adds (addition k p n s) n old r last
-    line_added b = adds_both a (copy_text p s) (addition k p n s) (rw (not-false k t)) (omega arith) b
-
-    pub parts_added : p ≡ true → Adds (around_colon tidy_rest s) m mid r last → Adds (addition k p n s) n old r last
-    parts_added e b = line_added (rw e b)
-
-    pub whole_added : p ≡ false → Adds (squeezed s) m mid r last → Adds (addition k p n s) n old r last
-    whole_added e b = line_added (rw e b)
+  pub line_added : (w : Way) {r : ℕ} {last : Text} → Adds (copy_text w s) m mid r last → Adds (addition (Some w) n s) n old r last
+  line_added w b = adds_both a (copy_text w s) (addition (Some w) n s) refl (omega arith) b
 
 -- no line adds more than itself and a break
-copy_le : (p : Bool) (s : Text) → length (copy_text p s) ≤ length s
-copy_le true s = open_le (open_of s)
-copy_le false s = squeezed_le s
+copy_le : (w : Way) (s : Text) → length (copy_text w s) ≤ length s
+copy_le InParts s = open_le (open_of s)
+copy_le Squeezed s = squeezed_le s
 
-pub addition_le : (k p : Bool) (n : ℕ) (s : Text) → length (addition k p n s) ≤ length (line_break n) + length s
-addition_le true p n s = rw (length-append (line_break n) (copy_text p s)) (omega (arith, copy_le p s))
-addition_le false p n s = omega arith
+pub addition_le : (o : Option Way) (n : ℕ) (s : Text) → length (addition o n s) ≤ length (line_break n) + length s
+addition_le (Some w) n s = rw (length-append (line_break n) (copy_text w s)) (omega (arith, copy_le w s))
+addition_le None n s = omega arith
 
 -- ---- what is still to come after n bytes
 unfoldable pub rest : ℕ → List Text → Text
@@ -106,9 +98,6 @@ unfoldable pub after : Bool → ℕ → List Text → Text
 after true m ts = []
 after false m ts = rest m ts
 
-abbrev added : Way → ℕ → Text → Text
-added w n s = addition w.kept w.parted n s
-
 -- a line that is kept has a byte
 some_kind : (s : Text) → (kind_of s ≡ skip → ⊥) → 0 < length s
 unfolding kind_of
@@ -117,7 +106,7 @@ some_kind (b ∷ s) d = omega arith
 
 -- by the task, which fits the kind
 step_by : (n : ℕ) (s : Text) (ts : List Text) → leading s ≡ 0 → {q : Kind} {k : Task} → kind_of s ≡ q → Fits q k
-    → rest n (before_by q (copy_by q s) ts) ≡ added (way_of k) n s ++ after (is_end k) (n + length (added (way_of k) n s)) ts
+    → rest n (before_by q (copy_by q s) ts) ≡ addition (way_of k) n s ++ after (is_end k) (n + length (addition (way_of k) n s)) ts
 unfolding before_by copy_by way_of is_end after part_more
 step_by n s ts z e fits_skip = let m : n + 0 ≡ n = omega arith in rw m
 step_by n s ts z e fits_end = rest_next n (squeezed s) []
@@ -129,7 +118,7 @@ step_by n s ts z e fits_value = rest_kept n (around_colon tidy_rest s) ts (some_
 step_by n s ts z e fits_space = rest_kept n (around_colon tidy_rest s) ts (some_open (open_of s) z (some_kind s (λ f. let y : ◌≡◌ {A = ℕ} 0 1 = cc in omega arith)))
 
 step_line : (n : ℕ) (l : Text) (ls : List Text) (k : Task) → k ≡ (line_of l).task
-    → rest n (tidy_lines (l ∷ ls)) ≡ added (way_of k) n (trim l) ++ after (is_end k) (n + length (added (way_of k) n (trim l))) (tidy_lines ls)
+    → rest n (tidy_lines (l ∷ ls)) ≡ addition (way_of k) n (trim l) ++ after (is_end k) (n + length (addition (way_of k) n (trim l))) (tidy_lines ls)
 step_line n l ls k e = rw (lines_more l ls, copy_by_lem l, e) (step_by n (trim l) (tidy_lines ls) (leading_trim l) refl (line_fits l))
 
 -- ---- lines by position
@@ -180,7 +169,7 @@ break_le (suc m) = omega arith
 -- the line at i, which ends at e: its text s, what it says, and the way that it is copied
 module _ {source old : Text} {i n : ℕ} {out : Text} (w : Copying source old i n out)
     {e : ℕ} (q : e ≡ line_end source i) {r : Line} (g : ReadLineGives source i r) {s : Text} (p : s ≡ trim (take (e - i) (drop i source)))
-    {x : Way} (f : x ≡ way_of (task_at source r.task)) where
+    {x : Option Way} (f : x ≡ way_of (task_at source r.task)) where
   pub copying_within : (i ≤ e) × (e ≤ length source)
   copying_within = (omega arith, omega (arith, line_end_le source i w.upto))
 
@@ -204,41 +193,41 @@ module _ {source old : Text} {i n : ℕ} {out : Text} (w : Copying source old i 
 
   -- the lines after this one
   later : List Text → Text
-  later ls = after (is_end k) (n + length (added x n s)) (tidy_lines ls)
+  later ls = after (is_end k) (n + length (addition x n s)) (tidy_lines ls)
 
-  split : (ls : List Text) → rest n (tidy_lines (line ∷ ls)) ≡ added x n s ++ later ls
+  split : (ls : List Text) → rest n (tidy_lines (line ∷ ls)) ≡ addition x n s ++ later ls
   unfolding later
   split ls = step_line n line ls k task_is ∙ rw (f, s_is)
 
-  split_last : e ≡ length source → rest n (tidy_lines (cut_at 10 (drop i source))) ≡ added x n s ++ later []
+  split_last : e ≡ length source → rest n (tidy_lines (cut_at 10 (drop i source))) ≡ addition x n s ++ later []
   split_last h = rw (last_line source i w.upto (sym q ∙ h)) (split [])
 
-  split_next : (e ≡ length source → ⊥) → rest n (tidy_lines (cut_at 10 (drop i source))) ≡ added x n s ++ later (cut_at 10 (drop (e + 1) source))
+  split_next : (e ≡ length source → ⊥) → rest n (tidy_lines (cut_at 10 (drop i source))) ≡ addition x n s ++ later (cut_at 10 (drop (e + 1) source))
   split_next d =
       let c : cut_at 10 (drop i source) ≡ line ∷ cut_at 10 (drop (e + 1) source) = rw q (next_line source i w.upto (λ z. d (q ∙ z))) in
       rw c (split (cut_at 10 (drop (e + 1) source)))
 
-  module _ {m : ℕ} {out' : Text} (a : Adds (added x n s) n out m out') where
-    added_le : length (added x n s) ≤ length (line_break n) + length s
-    added_le = addition_le x.kept x.parted n s
+  module _ {m : ℕ} {out' : Text} (a : Adds (addition x n s) n out m out') where
+    added_le : length (addition x n s) ≤ length (line_break n) + length s
+    added_le = addition_le x n s
 
     pub copying_long : length out' ≡ length old
     copying_long = adds_long a (omega (arith, added_le, adding_room)) ∙ w.long
 
-    so_far : Adds (w.done ++ added x n s) 0 old m out'
-    so_far = adds_both w.adds (added x n s) (w.done ++ added x n s) refl (omega arith) a
+    so_far : Adds (w.done ++ addition x n s) 0 old m out'
+    so_far = adds_both w.adds (addition x n s) (w.done ++ addition x n s) refl (omega arith) a
 
     -- with nothing after this line the copy is written
-    finished : {y : Text} → rest n (tidy_lines (cut_at 10 (drop i source))) ≡ added x n s ++ y → y ≡ [] → Adds (tidy source) 0 old m out'
-    finished {y} h z = adds_as so_far (sym w.left ∙ rw (h, z, append-nil (added x n s)))
+    finished : {y : Text} → rest n (tidy_lines (cut_at 10 (drop i source))) ≡ addition x n s ++ y → y ≡ [] → Adds (tidy source) 0 old m out'
+    finished {y} h z = adds_as so_far (sym w.left ∙ rw (h, z, append-nil (addition x n s)))
 
     pub copying_end : e ≡ length source → Adds (tidy source) 0 old m out'
     unfolding later after tidy_lines
     copying_end h = finished (split_last h) (go (is_end k))
       where
-        go : (y : Bool) → after y (n + length (added x n s)) [] ≡ []
+        go : (y : Bool) → after y (n + length (addition x n s)) [] ≡ []
         go true = refl
-        go false = rest_none (n + length (added x n s))
+        go false = rest_none (n + length (addition x n s))
 
     module _ {b : Bool} (v : b ≡ is_end k) where
       pub copying_last : b ≡ true → Adds (tidy source) 0 old m out'
@@ -261,9 +250,9 @@ module _ {source old : Text} {i n : ℕ} {out : Text} (w : Copying source old i 
               room = w.room;
               behind = omega (arith, a.counted, added_le, s_le, w.behind, break_le m, copying_within);
               long = copying_long;
-              done = w.done ++ added x n s;
+              done = w.done ++ addition x n s;
               adds = so_far;
-              left = append_assoc w.done (added x n s) _ ∙ (rw (split_next d, ← v, t, ← a.counted) at w.left);
+              left = append_assoc w.done (addition x n s) _ ∙ (rw (split_next d, ← v, t, ← a.counted) at w.left);
             }
 
         pub copying_less : length source - (e + 1) < length source - i

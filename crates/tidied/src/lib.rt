@@ -1,19 +1,20 @@
 #![tactic(auto)]
 
-// The tidy copy of a source (W-212): each line that is read, written one after another. A copy is never longer than its source, so the
-// writers ask for as much room as the text that they copy has.
+//! The tidy copy of a source (W-212): each line that is read, written one after another. A copy is never longer than its source, so the
+//! writers ask for as much room as the text that they copy has.
+// A text is written into the slice that is lent, after its first n bytes, and no `Writer` of `listing` is used: its slice is its own, and
+// `join_pieces` joins in place, in the rest of the slice.
 ghost use Rattle.std.specs.Prelude.{◌≡◌, ◌+◌, ◌<◌, ◌≤◌, length, take};
 ghost use Rattle.rules.specs.Limits.{max_source};
 ghost use Rattle.rules.specs.Text.{Text};
 ghost use Rattle.rules.specs.Line.{is_data};
-ghost use Rattle.answer.specs.Answer.{answer_of};
+ghost use Rattle.answer.specs.Refusal.{answer_of};
 ghost use Rattle.line.specs.Line.{task_at};
 ghost use Rattle.requests.specs.Tidy.{squeezed, around_colon, tidy_rest, tidy, room_for, tidy_answer, write_copy, tidy_slice};
-ghost use Rattle.tidied.specs.Copy.{Adds, named, way_by, way_of, line_break, addition};
+ghost use Rattle.tidied.specs.Copy.{Adds, named, way_of, line_break, addition};
 
-use answer::Answer;
+use answer::Refusal;
 use line::Task;
-use text::Found;
 
 // ---- One line.
 
@@ -27,13 +28,11 @@ fn squeeze(t: &[u8], out: &mut [u8], n: usize) -> usize
 }
 
 // Upper-cased, the text contains `DC.` or `DS.`.
+#[tactic(auto, unfolding(rules::specs::Line::is_data, rules::specs::Text::bytes))]
 fn is_data(s: &[u8]) -> bool
     ensures { result ≡ is_data s.now }
 {
-    if text::contains_upper(s, b"DC.") {
-        return true;
-    }
-    text::contains_upper(s, b"DS.")
+    text::contains_upper(s, b"DC.") || text::contains_upper(s, b"DS.")
 }
 
 // The name before the colon at c, without the blanks around it, and the colon.
@@ -48,7 +47,8 @@ fn write_name(s: &[u8], c: usize, out: &mut [u8], n: usize) -> usize
     m + 1
 }
 
-// What follows the first colon: the second one is treated so only where this is data.
+// What follows the first colon: the second one is treated so only where this is data. One function with `write_parts` by a closure for the
+// rest is no plainer: the test and the trim differ.
 fn write_rest(s: &[u8], out: &mut [u8], n: usize) -> usize
     requires { n + length s.now ≤ length out.old }
     ensures { Adds (tidy_rest s.now) n out.old result out.new }
@@ -56,7 +56,7 @@ fn write_rest(s: &[u8], out: &mut [u8], n: usize) -> usize
     if !is_data(s) {
         return squeeze(s, out, n);
     }
-    let Found::At(c) = text::find_byte(s, b':') else {
+    let Some(c) = text::find_byte(s, b':') else {
         return squeeze(s, out, n);
     };
     let m = write_name(s, c, out, n);
@@ -69,7 +69,7 @@ fn write_parts(s: &[u8], out: &mut [u8], n: usize) -> usize
     requires { n + length s.now ≤ length out.old }
     ensures { Adds (around_colon tidy_rest s.now) n out.old result out.new }
 {
-    let Found::At(c) = text::find_byte(s, b':') else {
+    let Some(c) = text::find_byte(s, b':') else {
         return squeeze(s, out, n);
     };
     let m = write_name(s, c, out, n);
@@ -80,33 +80,26 @@ fn write_parts(s: &[u8], out: &mut [u8], n: usize) -> usize
 
 // ---- The lines.
 
-// How a line is copied: whether at all, and whether its colons are treated.
-#[derive(Clone, Copy)]
-struct Way {
-    kept: bool,
-    parted: bool,
+// How a line is copied.
+#[derive(Clone, Copy, Debug, PartialEq, Eq, Hash)]
+enum Way {
+    // Its pieces, joined by one space.
+    Squeezed,
+    // The same of the texts around its colons.
+    Parted,
 }
 
-// A way, by its two parts.
-fn way_by(kept: bool, parted: bool) -> Way
-    ensures { result ≡ way_by kept parted }
-{
-    Way { kept, parted }
-}
-
-// The way of a line, by its task.
-fn way_of(task: Task) -> Way
+// The way of a line that is copied, by its task.
+#[tactic(auto, unfolding(crate::specs::Copy::way_of))]
+fn way_of(task: Task) -> Option<Way>
     ensures { (source : Text) → result ≡ way_of (task_at source task) }
 {
     match task {
-        Task::Skipped => way_by(false, false),
-        Task::End => way_by(true, false),
-        Task::Org(_) => way_by(true, false),
-        Task::NoOrg => way_by(true, false),
-        Task::LabelOnly => way_by(true, true),
-        Task::Instruction(_) => way_by(true, true),
-        Task::Value(_, _) => way_by(true, true),
-        Task::Space(_) => way_by(true, true),
+        Task::Skipped => None,
+        Task::End | Task::Org(_) | Task::NoOrg => Some(Way::Squeezed),
+        Task::LabelOnly | Task::Instruction(_) | Task::Value(_, _) | Task::Space(_) => {
+            Some(Way::Parted)
+        }
     }
 }
 
@@ -122,19 +115,19 @@ fn put_break(out: &mut [u8], n: usize) -> usize
     n + 1
 }
 
-// A line's copy after the first n bytes of `out`, if it is kept; s has no outer blanks.
-fn add_line(s: &[u8], kept: bool, parted: bool, out: &mut [u8], n: usize) -> usize
+// A line's copy after the first n bytes of `out`, if it has a way; s has no outer blanks.
+fn add_line(s: &[u8], way: Option<Way>, out: &mut [u8], n: usize) -> usize
     requires { n + length (line_break n) + length s.now ≤ length out.old }
-    ensures { Adds (addition kept parted n s.now) n out.old result out.new }
+    ensures { Adds (addition way n s.now) n out.old result out.new }
 {
-    if !kept {
+    let Some(way) = way else {
         return n;
-    }
+    };
     let m = put_break(out, n);
-    if parted {
-        return write_parts(s, out, m);
+    match way {
+        Way::Squeezed => squeeze(s, out, m),
+        Way::Parted => write_parts(s, out, m),
     }
-    squeeze(s, out, m)
 }
 
 // The copy of a source at the front of `out`; its length.
@@ -144,20 +137,16 @@ fn write_lines(source: &[u8], out: &mut [u8]) -> usize
 {
     let mut n = 0;
     let mut at = 0;
+    // Where the next line starts comes of this one, so this is no `for`.
     loop {
         let o = outline::outline_line(source, at);
         let end = o.end;
         let line = line::read_line(source, at, o);
         let task = line.task;
         let way = way_of(task);
-        let kept = way.kept;
-        let parted = way.parted;
         let s = text::trimmed(&source[at..end]);
-        n = add_line(s, kept, parted, out, n);
-        if line::is_end(task) {
-            return n;
-        }
-        if end == source.len() {
+        n = add_line(s, way, out, n);
+        if line::is_end(task) || end == source.len() {
             return n;
         }
         at = end + 1;
@@ -167,32 +156,29 @@ fn write_lines(source: &[u8], out: &mut [u8]) -> usize
 // ---- The call.
 
 // The copy of a source for which `out` may be too short: it is made apart first.
-fn copy_apart(source: &[u8], out: &mut [u8]) -> Answer
+fn copy_apart(source: &[u8], out: &mut [u8]) -> Result<usize, Refusal>
     requires { length source.now ≤ max_source }
-    ensures value { result ≡ answer_of (room_for (length out.old) (tidy source.now)) }
+    ensures value { answer_of result ≡ room_for (length out.old) (tidy source.now) }
     ensures out_after { out.new ≡ write_copy (room_for (length out.old) (tidy source.now)) (tidy source.now) out.old }
 {
     let mut copy = [0u8; rules::MAX_SOURCE];
     let n = write_lines(source, &mut copy);
     if out.len() < n {
-        return Answer::Refused(18, n);
+        return Err(Refusal::LongCopy(n));
     }
     listing::writing::write_bytes(out, 0, &copy[..n]);
-    Answer::Accepted(n)
+    Ok(n)
 }
 
-// The tidy copy of a source at the front of `out`; its length. Refuses by 1 to 3 as assembling does, then by 18, with the length
-// needed as place, if `out` is shorter; a refusal writes nothing, and bytes after the copy stay.
-pub fn tidy_copy(source: &[u8], out: &mut [u8]) -> Answer
-    ensures value { result ≡ answer_of (tidy_answer (length out.old) source.now) }
+/// The tidy copy of a source at the front of `out`; its length. Refuses by 1 to 3 as assembling does, then by 18, with the length
+/// needed as place, if `out` is shorter; a refusal writes nothing, and bytes after the copy stay.
+pub fn tidy_copy(source: &[u8], out: &mut [u8]) -> Result<usize, Refusal>
+    ensures value { answer_of result ≡ tidy_answer (length out.old) source.now }
     ensures out_after { out.new ≡ tidy_slice source.now out.old }
 {
-    let checked = source::check_source(source);
-    let Answer::Accepted(_) = checked else {
-        return checked;
-    };
+    source::check_source(source)?;
     if source.len() <= out.len() {
-        return Answer::Accepted(write_lines(source, out));
+        return Ok(write_lines(source, out));
     }
     copy_apart(source, out)
 }

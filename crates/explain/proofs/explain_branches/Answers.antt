@@ -1,9 +1,13 @@
 -- `explain_branches` goes by what loading the table answered. Assumes nothing.
+use Rattle.std.proofs.Common.{◌∙◌}
+use Rattle.std.proofs.lemmas.Result.{err_from_is_err_and}
 use Rattle.explain.proofs.Tabled.{line_unloaded, line_loaded}
 use Rattle.explain.proofs.explain_branches.Goals as goal
 
-pub returns-in-Refused : goal.returns-in-Refused
-returns-in-Refused c = line_unloaded _ c.load_branches.ensures _ _ _ _ _ c.in-Refused.is
+pub returns-in_err-load_branches : goal.returns-in_err-load_branches
+returns-in_err-load_branches c =
+    let p = err_from_is_err_and c.from_residual.result c.from_residual.ensures.1 in
+    rw (p.1, p.2) (line_unloaded _ _ _ c.in_err-load_branches.ensures _)
 
-pub returns-in-Accepted : goal.returns-in-Accepted
-returns-in-Accepted c = line_loaded _ c.load_branches.ensures _ _ _ _ c.in-Accepted.is c.explain_by.ensures
+pub returns : goal.returns
+returns c = c.explain_by.ensures ∙ line_loaded _ _ _ c.in_ok-load_branches.ensures _

@@ -1,22 +1,15 @@
 -- `line_address` has before each line its address. Assumes nothing.
-use native.Mathlib.Omega.{arith}
-use Rattle.explain.proofs.Lines.{walked_start, walked_fits, walked_on, walked_end}
+use Rattle.std.proofs.Common.{refl, ◌∙◌, add-one, arith}
+use Rattle.cells.specs.Puts.{address_at}
 use Rattle.explain.proofs.line_address.Goals as goal
 
 pub loop-j-init : goal.loop-j-init
-loop-j-init c = walked_start _ _ _
-
-pub kept_line-kept-requires : goal.kept_line-kept-requires
-kept_line-kept-requires c = record { room = omega (arith, c.requires.room) }
+unfolding address_at
+loop-j-init c = refl
 
 pub overflow_cast-address : goal.overflow_cast-address
-overflow_cast-address c = record { fits = rw c.address_after-address.ensures (walked_fits c.loop-j.invariant c.kept_line-kept.ensures (omega arith) c.requires) }
-
-pub loop-j-smaller : goal.loop-j-smaller
-loop-j-smaller c = omega arith
+overflow_cast-address c = record { fits = rw (c.address_after-address.ensures, c.kept_line-kept.ensures, c.loop-j.invariant) (c.requires.low c.loop-j.j (omega arith)) }
 
 pub loop-j-preserved : goal.loop-j-preserved
-loop-j-preserved c = walked_on c.loop-j.invariant c.kept_line-kept.ensures (omega arith) c.address_after-address.ensures
-
-pub returns : goal.returns
-returns c = walked_end c.loop-j.invariant (omega arith)
+unfolding address_at
+loop-j-preserved c = rw (add-one c.loop-j.j) (c.address_after-address.ensures ∙ rw (c.kept_line-kept.ensures, c.loop-j.invariant))

@@ -1,35 +1,32 @@
--- `write_kept` has before each line the numbers of those before it. Assumes nothing.
-use native.Mathlib.Omega.{arith}
-use Rattle.explain.proofs.Lines.{task_needs}
-use Rattle.explain.proofs.Writing.{wrote_start, wrote_long, wrote_fits, wrote_on, wrote_all}
+-- `write_kept` has before each line the verdicts on those before it. Assumes nothing.
+use Rattle.std.proofs.Common.{refl, ◌∙◌, add-one, arith}
+use Rattle.std.specs.Option.{option_copied}
+use Rattle.branches.specs.Branch.{names_in}
+use Rattle.cells.specs.Puts.{address_at}
+use Rattle.explain.proofs.Lines.{after_low, task_needs}
+use Rattle.explain.proofs.Writing.{wrote_none, wrote_long, wrote_on}
 use Rattle.explain.proofs.write_kept.Goals as goal
 
 pub loop-k-init : goal.loop-k-init
-loop-k-init c = wrote_start _ _ _ _ _ _
+unfolding address_at
+loop-k-init c = record { here = refl; put = wrote_none (names_in (option_copied c.args.names)) c.args.labels.now c.args.cells.now c.args.pass c.args.verdicts.now }
 
 pub kept_line-kept-requires : goal.kept_line-kept-requires
-kept_line-kept-requires c = record { room = omega (arith, c.requires.holds.lines.room, c.loop-k-test.true) }
+kept_line-kept-requires c = record { room = omega (arith, c.requires.holds.lines.room) }
 
-pub why_task-verdict-requires : goal.why_task-verdict-requires
-why_task-verdict-requires c = task_needs c.requires.holds _ c.loop-k-test.true c.loop-k.invariant.here c.kept_line-kept.ensures
+pub why_task-requires : goal.why_task-requires
+why_task-requires c = task_needs c.requires.holds _ (omega arith) c.loop-k.invariant.here c.kept_line-kept.ensures
 
 pub bounds-verdicts-k : goal.bounds-verdicts-k
-bounds-verdicts-k c = omega (arith, wrote_long c.loop-k.invariant c.requires.room, c.loop-k-test.true, c.requires.room)
+bounds-verdicts-k c = omega (arith, c.requires.room)
 
 pub overflow_cast-address : goal.overflow_cast-address
-overflow_cast-address c = record { fits = rw c.address_after-address.ensures (wrote_fits c.loop-k.invariant c.requires.room c.loop-k-test.true c.kept_line-kept.ensures c.requires.holds) }
-
-pub overflow_add-k : goal.overflow_add-k
-overflow_add-k c = omega arith
-
-pub loop-k-smaller : goal.loop-k-smaller
-loop-k-smaller c = omega (arith, c.loop-k-test.true)
+overflow_cast-address c = record { fits = rw (c.address_after-address.ensures, c.kept_line-kept.ensures, c.loop-k.invariant.here) (after_low c.requires.holds c.loop-k.k (omega arith)) }
 
 pub loop-k-preserved : goal.loop-k-preserved
-loop-k-preserved c = wrote_on c.loop-k.invariant c.requires.room c.loop-k-test.true c.kept_line-kept.ensures c.why_task-verdict.ensures c.verdict_number.ensures c.address_after-address.ensures
-
-pub shape_of-verdicts : goal.shape_of-verdicts
-shape_of-verdicts c = wrote_long c.loop-k.invariant c.requires.room
-
-pub returns : goal.returns
-returns c = wrote_all c.loop-k.invariant c.requires.room c.loop-k-test.false
+unfolding address_at
+loop-k-preserved c =
+    record {
+      here = rw (add-one c.loop-k.k) (c.address_after-address.ensures ∙ rw (c.kept_line-kept.ensures, c.loop-k.invariant.here));
+      put = wrote_on (names_in (option_copied c.args.names)) c.args.labels.now c.args.cells.now c.args.pass c.args.verdicts.now c.loop-k.invariant.put (omega (arith, c.requires.room)) (rw (c.loop-k.invariant.here, c.kept_line-kept.ensures) at c.why_task.ensures);
+    }

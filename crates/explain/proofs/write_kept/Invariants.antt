@@ -1,11 +1,15 @@
--- `write_kept` has before each line the numbers of those before it. Assumes nothing.
-use Prim.Native.Nat.{◌-◌}
+-- `write_kept` has before each line the verdicts on those before it. Assumes nothing.
+use Rattle.std.proofs.Common.{◌≡◌}
+use Rattle.std.specs.Option.{option_copied}
 use Rattle.branches.specs.Branch.{names_in}
-use Rattle.explain.proofs.Writing.{Wrote}
+use Rattle.cells.specs.Puts.{address_at}
+use Rattle.explain.specs.Verdict.{verdicts_of, put_over}
+use Rattle.explain.specs.Lines.{verdicts_to}
 use Rattle.explain.proofs.write_kept.Given as goal
 
 abbrev pub invariant-loop-k : goal.invariant-loop-k
-invariant-loop-k l = Wrote (names_in l.lent l.names) l.source l.table l.cells l.pass l.initial.verdicts l.verdicts l.address l.k
-
-abbrev pub decreases-loop-k : goal.decreases-loop-k
-decreases-loop-k l = l.pass.lines - l.k
+invariant-loop-k l =
+    record {
+      here : l.address ≡ address_at l.pass.base l.cells l.k;
+      put : l.verdicts ≡ put_over (verdicts_of (verdicts_to (names_in (option_copied l.names)) l.labels l.cells l.pass l.k)) l.initial.verdicts;
+    }

@@ -1,15 +1,14 @@
 -- `totals_in` goes by what the first pass answered. Assumes nothing.
-use Rattle.sheet.proofs.Owning.{first_needs, pass_refused, pass_needs, pass_counted}
+use Rattle.std.proofs.Common.{ap, ◌∙◌}
+use Rattle.label.specs.Labelled.{Labelled}
+use Rattle.sheet.proofs.Owning.{pass_refused, pass_needs, pass_counted}
 use Rattle.sheet.proofs.totals_in.Goals as goal
 
-pub first_pass-requires : goal.first_pass-requires
-first_pass-requires c = first_needs c.requires
+pub returns-in-Err : goal.returns-in-Err
+returns-in-Err g c = pass_refused c.requires.starting (rw c.new-labels.ensures.source at c.in-Err.ensures.answer)
 
 pub pass_totals-requires : goal.pass_totals-requires
-pass_totals-requires c = pass_needs c.requires c.first_pass.ensures _ c.in-Done.is
+pass_totals-requires g c = pass_needs c.requires.starting (ap (λ (l : Labelled). l.source) c.in-Ok.ensures.labels ∙ c.new-labels.ensures.source) (rw c.new-labels.ensures.source at c.in-Ok.ensures.answer) c.in-Ok.ensures.done
 
-pub returns-in-Refused : goal.returns-in-Refused
-returns-in-Refused c = pass_refused c.requires c.first_pass.ensures _ _ c.in-Refused.is c.refused_totals.ensures
-
-pub returns-in-Done : goal.returns-in-Done
-returns-in-Done c = pass_counted c.requires c.first_pass.ensures _ c.in-Done.is c.pass_totals.ensures
+pub returns-in-Ok : goal.returns-in-Ok
+returns-in-Ok g c = pass_counted c.requires.starting (ap (λ (l : Labelled). l.source) c.in-Ok.ensures.labels ∙ c.new-labels.ensures.source) (rw c.new-labels.ensures.source at c.in-Ok.ensures.answer) c.in-Ok.ensures.done c.pass_totals.ensures

@@ -1,19 +1,20 @@
 -- `add_line` puts the break and the line's copy after it. Assumes nothing.
-use Rattle.tidied.proofs.Copying.{not_kept, line_room, parts_added, whole_added}
-use Rattle.std.proofs.Common.{ap, not}
+use Rattle.tidied.specs.declared.Way.TheVariants.{Squeezed, Parted}
+use Rattle.tidied.proofs.Adding.{adds_none}
+use Rattle.tidied.proofs.Copying.{line_room, line_added}
 use Rattle.tidied.proofs.add_line.Goals as goal
 
-pub returns-then-not-kept : goal.returns-then-not-kept
-returns-then-not-kept c = not_kept c.args.kept c.args.parted c.args.n c.args.s.now c.args.out.now (ap not c.if-not-kept.true)
-
-pub write_parts-requires : goal.write_parts-requires
-write_parts-requires c = line_room c.put_break-m.ensures c.args.s.now c.requires
-
-pub returns-then-parted : goal.returns-then-parted
-returns-then-parted c = parts_added c.put_break-m.ensures c.args.s.now c.requires c.args.kept c.args.parted (ap not c.if-not-kept.false) c.if-parted.true c.write_parts.ensures
+pub returns-in_default : goal.returns-in_default
+returns-in_default c = rw c.in_default.is (adds_none _ _)
 
 pub squeeze-requires : goal.squeeze-requires
 squeeze-requires c = line_room c.put_break-m.ensures c.args.s.now c.requires
 
-pub returns : goal.returns
-returns c = whole_added c.put_break-m.ensures c.args.s.now c.requires c.args.kept c.args.parted (ap not c.if-not-kept.false) c.if-parted.false c.squeeze.ensures
+pub write_parts-requires : goal.write_parts-requires
+write_parts-requires c = line_room c.put_break-m.ensures c.args.s.now c.requires
+
+pub returns-in-Squeezed : goal.returns-in-Squeezed
+returns-in-Squeezed c = rw (c.in-Some.is, c.in-Squeezed.is) (line_added c.put_break-m.ensures c.args.s.now c.requires Squeezed c.squeeze.ensures)
+
+pub returns-in-Parted : goal.returns-in-Parted
+returns-in-Parted c = rw (c.in-Some.is, c.in-Parted.is) (line_added c.put_break-m.ensures c.args.s.now c.requires Parted c.write_parts.ensures)

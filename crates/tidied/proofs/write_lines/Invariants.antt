@@ -4,8 +4,8 @@ use lib.ListN.{length}
 use Rattle.tidied.proofs.Copying.{Copying}
 use Rattle.tidied.proofs.write_lines.Given as goal
 
-abbrev pub invariant-loop-n : goal.invariant-loop-n
-invariant-loop-n l = Copying l.source l.initial.out l.at l.n l.out
+abbrev pub invariant-loop-at : goal.invariant-loop-at
+invariant-loop-at l = Copying l.source l.initial.out l.at l.n l.out
 
-abbrev pub decreases-loop-n : goal.decreases-loop-n
-decreases-loop-n l = length l.source - l.at
+abbrev pub decreases-loop-at : goal.decreases-loop-at
+decreases-loop-at l = length l.source - l.at

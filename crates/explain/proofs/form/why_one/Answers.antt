@@ -1,7 +1,10 @@
 -- `form::why_one` tries the one form. Assumes nothing.
-use mathlib.Core.List.{[]}
-use Rattle.explain.proofs.Trying.{no_place}
+use mathlib.Core.Path.{ap, ◌∙◌}
+use mathlib.Core.List.{[], ◌∷◌}
+use Rattle.explain.specs.Form.{told}
+use Rattle.explain.specs.declared.operand.Place.{Place}
+use Rattle.explain.proofs.Trying.{one_place, told_all}
 use Rattle.explain.proofs.form.why_one.Goals as goal
 
 pub returns : goal.returns
-returns c = λ ps. c.tell.ensures _ _ _ _ (c.last_form.ensures _ _ _ _ (c.join_places.ensures _ _ _ _ [] ps c.place_of-first.ensures (no_place _ _ ps)))
+returns c = λ ps. c.tell.ensures ∙ ap (λ (p : Place). told (p ∷ [])) (c.place_of.ensures ∙ one_place _ _ _ _ ps) ∙ told_all _ _ _ (_ ∷ [])

@@ -1,28 +1,23 @@
 -- `read_totals` has before each line the totals of those before it. Assumes nothing.
+use mathlib.Core.Path.{refl}
 use native.Mathlib.Omega.{arith}
 use Rattle.sheet.proofs.Reading.{counted_start, line_needs, after_fits, counted_on, counted_all}
 use Rattle.sheet.proofs.lines.read_totals.Goals as goal
 
 pub loop-k-init : goal.loop-k-init
-loop-k-init c = counted_start _ _ _ _ c.no_totals-totals.ensures
+loop-k-init c = counted_start _ _ _ refl
 
 pub kept_line-kept-requires : goal.kept_line-kept-requires
-kept_line-kept-requires c = record { room = omega (arith, c.requires.holds.lines.room, c.loop-k-test.true) }
+kept_line-kept-requires c = record { room = omega (arith, c.requires.holds.lines.room) }
 
 pub add_line-totals-requires : goal.add_line-totals-requires
-add_line-totals-requires c = line_needs c.requires c.loop-k.invariant c.loop-k-test.true c.kept_line-kept.ensures
+add_line-totals-requires c = line_needs c.requires c.loop-k.invariant (omega arith) c.kept_line-kept.ensures
 
 pub overflow_cast-address : goal.overflow_cast-address
-overflow_cast-address c = record { fits = rw c.address_after-address.ensures (after_fits c.requires c.loop-k.invariant c.loop-k-test.true c.kept_line-kept.ensures) }
-
-pub overflow_add-k : goal.overflow_add-k
-overflow_add-k c = omega arith
-
-pub loop-k-smaller : goal.loop-k-smaller
-loop-k-smaller c = omega (arith, c.loop-k-test.true)
+overflow_cast-address c = record { fits = rw c.address_after-address.ensures (after_fits c.requires c.loop-k.invariant (omega arith) c.kept_line-kept.ensures) }
 
 pub loop-k-preserved : goal.loop-k-preserved
-loop-k-preserved c = counted_on c.requires c.loop-k.invariant c.loop-k-test.true c.kept_line-kept.ensures c.add_line-totals.ensures c.address_after-address.ensures
+loop-k-preserved c = counted_on c.requires c.loop-k.invariant (omega arith) c.kept_line-kept.ensures c.add_line-totals.ensures c.address_after-address.ensures
 
 pub returns : goal.returns
-returns c = counted_all c.loop-k.invariant c.loop-k-test.false
+returns c = counted_all c.loop-k.invariant (omega arith)

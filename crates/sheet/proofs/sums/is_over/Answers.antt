@@ -1,7 +1,7 @@
--- `is_over` looks at the highest. Assumes nothing.
+-- `is_over` looks at the twelve. Assumes nothing.
 use Rattle.sheet.specs.Totals.{said}
-use Rattle.sheet.proofs.Adding.{over_is}
+use Rattle.sheet.proofs.Adding.{over_low}
 use Rattle.sheet.proofs.sums.is_over.Goals as goal
 
-pub returns : goal.returns
-returns c = over_is (said c.args.t) c.highest.ensures
+pub returns-clause-low : goal.returns-clause-low
+returns-clause-low c = rw c.has_high.ensures (over_low _ (said c.args.t) c.from.ensures)
