@@ -1,3 +1,2 @@
--- Laws of signed numbers and of conditions. Assumes nothing.
+-- Laws of signed numbers. Assumes nothing.
 pub mod Signs
-pub mod Conditions

@@ -91,6 +91,27 @@ fits_above h p q l = rw (le-ltb p q l) (go (ltb p (q + h)) refl)
     go true e = let t = ltb-true p (q + h) e in lt-ltb (p - q) h (omega arith)
     go false e = let t = ltb-false p (q + h) e in le-ltb (p - q) h (omega arith)
 
+-- whether it does not
+leb_is_not : (a b : ℕ) → leb a b ≡ not (ltb b a)
+leb_is_not a b = go (leb a b) refl
+  where
+    go : (x : Bool) → leb a b ≡ x → leb a b ≡ not (ltb b a)
+    go true e = e ∙ ap not (sym (le-ltb b a (leb-true a b e)))
+    go false e = e ∙ ap not (sym (lt-ltb b a (leb-false a b e)))
+
+ltb_is_not : (a b : ℕ) → ltb a b ≡ not (leb b a)
+ltb_is_not a b = go (ltb a b) refl
+  where
+    go : (x : Bool) → ltb a b ≡ x → ltb a b ≡ not (leb b a)
+    go true e = e ∙ ap not (sym (lt-leb b a (ltb-true a b e)))
+    go false e = e ∙ ap not (sym (le-leb b a (ltb-false a b e)))
+
+pub exceeds_below : (h p q : ℕ) → p < q → ltb (p + h) q ≡ not (fits_in h (sub_ℕ p q))
+exceeds_below h p q l = rw (fits_below h p q l) (ltb_is_not (p + h) q)
+
+pub exceeds_above : (h p q : ℕ) → q ≤ p → leb (q + h) p ≡ not (fits_in h (sub_ℕ p q))
+exceeds_above h p q l = rw (fits_above h p q l) (leb_is_not (q + h) p)
+
 -- a difference modulo m
 pub modulo_below : (m d s : ℕ) → d < s → s < m → modulo m (sub_ℕ d s) ≡ m - (s - d)
 unfolding modulo
@@ -229,17 +250,17 @@ biased_is h n k = go (ltb n h) refl
     go true e = biased_low h n (ltb-true n h e)
     go false e = biased_high h n (ltb-false n h e) k
 
-pub beyond_low : (h t : ℕ) → t < h → true ≡ not (fits_in h (sub_ℕ t (h + h)))
-beyond_low h t l = rw (fits_below h t (h + h) (omega arith), lt-leb (h + h) (t + h) (omega arith))
+pub beyond_low : (h t : ℕ) → t < h → ltb t h ≡ not (fits_in h (sub_ℕ t (h + h)))
+beyond_low h t l = rw (fits_below h t (h + h) (omega arith), lt-leb (h + h) (t + h) (omega arith), lt-ltb t h l)
 
-pub beyond_high : (h t : ℕ) → h ≤ t → not (ltb t (h + h + h)) ≡ not (fits_in h (sub_ℕ t (h + h)))
+pub beyond_high : (h t : ℕ) → h ≤ t → leb (h + h + h) t ≡ not (fits_in h (sub_ℕ t (h + h)))
 beyond_high h t l = go (ltb t (h + h)) refl
   where
-    go : (x : Bool) → ltb t (h + h) ≡ x → not (ltb t (h + h + h)) ≡ not (fits_in h (sub_ℕ t (h + h)))
+    go : (x : Bool) → ltb t (h + h) ≡ x → leb (h + h + h) t ≡ not (fits_in h (sub_ℕ t (h + h)))
     go true e =
         let q = ltb-true t (h + h) e in
-        rw (fits_below h t (h + h) q, le-leb (h + h) (t + h) (omega arith), lt-ltb t (h + h + h) (omega arith))
-    go false e = rw (fits_above h t (h + h) (ltb-false t (h + h) e))
+        rw (fits_below h t (h + h) q, le-leb (h + h) (t + h) (omega arith), lt-leb (h + h + h) t (omega arith))
+    go false e = exceeds_above h t (h + h) (ltb-false t (h + h) e)
 
 pub bias_minus : (h d s : ℕ) → s < h + h → sub_ℕ d h -ℤ sub_ℕ s h ≡ sub_ℕ (d + (h + h) - s) (h + h)
 bias_minus h d s l = sub_minus d h s h ∙ same_difference (d + h) (h + s) (d + (h + h) - s) (h + h) (omega arith)

@@ -1,6 +1,5 @@
--- What is judged may be done; and the answers of judging. Assumes nothing.
-use Rattle.std.proofs.Common.{◌≡◌, ℕ, ◌+◌, ◌%◌, ◌≤◌, Bool, true, false, cond, ◌&&◌, eqb, leb, List, sym, refl, ap, ◌∙◌, arith, leb-true}
-use mathlib.Core.Bool.{false≢true}
+-- What is judged may be done. Assumes nothing.
+use Rattle.std.proofs.Common.{◌≡◌, ℕ, Bool, true, false, cond, List, refl, ap, arith}
 use Rattle.machine.specs.Form.{Valid}
 use Rattle.machine.specs.Decode.{decode_of}
 use Rattle.machine.specs.Machine.{word_at, reached, reaches, judged_as, judge_of}
@@ -8,15 +7,7 @@ use Rattle.machine.proofs.Inverse.{sound}
 use Rattle.machine.specs.declared.Form.{Form}
 use Rattle.machine.specs.declared.Decoded.{Decoded}
 use Rattle.machine.specs.declared.Decoded.TheVariants.{Is, Halt, Other}
-use Rattle.machine.specs.declared.Judged.TheVariants.{Runs, Halts, Unknown, Outside}
-
--- an access that is reached is within the memory
-pub within : (p size : ℕ) → reached p size ≡ true → p + size ≤ 16384
-within p size e = go (eqb (p % 2) 0) e
-  where
-    go : (x : Bool) → (x && leb (p + size) 16384) ≡ true → p + size ≤ 16384
-    go true e = leb-true (p + size) 16384 e
-    go false e = absurd (false≢true e)
+use Rattle.machine.specs.declared.Judged.TheVariants.{Runs, Outside}
 
 -- a form that a word decodes to has its numbers in range
 pub in_range : (w : ℕ) (f : Form) → decode_of w ≡ Is f → Valid f
@@ -40,25 +31,3 @@ judged a mem pc f e = go (reached pc 2) e
     go : (x : Bool) → cond x (judged_as (decode_of (word_at mem pc)) a pc) Outside ≡ Runs f → Valid f × (reaches f a pc ≡ true)
     go true e = let j = judged_as_lem (decode_of (word_at mem pc)) a pc f e in (in_range (word_at mem pc) f j.0, j.1)
     go false e = let z : ◌≡◌ {A = ℕ} 0 1 = cc in absurd (omega arith)
-
--- the answers of judging
-module _ (a mem : List ℕ) (pc w : ℕ) (r : Bool) (o : Decoded) (er : r ≡ reached pc 2) (ew : w ≡ word_at mem pc) (eo : o ≡ decode_of w) where
-  pub judge_runs : (f : Form) (q : Bool) → r ≡ true → o ≡ Is f → q ≡ reaches f a pc → q ≡ true → Runs f ≡ judge_of a mem pc
-  unfolding judge_of judged_as
-  judge_runs f q t e p u = rw (sym er ∙ t, ← ew, sym eo ∙ e, sym p ∙ u)
-
-  pub judge_reach : (f : Form) (q : Bool) → r ≡ true → o ≡ Is f → q ≡ reaches f a pc → q ≡ false → Outside ≡ judge_of a mem pc
-  unfolding judge_of judged_as
-  judge_reach f q t e p u = rw (sym er ∙ t, ← ew, sym eo ∙ e, sym p ∙ u)
-
-  pub judge_halts : r ≡ true → o ≡ Halt → Halts ≡ judge_of a mem pc
-  unfolding judge_of judged_as
-  judge_halts t e = rw (sym er ∙ t, ← ew, sym eo ∙ e)
-
-  pub judge_unknown : r ≡ true → o ≡ Other → Unknown ≡ judge_of a mem pc
-  unfolding judge_of judged_as
-  judge_unknown t e = rw (sym er ∙ t, ← ew, sym eo ∙ e)
-
-pub judge_outside : (a mem : List ℕ) (pc : ℕ) (r : Bool) → r ≡ reached pc 2 → r ≡ false → Outside ≡ judge_of a mem pc
-unfolding judge_of
-judge_outside a mem pc r er t = rw (sym er ∙ t)

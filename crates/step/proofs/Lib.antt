@@ -1,2 +1,3 @@
--- Laws of judging a step. Assumes nothing.
+-- Laws of judging and of stores. Assumes nothing.
 pub mod Judging
+pub mod Putting

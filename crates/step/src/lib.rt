@@ -1,285 +1,294 @@
-#![tactic(auto)]
+#![tactic(auto, unfolding(machine::specs::Machine::act_of, machine::specs::Machine::reaches))]
 
-// One step of the machine of W-213: which it is, and whether it may be made; and what it does. Data registers and memory are
-// lent, flags and program counter go by value. A form's contract is its row of `act_of`, over all that the form does not look at.
-ghost use Rattle.std.specs.Prelude.{◌≡◌, ℕ, ◌+◌, ◌<◌, ◌≤◌, true, List, slice_index};
+// One step of the machine of W-213: which it is, and whether it may be made; and what it does. A form's contract is its row of
+// `act_of`, over whatever memory it does not look at.
+ghost use Rattle.std.specs.Prelude.{◌≡◌, ℕ, ◌+◌, ◌*◌, ◌/◌, ◌%◌, ◌^◌, ◌<◌, ◌≤◌, true, List, slice_index, set};
 ghost use Rattle.machine.specs.Form.{Valid};
-ghost use Rattle.machine.specs.Machine.{word_at, long_at, with_long, state_of, act_of, reached, reaches, judge_of};
-ghost use Rattle.step.specs.Step.{act_if};
+ghost use Rattle.machine.specs.Flags.{moved};
+ghost use Rattle.machine.specs.Machine.{word_at, long_at, with_long, with_word, act_of, reached, reaches, judge_of};
+ghost use Rattle.step.specs.Step.{state, act_if};
 
 use arithmetic::{
-    add_flags, branch_target, compare_flags, difference, extended, is_met, mark, multiplied, power,
-    scaled, shift_flags, wide, with_low,
+    HALF_LONG, HALF_WORD, add_flags, branch_target, compare_flags, difference, extended, is_met,
+    mark, multiplied, power, scaled, shift_flags, with_low,
 };
 use decode::decode;
-use machine::{Decoded, Form, Judged, MEMORY, Status};
+use machine::{Decoded, Flags, Form, Judged, MEMORY, Status};
 
-// A byte in 32 bits; its bound goes with it.
-fn byte(b: u8) -> u32
-    ensures { (result ≡ b) × (result < 256) }
-{
-    b as u32
-}
+// ---- The memory.
 
-// The word at an address.
-pub fn read_word(mem: &[u8; MEMORY], p: usize) -> u32
+/// The word at an address.
+pub fn read_word(mem: &[u8; MEMORY], p: usize) -> u16
     requires { p + 2 ≤ 16384 }
-    ensures { (result ≡ word_at mem.now p) × (result < 65536) }
+    ensures { result ≡ word_at mem.now p }
 {
-    let x = byte(mem[p]);
-    let y = byte(mem[p + 1]);
-    x * 256 + y
+    u16::from_be_bytes([mem[p], mem[p + 1]])
 }
 
-// The long at an address.
+/// The long at an address.
 pub fn read_long(mem: &[u8; MEMORY], p: usize) -> u32
     requires { p + 4 ≤ 16384 }
     ensures { result ≡ long_at mem.now p }
 {
-    let x = read_word(mem, p);
-    let y = read_word(mem, p + 2);
-    x * 65536 + y
+    u32::from_be_bytes([mem[p], mem[p + 1], mem[p + 2], mem[p + 3]])
 }
 
-// Puts a long at an address.
+/// Puts a long at an address.
 pub fn write_long(mem: &mut [u8; MEMORY], p: usize, v: u32)
     requires { p + 4 ≤ 16384 }
     ensures { mem.new ≡ with_long mem.old p v }
 {
-    mem[p] = (v / 16777216) as u8;
-    mem[p + 1] = (v / 65536 % 256) as u8;
-    mem[p + 2] = (v / 256 % 256) as u8;
-    mem[p + 3] = (v % 256) as u8;
+    mem[p..p + 4].copy_from_slice(&v.to_be_bytes());
 }
 
-// NOP.
-fn pass(s: Status) -> Status
-    ensures { (d a mem : List ℕ) → state_of d a result mem ≡ act_of Form.Nop (state_of d a s mem) }
-{
-    let flags = s.flags;
-    let pc = std::num::wrapping_add_u32(s.pc, 2);
-    Status {
-        flags: flags,
-        pc: pc,
-    }
+// ---- The processor.
+
+/// The processor: all of the state but the memory.
+#[derive(Clone, Copy, Debug, PartialEq, Eq, Hash)]
+pub struct Processor {
+    /// D0 to D7.
+    pub d: [u32; 8],
+    /// A0 to A7.
+    pub a: [u32; 8],
+    /// Flags and program counter.
+    pub status: Status,
 }
 
-// MOVEQ.
-fn move_quick(d: &mut [u32; 8], b: usize, m: usize, s: Status) -> Status
-    requires { (b < 256) × (m < 8) }
-    ensures { (a mem : List ℕ) → state_of d.new a result mem ≡ act_of (Form.Moveq b m) (state_of d.old a s mem) }
-{
-    let v = extended(b);
-    let flags = mark(s.flags.x, 2147483648, wide(v), false, false);
-    d[m] = v;
-    let pc = std::num::wrapping_add_u32(s.pc, 2);
-    Status {
-        flags: flags,
-        pc: pc,
+impl Processor {
+    // The flags after a value was moved, multiplied or tested.
+    fn moved_flags(&self, half: u64, value: u64) -> Flags
+        ensures { result ≡ moved self.now.status.flags half value }
+    {
+        mark(self.status.flags.x, half, value, false, false)
     }
-}
 
-// MOVE.W Dn,Dm.
-fn move_word(d: &mut [u32; 8], n: usize, m: usize, s: Status) -> Status
-    requires { (n < 8) × (m < 8) }
-    ensures { (a mem : List ℕ) → state_of d.new a result mem ≡ act_of (Form.MoveWord n m) (state_of d.old a s mem) }
-{
-    let x = d[n] % 65536;
-    let flags = mark(s.flags.x, 32768, x as u64, false, false);
-    d[m] = with_low(d[m], x);
-    let pc = std::num::wrapping_add_u32(s.pc, 2);
-    Status {
-        flags: flags,
-        pc: pc,
+    // Takes a step's flags, and goes so many bytes further.
+    fn go(&mut self, flags: Flags, by: u32)
+        ensures { self.new ≡ record { d = self.old.d; a = self.old.a; status = record { flags = flags; pc = (self.old.status.pc + by) % 2 ^ 32 } } }
+    {
+        self.status.flags = flags;
+        self.status.pc = self.status.pc.wrapping_add(by);
     }
-}
 
-// MOVE.L (An),Dm.
-fn load(d: &mut [u32; 8], a: &[u32; 8], mem: &[u8; MEMORY], n: usize, m: usize, s: Status) -> Status
-    requires { (n < 8) × (m < 8) × (slice_index a.now n + 4 ≤ 16384) }
-    ensures { state_of d.new a.now result mem.now ≡ act_of (Form.Load n m) (state_of d.old a.now s mem.now) }
-{
-    let p = a[n];
-    let v = read_long(mem, p as usize);
-    let flags = mark(s.flags.x, 2147483648, wide(v), false, false);
-    d[m] = v;
-    let pc = std::num::wrapping_add_u32(s.pc, 2);
-    Status {
-        flags: flags,
-        pc: pc,
+    // The long in a data register.
+    fn long(&self, n: usize) -> u64
+        requires { n < 8 }
+        ensures { (result ≡ slice_index self.now.d n) × (result < 2 ^ 32) }
+    {
+        u64::from(self.d[n])
     }
-}
 
-// MOVE.L Dn,(Am).
-fn store(
-    d: &[u32; 8],
-    a: &[u32; 8],
-    mem: &mut [u8; MEMORY],
-    n: usize,
-    m: usize,
-    s: Status,
-) -> Status
-    requires { (n < 8) × (m < 8) × (slice_index a.now m + 4 ≤ 16384) }
-    ensures { state_of d.now a.now result mem.new ≡ act_of (Form.Store n m) (state_of d.now a.now s mem.old) }
-{
-    let p = a[m];
-    let v = d[n];
-    write_long(mem, p as usize, v);
-    let flags = mark(s.flags.x, 2147483648, wide(v), false, false);
-    let pc = std::num::wrapping_add_u32(s.pc, 2);
-    Status {
-        flags: flags,
-        pc: pc,
+    // The low word of a data register.
+    fn word(&self, n: usize) -> u64
+        requires { n < 8 }
+        ensures { (result ≡ slice_index self.now.d n % 65536) × (result < 65536) }
+    {
+        u64::from(self.d[n] % 65536)
     }
-}
 
-// ADD.W Dn,Dm.
-fn add(d: &mut [u32; 8], n: usize, m: usize, s: Status) -> Status
-    requires { (n < 8) × (m < 8) }
-    ensures { (a mem : List ℕ) → state_of d.new a result mem ≡ act_of (Form.Add n m) (state_of d.old a s mem) }
-{
-    let y = d[m] % 65536;
-    let x = d[n] % 65536;
-    let flags = add_flags(32768, x as u64, y as u64);
-    d[m] = with_low(d[m], (y + x) % 65536);
-    let pc = std::num::wrapping_add_u32(s.pc, 2);
-    Status {
-        flags: flags,
-        pc: pc,
+    // Puts a low word into a data register.
+    fn set_word(&mut self, m: usize, v: u64)
+        requires { (m < 8) × (v < 65536) }
+        ensures { self.new ≡ record { d = set self.old.d m (slice_index self.old.d m / 65536 * 65536 + v); a = self.old.a; status = self.old.status } }
+    {
+        self.d[m] = with_low(self.d[m], v as u32);
     }
-}
 
-// SUB.W Dn,Dm.
-fn subtract(d: &mut [u32; 8], n: usize, m: usize, s: Status) -> Status
-    requires { (n < 8) × (m < 8) }
-    ensures { (a mem : List ℕ) → state_of d.new a result mem ≡ act_of (Form.Sub n m) (state_of d.old a s mem) }
-{
-    let y = d[m] % 65536;
-    let x = d[n] % 65536;
-    let flags = compare_flags(y < x, 32768, x as u64, y as u64);
-    let r = difference(65536, y as u64, x as u64);
-    d[m] = with_low(d[m], r as u32);
-    let pc = std::num::wrapping_add_u32(s.pc, 2);
-    Status {
-        flags: flags,
-        pc: pc,
+    // Puts a long that was moved into a data register, by a form of so many bytes.
+    fn put(&mut self, m: usize, v: u32, by: u32)
+        requires { m < 8 }
+        ensures { self.new ≡ record { d = set self.old.d m v; a = self.old.a; status = record { flags = moved self.old.status.flags (2 ^ 31) v; pc = (self.old.status.pc + by) % 2 ^ 32 } } }
+    {
+        self.d[m] = v;
+        self.go(self.moved_flags(HALF_LONG, u64::from(v)), by);
     }
-}
 
-// CMP.W Dn,Dm.
-fn compare(d: &[u32; 8], n: usize, m: usize, s: Status) -> Status
-    requires { (n < 8) × (m < 8) }
-    ensures { (a mem : List ℕ) → state_of d.now a result mem ≡ act_of (Form.Cmp n m) (state_of d.now a s mem) }
-{
-    let y = d[m] % 65536;
-    let x = d[n] % 65536;
-    let flags = compare_flags(s.flags.x, 32768, x as u64, y as u64);
-    let pc = std::num::wrapping_add_u32(s.pc, 2);
-    Status {
-        flags: flags,
-        pc: pc,
+    // NOP.
+    fn pass(&mut self)
+        ensures { (mem : List ℕ) → state self.new mem ≡ act_of Form.Nop (state self.old mem) }
+    {
+        self.status.pc = self.status.pc.wrapping_add(2);
     }
-}
 
-// MULS.W Dn,Dm.
-fn multiply(d: &mut [u32; 8], n: usize, m: usize, s: Status) -> Status
-    requires { (n < 8) × (m < 8) }
-    ensures { (a mem : List ℕ) → state_of d.new a result mem ≡ act_of (Form.Muls n m) (state_of d.old a s mem) }
-{
-    let x = d[n] % 65536;
-    let y = d[m] % 65536;
-    let v = multiplied(x as u64, y as u64);
-    let flags = mark(s.flags.x, 2147483648, v, false, false);
-    d[m] = v as u32;
-    let pc = std::num::wrapping_add_u32(s.pc, 2);
-    Status {
-        flags: flags,
-        pc: pc,
+    // MOVEQ.
+    fn move_quick(&mut self, b: usize, m: usize)
+        requires { (b < 256) × (m < 8) }
+        ensures { (mem : List ℕ) → state self.new mem ≡ act_of (Form.Moveq b m) (state self.old mem) }
+    {
+        self.put(m, extended(b), 2);
     }
-}
 
-// MULS.W with the next word, and Dm.
-fn multiply_by(d: &mut [u32; 8], mem: &[u8; MEMORY], m: usize, s: Status) -> Status
-    requires { (m < 8) × (s.pc + 4 ≤ 16384) }
-    ensures { (a : List ℕ) → state_of d.new a result mem.now ≡ act_of (Form.MulsImmediate m) (state_of d.old a s mem.now) }
-{
-    let at = s.pc;
-    let x = read_word(mem, at as usize + 2);
-    let y = d[m] % 65536;
-    let v = multiplied(x as u64, y as u64);
-    let flags = mark(s.flags.x, 2147483648, v, false, false);
-    d[m] = v as u32;
-    let pc = std::num::wrapping_add_u32(at, 4);
-    Status {
-        flags: flags,
-        pc: pc,
+    // MOVE.W Dn,Dm.
+    fn move_word(&mut self, n: usize, m: usize)
+        requires { (n < 8) × (m < 8) }
+        ensures { (mem : List ℕ) → state self.new mem ≡ act_of (Form.MoveWord n m) (state self.old mem) }
+    {
+        let x = self.word(n);
+        self.set_word(m, x);
+        self.go(self.moved_flags(HALF_WORD, x), 2);
     }
-}
 
-// TST.L Dn.
-fn test(d: &[u32; 8], n: usize, s: Status) -> Status
-    requires { n < 8 }
-    ensures { (a mem : List ℕ) → state_of d.now a result mem ≡ act_of (Form.Tst n) (state_of d.now a s mem) }
-{
-    let flags = mark(s.flags.x, 2147483648, wide(d[n]), false, false);
-    let pc = std::num::wrapping_add_u32(s.pc, 2);
-    Status {
-        flags: flags,
-        pc: pc,
+    // MOVE.L (An),Dm.
+    fn load(&mut self, mem: &[u8; MEMORY], n: usize, m: usize)
+        requires { (n < 8) × (m < 8) × (slice_index self.old.a n + 4 ≤ 16384) }
+        ensures { state self.new mem.now ≡ act_of (Form.Load n m) (state self.old mem.now) }
+    {
+        self.put(m, read_long(mem, self.a[n] as usize), 2);
     }
-}
 
-// SUBQ.L.
-fn subtract_quick(d: &mut [u32; 8], k: usize, n: usize, s: Status) -> Status
-    requires { (k ≤ 8) × (n < 8) }
-    ensures { (a mem : List ℕ) → state_of d.new a result mem ≡ act_of (Form.Subq k n) (state_of d.old a s mem) }
-{
-    let y = wide(d[n]);
-    let x = k as u64;
-    let flags = compare_flags(y < x, 2147483648, x, y);
-    let r = difference(4294967296, y, x);
-    d[n] = r as u32;
-    let pc = std::num::wrapping_add_u32(s.pc, 2);
-    Status {
-        flags: flags,
-        pc: pc,
+    // MOVE.L Dn,(Am).
+    fn store(&mut self, mem: &mut [u8; MEMORY], n: usize, m: usize)
+        requires { (n < 8) × (m < 8) × (slice_index self.old.a m + 4 ≤ 16384) }
+        ensures { state self.new mem.new ≡ act_of (Form.Store n m) (state self.old mem.old) }
+    {
+        write_long(mem, self.a[m] as usize, self.d[n]);
+        self.go(self.moved_flags(HALF_LONG, self.long(n)), 2);
     }
-}
 
-// ASL.L.
-fn shift(d: &mut [u32; 8], k: usize, n: usize, s: Status) -> Status
-    requires { (k ≤ 8) × (n < 8) }
-    ensures { (a mem : List ℕ) → state_of d.new a result mem ≡ act_of (Form.Asl k n) (state_of d.old a s mem) }
-{
-    let v = wide(d[n]);
-    let flags = shift_flags(k, v);
-    let p = scaled(v, power(k));
-    d[n] = (p % 4294967296) as u32;
-    let pc = std::num::wrapping_add_u32(s.pc, 2);
-    Status {
-        flags: flags,
-        pc: pc,
+    // ADD.W Dn,Dm.
+    fn add(&mut self, n: usize, m: usize)
+        requires { (n < 8) × (m < 8) }
+        ensures { (mem : List ℕ) → state self.new mem ≡ act_of (Form.Add n m) (state self.old mem) }
+    {
+        let x = self.word(n);
+        let y = self.word(m);
+        self.set_word(m, (y + x) % 65536);
+        self.go(add_flags(HALF_WORD, x, y), 2);
     }
-}
 
-// A branch: on to where it leads if its condition is met.
-fn branch(k: usize, b: usize, s: Status) -> Status
-    requires { b < 256 }
-    ensures { (d a mem : List ℕ) → state_of d a result mem ≡ act_of (Form.Branch k b) (state_of d a s mem) }
-{
-    let flags = s.flags;
-    let pc = s.pc;
-    if is_met(k, flags) {
-        let to = branch_target(pc, b);
-        return Status {
-            flags: flags,
-            pc: to,
-        };
+    // SUB.W Dn,Dm.
+    fn subtract(&mut self, n: usize, m: usize)
+        requires { (n < 8) × (m < 8) }
+        ensures { (mem : List ℕ) → state self.new mem ≡ act_of (Form.Sub n m) (state self.old mem) }
+    {
+        let x = self.word(n);
+        let y = self.word(m);
+        self.set_word(m, difference(65536, y, x));
+        self.go(compare_flags(y < x, HALF_WORD, x, y), 2);
     }
-    let next = std::num::wrapping_add_u32(pc, 2);
-    Status {
-        flags: flags,
-        pc: next,
+
+    // CMP.W Dn,Dm.
+    fn compare(&mut self, n: usize, m: usize)
+        requires { (n < 8) × (m < 8) }
+        ensures { (mem : List ℕ) → state self.new mem ≡ act_of (Form.Cmp n m) (state self.old mem) }
+    {
+        let x = self.word(n);
+        let y = self.word(m);
+        self.go(compare_flags(self.status.flags.x, HALF_WORD, x, y), 2);
+    }
+
+    // MULS.W Dn,Dm.
+    fn multiply(&mut self, n: usize, m: usize)
+        requires { (n < 8) × (m < 8) }
+        ensures { (mem : List ℕ) → state self.new mem ≡ act_of (Form.Muls n m) (state self.old mem) }
+    {
+        self.put(m, multiplied(self.word(n), self.word(m)) as u32, 2);
+    }
+
+    // MULS.W with the next word, and Dm.
+    fn multiply_by(&mut self, mem: &[u8; MEMORY], m: usize)
+        requires { (m < 8) × (self.old.status.pc + 4 ≤ 16384) }
+        ensures { state self.new mem.now ≡ act_of (Form.MulsImmediate m) (state self.old mem.now) }
+    {
+        let x = read_word(mem, self.status.pc as usize + 2);
+        self.put(m, multiplied(u64::from(x), self.word(m)) as u32, 4);
+    }
+
+    // TST.L Dn.
+    fn test(&mut self, n: usize)
+        requires { n < 8 }
+        ensures { (mem : List ℕ) → state self.new mem ≡ act_of (Form.Tst n) (state self.old mem) }
+    {
+        self.go(self.moved_flags(HALF_LONG, self.long(n)), 2);
+    }
+
+    // SUBQ.L.
+    fn subtract_quick(&mut self, k: usize, n: usize)
+        requires { (k ≤ 8) × (n < 8) }
+        ensures { (mem : List ℕ) → state self.new mem ≡ act_of (Form.Subq k n) (state self.old mem) }
+    {
+        let x = k as u64;
+        let y = self.long(n);
+        self.d[n] = difference(4294967296, y, x) as u32;
+        self.go(compare_flags(y < x, HALF_LONG, x, y), 2);
+    }
+
+    // ASL.L.
+    fn shift(&mut self, k: usize, n: usize)
+        requires { (k ≤ 8) × (n < 8) }
+        ensures { (mem : List ℕ) → state self.new mem ≡ act_of (Form.Asl k n) (state self.old mem) }
+    {
+        let v = self.long(n);
+        self.d[n] = (scaled(v, power(k)) % 4294967296) as u32;
+        self.go(shift_flags(k, v), 2);
+    }
+
+    // A branch: on to where it leads if its condition is met.
+    #[tactic(auto, unfolding(machine::specs::Machine::act_of, rules::specs::Number::modulo))]
+    fn branch(&mut self, k: usize, b: usize)
+        requires { b < 256 }
+        ensures { (mem : List ℕ) → state self.new mem ≡ act_of (Form.Branch k b) (state self.old mem) }
+    {
+        if is_met(k, self.status.flags) {
+            self.status.pc = branch_target(self.status.pc, b);
+        } else {
+            self.status.pc = self.status.pc.wrapping_add(2);
+        }
+    }
+
+    // Whether the access that a form makes besides its first word is even and within the memory.
+    fn may_reach(&self, form: Form) -> bool
+        requires { Valid form × (self.now.status.pc + 2 ≤ 16384) }
+        ensures { result ≡ reaches form self.now.a self.now.status.pc }
+    {
+        match form {
+            Form::Load(n, _) => is_reached(self.a[n], 4),
+            Form::Store(_, m) => is_reached(self.a[m], 4),
+            Form::MulsImmediate(_) => is_reached(self.status.pc + 2, 2),
+            _ => true,
+        }
+    }
+
+    /// The step that is next.
+    #[tactic(auto, using(crate::proofs::Judging::in_range), unfolding(machine::specs::Machine::judge_of, machine::specs::Machine::judged_as))]
+    pub fn judge(&self, mem: &[u8; MEMORY]) -> Judged
+        ensures { result ≡ judge_of self.now.a mem.now self.now.status.pc }
+    {
+        if !is_reached(self.status.pc, 2) {
+            return Judged::Outside;
+        }
+        match decode(usize::from(read_word(mem, self.status.pc as usize))) {
+            Decoded::Is(form) if self.may_reach(form) => Judged::Runs(form),
+            Decoded::Is(_) => Judged::Outside,
+            Decoded::Halt => Judged::Halts,
+            Decoded::Other => Judged::Unknown,
+        }
+    }
+
+    /// Makes a step that was judged, where `go` says so.
+    // The guard stands at each form, and no test before the `match`: so decoding, form and limit are one jump in the compiled code.
+    #[tactic(auto, unfolding(machine::specs::Machine::reaches))]
+    pub fn act(&mut self, form: Form, mem: &mut [u8; MEMORY], go: bool)
+        requires { Valid form × (reaches form self.old.a self.old.status.pc ≡ true) }
+        ensures { state self.new mem.new ≡ act_if go form (state self.old mem.old) }
+    {
+        match form {
+            Form::Nop if go => self.pass(),
+            Form::Moveq(b, m) if go => self.move_quick(b, m),
+            Form::MoveWord(n, m) if go => self.move_word(n, m),
+            Form::Load(n, m) if go => self.load(mem, n, m),
+            Form::Store(n, m) if go => self.store(mem, n, m),
+            Form::Add(n, m) if go => self.add(n, m),
+            Form::Sub(n, m) if go => self.subtract(n, m),
+            Form::Cmp(n, m) if go => self.compare(n, m),
+            Form::Muls(n, m) if go => self.multiply(n, m),
+            Form::MulsImmediate(m) if go => self.multiply_by(mem, m),
+            Form::Tst(n) if go => self.test(n),
+            Form::Subq(k, n) if go => self.subtract_quick(k, n),
+            Form::Asl(k, n) if go => self.shift(k, n),
+            Form::Branch(k, b) if go => self.branch(k, b),
+            _ => {}
+        }
     }
 }
 
@@ -288,157 +297,5 @@ fn is_reached(p: u32, size: u64) -> bool
     requires { size ≤ 4 }
     ensures { result ≡ reached p size }
 {
-    let q = wide(p);
-    if q % 2 == 0 {
-        return q + size <= 16384;
-    }
-    false
-}
-
-// Whether the access that a form makes besides its first word is.
-fn may_reach(f: Form, a: &[u32; 8], pc: u32) -> bool
-    requires { Valid f × (pc + 2 ≤ 16384) }
-    ensures { result ≡ reaches f a.now pc }
-{
-    match f {
-        Form::Nop => true,
-        Form::Moveq(_, _) => true,
-        Form::MoveWord(_, _) => true,
-        Form::Load(n, _) => is_reached(a[n], 4),
-        Form::Store(_, m) => is_reached(a[m], 4),
-        Form::Add(_, _) => true,
-        Form::Sub(_, _) => true,
-        Form::Cmp(_, _) => true,
-        Form::Muls(_, _) => true,
-        Form::MulsImmediate(_) => is_reached(pc + 2, 2),
-        Form::Tst(_) => true,
-        Form::Subq(_, _) => true,
-        Form::Asl(_, _) => true,
-        Form::Branch(_, _) => true,
-    }
-}
-
-// The step that is next.
-pub fn judge(a: &[u32; 8], mem: &[u8; MEMORY], pc: u32) -> Judged
-    ensures { result ≡ judge_of a.now mem.now pc }
-{
-    if is_reached(pc, 2) {
-        let w = read_word(mem, pc as usize);
-        let o = decode(w as usize);
-        match o {
-            Decoded::Is(f) => {
-                if may_reach(f, a, pc) {
-                    return Judged::Runs(f);
-                }
-                return Judged::Outside;
-            }
-            Decoded::Halt => {
-                return Judged::Halts;
-            }
-            Decoded::Other => {
-                return Judged::Unknown;
-            }
-        }
-    }
-    Judged::Outside
-}
-
-// A step that was judged, made where `go` says so: one `match` for form and limit is one jump in the compiled code.
-pub fn act(
-    f: Form,
-    d: &mut [u32; 8],
-    a: &[u32; 8],
-    mem: &mut [u8; MEMORY],
-    s: Status,
-    go: bool,
-) -> Status
-    requires { Valid f × (reaches f a.now s.pc ≡ true) }
-    ensures { state_of d.new a.now result mem.new ≡ act_if go f (state_of d.old a.now s mem.old) }
-{
-    match f {
-        Form::Nop => {
-            if go {
-                return pass(s);
-            }
-            s
-        }
-        Form::Moveq(b, m) => {
-            if go {
-                return move_quick(d, b, m, s);
-            }
-            s
-        }
-        Form::MoveWord(n, m) => {
-            if go {
-                return move_word(d, n, m, s);
-            }
-            s
-        }
-        Form::Load(n, m) => {
-            if go {
-                return load(d, a, mem, n, m, s);
-            }
-            s
-        }
-        Form::Store(n, m) => {
-            if go {
-                return store(d, a, mem, n, m, s);
-            }
-            s
-        }
-        Form::Add(n, m) => {
-            if go {
-                return add(d, n, m, s);
-            }
-            s
-        }
-        Form::Sub(n, m) => {
-            if go {
-                return subtract(d, n, m, s);
-            }
-            s
-        }
-        Form::Cmp(n, m) => {
-            if go {
-                return compare(d, n, m, s);
-            }
-            s
-        }
-        Form::Muls(n, m) => {
-            if go {
-                return multiply(d, n, m, s);
-            }
-            s
-        }
-        Form::MulsImmediate(m) => {
-            if go {
-                return multiply_by(d, mem, m, s);
-            }
-            s
-        }
-        Form::Tst(n) => {
-            if go {
-                return test(d, n, s);
-            }
-            s
-        }
-        Form::Subq(k, n) => {
-            if go {
-                return subtract_quick(d, k, n, s);
-            }
-            s
-        }
-        Form::Asl(k, n) => {
-            if go {
-                return shift(d, k, n, s);
-            }
-            s
-        }
-        Form::Branch(k, b) => {
-            if go {
-                return branch(k, b, s);
-            }
-            s
-        }
-    }
+    p % 2 == 0 && u64::from(p) + size <= 16384
 }

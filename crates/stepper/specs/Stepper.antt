@@ -1,22 +1,18 @@
--- The bench's answer as the code's enum, and what a call gives. Assumes nothing.
-use Rattle.std.specs.Prelude.{ℕ, ◌≡◌, List}
-use Rattle.rules.specs.Answer.{Answer as Ruled, accepted, refused}
+-- The bench's answer by value. Assumes nothing.
+use Rattle.rules.specs.Answer.{Answer, accepted, refused}
 use Rattle.machine.specs.Machine.{Run}
-use Rattle.machine.specs.Bench.{registers_after, memory_after}
 use Rattle.machine.specs.declared.Ran.{Ran}
-use Rattle.stepper.specs.declared.Benched.{Benched}
-use Rattle.stepper.specs.declared.Benched.TheVariants.{Made, Refused}
 
 -- what a run hands back by value
 abbrev pub value_of : Run → Ran
 value_of r = record { end = r.end; steps = r.steps; status = record { flags = r.state.flags; pc = r.state.pc } }
 
-abbrev pub benched_of : Ruled Run → Benched
-benched_of (accepted r) = Made (value_of r)
-benched_of (refused n p) = Refused n p
+-- an answer with another value, where it is accepted
+abbrev pub instead : {A B : Type 0} → B → Answer A → Answer B
+instead b (accepted a) = accepted b
+instead b (refused n p) = refused n p
 
--- what the call gives that comes to the answer `told`: that answer, and the lent registers and memory, refused or not
-pub record BenchGives (told : Ruled Run) (answer : Benched) (d mem d' mem' : List ℕ) : Type 0 where
-  pub answers : answer ≡ benched_of told
-  pub registers : d' ≡ registers_after told d
-  pub memory : mem' ≡ memory_after told mem
+-- the call's answer, with a run's part that is handed back by value
+abbrev pub ran_answer : Answer Run → Answer Ran
+ran_answer (accepted r) = accepted (value_of r)
+ran_answer (refused n p) = refused n p

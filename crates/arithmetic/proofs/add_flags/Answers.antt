@@ -1,7 +1,6 @@
 -- `arithmetic::add_flags` meets its contract. Assumes nothing.
 use Rattle.arithmetic.proofs.Signs.{sub_plus}
 use Rattle.machine.specs.Flags.{added}
-use borrow.Author.Rules.{rules}
 use Rattle.arithmetic.proofs.add_flags.Goals as goal
 
 pub returns : goal.returns

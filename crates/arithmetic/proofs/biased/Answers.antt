@@ -1,6 +1,5 @@
 -- `arithmetic::biased` meets its contract. Assumes nothing.
 use Rattle.arithmetic.proofs.Signs.{biased_is}
-use borrow.Author.Rules.{rules}
 use Rattle.arithmetic.proofs.biased.Goals as goal
 
 pub returns : goal.returns

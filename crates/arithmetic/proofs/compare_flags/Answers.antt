@@ -1,7 +1,6 @@
 -- `arithmetic::compare_flags` meets its contract. Assumes nothing.
 use Rattle.arithmetic.proofs.Signs.{bias_minus}
 use Rattle.machine.specs.Flags.{compared}
-use borrow.Author.Rules.{rules}
 use Rattle.arithmetic.proofs.compare_flags.Goals as goal
 
 pub returns : goal.returns

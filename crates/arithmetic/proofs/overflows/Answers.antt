@@ -1,12 +1,9 @@
 -- `arithmetic::overflows` meets its contract. Assumes nothing.
-use mathlib.Core.Path.{sym, ap}
-use mathlib.Core.Bool.{not}
-use Rattle.arithmetic.proofs.Signs.{fits_below, fits_above}
-use borrow.Author.Rules.{rules}
+use Rattle.arithmetic.proofs.Signs.{exceeds_below, exceeds_above}
 use Rattle.arithmetic.proofs.overflows.Goals as goal
 
 pub returns-then-p-q : goal.returns-then-p-q
-returns-then-p-q c = ap not (sym (fits_below _ _ _ c.if-p-q.true))
+returns-then-p-q c = exceeds_below _ _ _ c.if-p-q.true
 
-pub returns : goal.returns
-returns c = ap not (sym (fits_above _ _ _ c.if-p-q.false))
+pub returns-else-p-q : goal.returns-else-p-q
+returns-else-p-q c = exceeds_above _ _ _ c.if-p-q.false

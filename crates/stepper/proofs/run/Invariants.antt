@@ -1,11 +1,11 @@
 -- `stepper::run` meets its contract. Assumes nothing.
 use Prim.Native.Nat.{◌-◌}
-use Rattle.machine.specs.Machine.{state_of}
+use Rattle.step.specs.Step.{state}
 use Rattle.stepper.proofs.Going.{Going}
 use Rattle.stepper.proofs.run.Given as goal
 
-abbrev pub invariant-loop-f : goal.invariant-loop-f
-invariant-loop-f l = Going l.limit (state_of l.initial.d l.a l.initial.s l.initial.mem) l.steps (state_of l.d l.a l.s l.mem)
+abbrev pub invariant-loop-form : goal.invariant-loop-form
+invariant-loop-form l = Going l.limit (state l.initial.processor l.initial.mem) l.steps (state l.processor l.mem)
 
-abbrev pub decreases-loop-f : goal.decreases-loop-f
-decreases-loop-f l = l.limit - l.steps
+abbrev pub decreases-loop-form : goal.decreases-loop-form
+decreases-loop-form l = l.limit - l.steps

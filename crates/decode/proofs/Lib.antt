@@ -1,2 +1,0 @@
--- Laws for decoding. Assumes nothing.
-pub mod Rows

@@ -1,7 +1,0 @@
--- `step::compare` meets its contract. Assumes nothing.
-use Rattle.machine.specs.Machine.{act_of}
-use Rattle.step.proofs.compare.Goals as goal
-
-pub returns : goal.returns
-unfolding act_of
-returns c = λ a mem. rw (c.compare_flags-flags.ensures, c.wrapping_add_u32-pc.ensures.value)

@@ -1,7 +1,0 @@
--- `step::move_word` meets its contract. Assumes nothing.
-use Rattle.machine.specs.Machine.{act_of}
-use Rattle.step.proofs.move_word.Goals as goal
-
-pub returns : goal.returns
-unfolding act_of
-returns c = λ a mem. rw (c.mark-flags.ensures, c.with_low.ensures, c.wrapping_add_u32-pc.ensures.value)
