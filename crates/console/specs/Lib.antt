@@ -1,2 +1,1 @@
 pub mod Arguments
-pub mod Chunks

@@ -1,13 +1,8 @@
 -- What reading a file leaves. Assumes nothing.
-use Rattle.std.specs.Prelude.{ℕ, ℤ, pos, negsuc, ◌≡◌, false, List}
+use Rattle.std.specs.Prelude.{ℕ, ◌≡◌, false, List}
 use Rattle.rules.specs.Text.{Text}
-use Rattle.station.specs.Reads.{at_start, failed_at, kept, Reads}
+use Rattle.station.specs.Reads.{kept, Reads}
 use Rattle.station.specs.declared.input.Input.{Input}
-
--- before the first read, by the descriptor that opening the file answered: a file that is not opened cannot be read
-unfoldable pub opened_by : ℤ → Input
-opened_by (pos n) = at_start
-opened_by (negsuc n) = failed_at 0
 
 -- i, where the reader stands, and y, the buffer that was x before the first read: some text was read, and its front is put over that of x; after a
 -- read that failed nothing is said. No contract says whose text it is: what a file holds is outside.

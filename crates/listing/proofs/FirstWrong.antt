@@ -7,12 +7,13 @@ use mathlib.Core.List.{[], ◌∷◌, ◌++◌, append_assoc, flat_map}
 use native.Mathlib.Omega.{arith}
 use lib.ListN.{length, drop, length-drop}
 use lib.Seq.{drop-drop}
+use Rattle.std.specs.Prelude.{Result, Ok, Err}
 use Rattle.rules.specs.Text.{Text}
+use Rattle.listing.specs.declared.reading.BadLine.{BadLine}
 use Rattle.rules.specs.Assemble.{Place}
 use Rattle.listing.specs.Listing.{place_text, list_text}
-use Rattle.listing.specs.Reading.{is_line, read_lines, places_in}
+use Rattle.listing.specs.Reading.{bad, is_line, read_lines, places_in}
 use Rattle.listing.specs.RoundTrip.{Printable, AllPrintable, BadIsFirstWrong}
-use Rattle.listing.specs.declared.reading.Parsed.TheVariants.{Bad}
 use Rattle.listing.proofs.RoundTrip.{line_there, line_split, printable}
 
 -- m lines were read before, and k more
@@ -24,10 +25,14 @@ record Stopped (room m n : ℕ) (t : Text) : Type 0 where
   there : 16 * k < length t
   why : (k ≡ room) ⊎ ((p : Place) (s : Text) → Printable p → drop (16 * k) t ≡ place_text p ++ s → ⊥)
 
-stopped_here : (room m n : ℕ) (t : Text) → Bad (suc m) ≡ Bad n → 0 < length t → (0 ≡ room) ⊎ (is_line t ≡ false) → Stopped room m n t
-unfolding places_in list_text flat_map AllPrintable
+number_in : ℕ → Result ℕ BadLine → ℕ
+number_in k (Ok n) = k
+number_in k (Err e) = e.number
+
+stopped_here : (room m n : ℕ) (t : Text) → bad (suc m) ≡ bad n → 0 < length t → (0 ≡ room) ⊎ (is_line t ≡ false) → Stopped room m n t
+unfolding places_in list_text flat_map AllPrintable number_in
 stopped_here room m n t e h w =
-    let q : suc m ≡ n = cc in
+    let q : suc m ≡ n = ap (number_in 0) e in
     record {
       k = 0;
       number = omega arith;
@@ -51,14 +56,14 @@ stopped_later room m n t e r =
       why = ⊎_elim (λ z. inl (ap suc z)) (λ f. inr (λ p s g u. f p s g (behind ∙ u))) r.why;
     }
 
-stopped : (room m n : ℕ) (t : Text) → read_lines room m t ≡ Bad n → Stopped room m n t
+stopped : (room m n : ℕ) (t : Text) → read_lines room m t ≡ bad n → Stopped room m n t
 unfolding read_lines
 stopped zero m n [] e = let z : ◌≡◌ {A = ℕ} 0 1 = cc in absurd (omega arith)
 stopped zero m n (b ∷ s) e = stopped_here zero m n (b ∷ s) e (omega arith) (inl refl)
 stopped (suc room) m n [] e = let z : ◌≡◌ {A = ℕ} 0 1 = cc in absurd (omega arith)
 stopped (suc room) m n (b ∷ s) e = go (is_line (b ∷ s)) refl (λ q. stopped room (suc m) n (drop 16 (b ∷ s)) q)
   where
-    go : (y : Bool) → is_line (b ∷ s) ≡ y → (read_lines room (suc m) (drop 16 (b ∷ s)) ≡ Bad n → Stopped room (suc m) n (drop 16 (b ∷ s))) → Stopped (suc room) m n (b ∷ s)
+    go : (y : Bool) → is_line (b ∷ s) ≡ y → (read_lines room (suc m) (drop 16 (b ∷ s)) ≡ bad n → Stopped room (suc m) n (drop 16 (b ∷ s))) → Stopped (suc room) m n (b ∷ s)
     go true q ih = stopped_later room m n (b ∷ s) q (ih (rw (q, read_lines) at e))
     go false q ih = stopped_here (suc room) m n (b ∷ s) (rw (q, read_lines) at e) (omega arith) (inr q)
 

@@ -1,11 +1,10 @@
 -- What is left of a list's places after i turns of a loop: of those that a text shows, and of those in three slices. Assumes nothing.
-use Prim.Native.Nat.{ℕ, suc, ◌+◌, ◌-◌, ◌*◌, ◌<◌, ◌≤◌}
-use mathlib.Core.Path.{◌≡◌}
-use mathlib.Core.List.{List, [], ◌∷◌, ◌++◌, map, flat_map}
-use native.Mathlib.Numerals.{add-one}
+use Prim.Native.Nat.{ℕ, zero, suc, ◌+◌, ◌-◌, ◌*◌, ◌<◌, ◌≤◌}
+use mathlib.Core.Path.{◌≡◌, refl, sym}
+use mathlib.Core.List.{List, [], ◌∷◌, ◌++◌, map, flat_map, append-nil, append_assoc}
 use native.Mathlib.Omega.{arith}
 use lib.ListN.{length, drop, get_or}
-use lib.Seq.{drop-cons, drop-drop}
+use lib.Seq.{drop-drop}
 use Rattle.rules.specs.Text.{Text}
 use Rattle.rules.specs.Assemble.{Place, place}
 use Rattle.rules.specs.Tally.{list_in}
@@ -31,21 +30,18 @@ module _ (f : Place → ℕ) (t : Text) (count : ℕ) where
   unfolding places_in
   shown_end i h = let none : count - i ≡ 0 = omega arith in rw none
 
--- ---- the lines of the places in three slices, from place i on
-abbrev pub lines_from : List ℕ → List ℕ → List ℕ → ℕ → ℕ → Text
-lines_from xs ws ms count i = list_text (list_in (count - i) (drop i xs) (drop i ws) (drop i ms))
+-- ---- the lines of the first places in three slices
+pub lines_none : (xs ws ms : List ℕ) → list_text (list_in 0 xs ws ms) ≡ []
+unfolding list_text flat_map list_in
+lines_none xs ws ms = refl
 
-module _ (xs ws ms : List ℕ) (count : ℕ) where
-  pub lines_start : lines_from xs ws ms count 0 ≡ list_text (list_in count xs ws ms)
-  lines_start = let all : count - 0 ≡ count = omega arith in rw all
-
-  pub lines_more : (i : ℕ) → i < count → i < length xs → i < length ws → i < length ms
-      → lines_from xs ws ms count i ≡ place_text (place (get_or xs i 0) (get_or ws i 0) (get_or ms i 0)) ++ lines_from xs ws ms count (i + 1)
-  unfolding list_text flat_map list_in
-  lines_more i h x w m =
-      let one : count - i ≡ suc (count - (i + 1)) = omega arith in
-      rw (one, add-one i, drop-cons xs i 0 x, drop-cons ws i 0 w, drop-cons ms i 0 m)
-
-  pub lines_end : (i : ℕ) → count ≤ i → lines_from xs ws ms count i ≡ []
-  unfolding list_text flat_map list_in
-  lines_end i h = let none : count - i ≡ 0 = omega arith in rw none
+pub lines_more : (i : ℕ) (xs ws ms : List ℕ) → i < length xs → i < length ws → i < length ms
+    → list_text (list_in (i + 1) xs ws ms) ≡ list_text (list_in i xs ws ms) ++ place_text (place (get_or xs i 0) (get_or ws i 0) (get_or ms i 0))
+unfolding list_text flat_map list_in
+lines_more i [] ws ms a b c = absurd (omega arith)
+lines_more i (x ∷ xs) [] ms a b c = absurd (omega arith)
+lines_more i (x ∷ xs) (w ∷ ws) [] a b c = absurd (omega arith)
+lines_more zero (x ∷ xs) (w ∷ ws) (m ∷ ms) a b c = append-nil (place_text (place x w m))
+lines_more (suc i) (x ∷ xs) (w ∷ ws) (m ∷ ms) a b c =
+    let one : suc i + 1 ≡ suc (i + 1) = omega arith in
+    rw (one, lines_more i xs ws ms (omega arith) (omega arith) (omega arith)) (sym (append_assoc (place_text (place x w m)) (list_text (list_in i xs ws ms)) _))

@@ -11,7 +11,8 @@ use Rattle.rules.specs.Assemble.{Place}
 use Rattle.listing.specs.Listing.{digits_of, mark_byte, place_text, list_text}
 use Rattle.listing.specs.Reading.{place_in, is_line, read_lines, read_list, places_in}
 use Rattle.listing.specs.RoundTrip.{Printable, AllPrintable, WrittenIsRead, ReadIsWritten}
-use Rattle.listing.specs.declared.reading.Parsed.TheVariants.{Count}
+use Rattle.std.specs.Prelude.{Result, Ok}
+use Rattle.listing.specs.declared.reading.BadLine.{BadLine}
 use Rattle.listing.proofs.Digits.{length_digits}
 use Rattle.listing.proofs.Values.{number_read, number_small, mark_read, digit_small}
 use Rattle.listing.proofs.Lines.{length_place, starts_whole, starts_split, read_end, read_line}
@@ -57,7 +58,7 @@ line_there p s h = rw (shown p s h) (starts_whole (place_text p) s)
 behind_line : (p : Place) (s : Text) → drop 16 (place_text p ++ s) ≡ s
 behind_line p s = drop_at (place_text p) s 16 (length_place p)
 
-written_counts : (l : List Place) (room n : ℕ) → AllPrintable l → length l ≤ room → read_lines room n (list_text l) ≡ Count (n + length l)
+written_counts : (l : List Place) (room n : ℕ) → AllPrintable l → length l ≤ room → read_lines room n (list_text l) ≡ Ok (n + length l)
 unfolding AllPrintable list_text flat_map
 written_counts [] room n a h = let e : n + 0 ≡ n = omega arith in rw e (read_end room n)
 written_counts (p ∷ l) zero n a h = absurd (omega arith)
@@ -93,7 +94,7 @@ record Read (room m n : ℕ) (t : Text) : Type 0 where
   text : list_text (places_in (n - m) t) ≡ t
   fit : AllPrintable (places_in (n - m) t)
 
-none_read : (room m n : ℕ) → Count m ≡ Count n → Read room m n []
+none_read : (room m n : ℕ) → ◌≡◌ {A = Result ℕ BadLine} (Ok m) (Ok n) → Read room m n []
 unfolding places_in list_text flat_map AllPrintable
 none_read room m n e =
     let q : m ≡ n = cc in
@@ -106,14 +107,14 @@ one_read room m n t e r =
     let z : n - m ≡ suc (n - suc m) = omega (arith, r.over) in
     record { over = omega (arith, r.over); within = omega (arith, r.within); text = rw (z, r.text) (line_split t e); fit = rw z (printable t, r.fit) }
 
-read_whole : (room m n : ℕ) (t : Text) → read_lines room m t ≡ Count n → Read room m n t
+read_whole : (room m n : ℕ) (t : Text) → read_lines room m t ≡ Ok n → Read room m n t
 unfolding read_lines
 read_whole zero m n [] e = none_read zero m n e
 read_whole zero m n (b ∷ s) e = let z : ◌≡◌ {A = ℕ} 0 1 = cc in absurd (omega arith)
 read_whole (suc room) m n [] e = none_read (suc room) m n e
 read_whole (suc room) m n (b ∷ s) e = go (is_line (b ∷ s)) refl (λ q. read_whole room (suc m) n (drop 16 (b ∷ s)) q)
   where
-    go : (y : Bool) → is_line (b ∷ s) ≡ y → (read_lines room (suc m) (drop 16 (b ∷ s)) ≡ Count n → Read room (suc m) n (drop 16 (b ∷ s))) → Read (suc room) m n (b ∷ s)
+    go : (y : Bool) → is_line (b ∷ s) ≡ y → (read_lines room (suc m) (drop 16 (b ∷ s)) ≡ Ok n → Read room (suc m) n (drop 16 (b ∷ s))) → Read (suc room) m n (b ∷ s)
     go true q ih = one_read room m n (b ∷ s) q (ih (rw (q, read_lines) at e))
     go false q ih = let f = rw (q, read_lines) at e in let z : ◌≡◌ {A = ℕ} 0 1 = cc in absurd (omega arith)
 
@@ -135,10 +136,10 @@ unfolding places_in
 length_places zero t = refl
 length_places (suc n) t = ap suc (length_places n (drop 16 t))
 
-pub read_length : (t : Text) (room n : ℕ) → read_list room t ≡ Count n → 16 * n ≡ length t
+pub read_length : (t : Text) (room n : ℕ) → read_list room t ≡ Ok n → 16 * n ≡ length t
 unfolding ReadIsWritten
 read_length t room n e = rw (length_list (places_in n t), length_places n t) at (ap length (read_is_written t room n e).0)
 
-pub read_within : (t : Text) (room n : ℕ) → read_list room t ≡ Count n → n ≤ room
+pub read_within : (t : Text) (room n : ℕ) → read_list room t ≡ Ok n → n ≤ room
 unfolding ReadIsWritten
 read_within t room n e = (read_is_written t room n e).2

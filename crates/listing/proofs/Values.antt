@@ -1,6 +1,6 @@
 -- Laws of values: of a digit, and of a number, which the loop reads from its first digit on. Assumes nothing.
-use Prim.Native.Nat.{ℕ, zero, suc, ◌+◌, ◌-◌, ◌*◌, ◌/◌, ◌%◌, ◌^◌, ◌<◌, ◌≤◌}
-use mathlib.Core.Path.{◌≡◌, refl, sym, ◌∙◌}
+use Prim.Native.Nat.{ℕ, zero, suc, ◌+◌, ◌*◌, ◌/◌, ◌%◌, ◌^◌, ◌<◌, ◌≤◌}
+use mathlib.Core.Path.{◌≡◌, refl, sym}
 use mathlib.Core.Bool.{Bool, true, false, cond}
 use mathlib.Core.List.{[], ◌∷◌, ◌++◌}
 use native.Mathlib.Nat.{add-zero, pow-suc, pow-le-pow_right, zero-lt-suc, lt_of_lt_of_le}
@@ -8,8 +8,8 @@ use native.Mathlib.Numerals.{add-one}
 use native.Mathlib.Omega.{arith}
 use borrow.Author.Tests.{lt-ltb, le-ltb, ltb-true, ltb-false, le-leb, lt-leb}
 use lib.Dec.{ltb}
-use lib.ListN.{length, take, drop, get_or}
-use lib.Seq.{drop-cons}
+use lib.ListN.{length, take, get_or}
+use lib.Seq.{take-suc}
 use Rattle.rules.specs.Text.{Text}
 use Rattle.rules.specs.Number.{digit_value}
 use Rattle.listing.specs.Listing.{digit_byte, digits_of, mark_byte}
@@ -88,33 +88,6 @@ number_grows i (suc k) v (b ∷ t) h =
 pub number_small : (k : ℕ) (t : Text) → hex_in 0 (take k t) < 16 ^ k
 number_small k t = let zeros : 0 + k ≡ k = omega arith in rw zeros at (number_grows 0 k 0 t (omega arith))
 
--- ---- the loop: what is left to read, after the value so far, reads as the whole
-pub record Reading (t : Text) (start count v i : ℕ) : Type 0 where
-  pub upto : i ≤ count
-  pub small : v < 16 ^ i
-  pub same : hex_in 0 (take count (drop start t)) ≡ hex_in v (take (count - i) (drop (start + i) t))
-
-pub reading_start : (t : Text) (start count : ℕ) → Reading t start count 0 0
-reading_start t start count =
-    let whole : count - 0 ≡ count = omega arith in
-    record { upto = omega arith; small = omega arith; same = rw (add-zero start, whole) }
-
-pub reading_more : {t : Text} {start count v i : ℕ} → Reading t start count v i → (d : ℕ) → i < count → start + i < length t → d ≡ digit_in 16 (get_or t (start + i) 0)
-    → Reading t start count (v * 16 + d) (i + 1)
-unfolding hex_in
-reading_more {t} {start} {count} {v} {i} r d h k e =
-    let l = digit_below 16 (get_or t (start + i) 0) e (omega arith) in
-    let left : count - i ≡ suc (count - (i + 1)) = omega arith in
-    let next : start + (i + 1) ≡ suc (start + i) = omega arith in
-    record {
-      upto = omega arith;
-      small = rw (add-one i) (digit_more v d i r.small l);
-      same = r.same ∙ rw (next, drop-cons t (start + i) 0 k, left, e);
-    }
-
-pub reading_end : {t : Text} {start count v i : ℕ} → Reading t start count v i → count ≤ i → (v ≡ hex_in 0 (take count (drop start t))) × (v < 16 ^ count)
-unfolding hex_in
-reading_end {t} {start} {count} {v} {i} r h =
-    let left : count - i ≡ 0 = omega arith in
-    let all : i ≡ count = omega (arith, r.upto) in
-    (sym (r.same ∙ rw left), rw all at r.small)
+-- a digit more
+pub hex_more : (t : Text) (i : ℕ) → i < length t → hex_in 0 (take (i + 1) t) ≡ hex_in 0 (take i t) * 16 + digit_in 16 (get_or t i 0)
+hex_more t i h = rw (add-one i, take-suc t i 0 h) (number_last 0 (take i t) (get_or t i 0))

@@ -1,10 +1,9 @@
 -- Texts byte for byte: the station example's listing, lines of refusals, and texts that are not read. Assumes nothing.
-use Rattle.std.specs.Prelude.{◌≡◌, List, [], ◌∷◌}
+use Rattle.std.specs.Prelude.{◌≡◌, Ok, List, [], ◌∷◌}
 use Rattle.rules.specs.Text.{Text, bytes}
 use Rattle.rules.specs.Assemble.{Place, place}
 use Rattle.listing.specs.Listing.{list_text, refused_text}
-use Rattle.listing.specs.Reading.{read_list}
-use Rattle.listing.specs.declared.reading.Parsed.TheVariants.{Count, Bad}
+use Rattle.listing.specs.Reading.{bad, read_list}
 
 -- P1's list and its listing
 abbrev station_list : List Place
@@ -24,11 +23,11 @@ pub record Examples : Type 0 where
   pub no_digit : list_text (place 0 0 10 ∷ []) ≡ bytes "00000000 0000 ?\n"
   pub refused : refused_text 2 0 ≡ bytes "refused 2 0\n"
   pub refused_far : refused_text 11 32769 ≡ bytes "refused 11 32769\n"
-  pub read : read_list 9 station_text ≡ Count 9
-  pub read_pair : read_list 2 (bytes "00002002 0001 2\n00002004 8000 3\n") ≡ Count 2
-  pub one_too_many : read_list 8 station_text ≡ Bad 9
-  pub nothing : read_list 0 [] ≡ Count 0
-  pub lower_case : read_list 9 (bytes "0000100a 0C82 0\n") ≡ Bad 1
-  pub seven_digits : read_list 9 (bytes "00001000 0000 0\n0001002 1040 0\n") ≡ Bad 2
-  pub no_end : read_list 9 (bytes "00001000 0000 0") ≡ Bad 1
-  pub blank_line : read_list 9 (bytes "00001000 0000 0\n\n") ≡ Bad 2
+  pub read : read_list 9 station_text ≡ Ok 9
+  pub read_pair : read_list 2 (bytes "00002002 0001 2\n00002004 8000 3\n") ≡ Ok 2
+  pub one_too_many : read_list 8 station_text ≡ bad 9
+  pub nothing : read_list 0 [] ≡ Ok 0
+  pub lower_case : read_list 9 (bytes "0000100a 0C82 0\n") ≡ bad 1
+  pub seven_digits : read_list 9 (bytes "00001000 0000 0\n0001002 1040 0\n") ≡ bad 2
+  pub no_end : read_list 9 (bytes "00001000 0000 0") ≡ bad 1
+  pub blank_line : read_list 9 (bytes "00001000 0000 0\n\n") ≡ bad 2

@@ -1,5 +1,5 @@
+pub mod Writer
 pub mod Listing
 pub mod Reading
 pub mod RoundTrip
-pub mod Distance
 pub mod Examples

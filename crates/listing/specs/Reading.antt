@@ -1,11 +1,10 @@
 -- A list read back from its text. A line is read where the place that it shows is written as that line. Assumes nothing.
-use Rattle.std.specs.Prelude.{ℕ, zero, suc, ◌+◌, ◌*◌, min, ◌≡◌, Bool, true, false, cond, List, [], ◌∷◌, length, take, drop, get_or, ltb}
+use Rattle.std.specs.Prelude.{ℕ, zero, suc, ◌+◌, ◌*◌, min, Bool, true, false, cond, Result, Ok, Err, List, [], ◌∷◌, length, take, drop, get_or, ltb}
 use Rattle.rules.specs.Text.{Text, starts}
 use Rattle.rules.specs.Number.{digit_value}
-use Rattle.rules.specs.Assemble.{Place, Slices, holding}
+use Rattle.rules.specs.Assemble.{Place, Slices}
 use Rattle.listing.specs.Listing.{place_text}
-use Rattle.listing.specs.declared.reading.Parsed.{Parsed}
-use Rattle.listing.specs.declared.reading.Parsed.TheVariants.{Count, Bad}
+use Rattle.listing.specs.declared.reading.BadLine.{BadLine}
 
 -- the digit value of a byte, and 0 for one that is no digit of the radix
 unfoldable pub digit_in : ℕ → ℕ → ℕ
@@ -24,15 +23,19 @@ place_in t = record { address = hex_in 0 (take 8 t); word = hex_in 0 (take 4 (dr
 unfoldable pub is_line : Text → Bool
 is_line t = starts (place_text (place_in t)) t
 
+-- the first line that is wrong
+abbrev pub bad : ℕ → Result ℕ BadLine
+bad n = Err (record { number = n })
+
 -- n lines are read, and there is room for so many more: how many there are, or the number of the first that is no line or has no room
-unfoldable pub read_lines : ℕ → ℕ → Text → Parsed
-read_lines zero n [] = Count n
-read_lines zero n (b ∷ s) = Bad (suc n)
-read_lines (suc room) n [] = Count n
-read_lines (suc room) n (b ∷ s) = elim (is_line (b ∷ s)) [ true ↦ read_lines room (suc n) (drop 16 (b ∷ s)) | false ↦ Bad (suc n) ]
+unfoldable pub read_lines : ℕ → ℕ → Text → Result ℕ BadLine
+read_lines zero n [] = Ok n
+read_lines zero n (b ∷ s) = bad (suc n)
+read_lines (suc room) n [] = Ok n
+read_lines (suc room) n (b ∷ s) = elim (is_line (b ∷ s)) [ true ↦ read_lines room (suc n) (drop 16 (b ∷ s)) | false ↦ bad (suc n) ]
 
 -- the answer to a text, with room for so many places
-abbrev pub read_list : ℕ → Text → Parsed
+abbrev pub read_list : ℕ → Text → Result ℕ BadLine
 read_list room t = read_lines room 0 t
 
 -- the places of the first n lines
@@ -40,16 +43,6 @@ unfoldable pub places_in : ℕ → Text → List Place
 places_in zero t = []
 places_in (suc n) t = place_in t ∷ places_in n (drop 16 t)
 
--- the list that a text holds by an answer; none where the text is refused
-unfoldable pub places_read : Parsed → Text → List Place
-places_read (Count n) t = places_in n t
-places_read (Bad n) t = []
-
 -- how many places three slices have room for
 abbrev pub room_in : Slices → ℕ
 room_in x = min (length x.addresses) (min (length x.words) (length x.marks))
-
--- what a call owes that is lent the slices x and leaves y: its answer, and each place of the slices
-pub record Read (t : Text) (x y : Slices) (r : Parsed) : Type 0 where
-  pub answer : r ≡ read_list (room_in x) t
-  pub after : y ≡ holding (places_read r t) x

@@ -1,10 +1,9 @@
 -- Writing and reading are inverse: what is written is read, and what is read is what was written. Assumes nothing.
-use Rattle.std.specs.Prelude.{ℕ, suc, ◌*◌, ◌^◌, ◌<◌, ◌≤◌, ◌≡◌, ◌⊎◌, List, [], ◌∷◌, ◌++◌, length, drop}
+use Rattle.std.specs.Prelude.{ℕ, suc, ◌*◌, ◌^◌, ◌<◌, ◌≤◌, ◌≡◌, ◌⊎◌, Ok, List, [], ◌∷◌, ◌++◌, length, drop}
 use Rattle.rules.specs.Text.{Text}
 use Rattle.rules.specs.Assemble.{Place}
 use Rattle.listing.specs.Listing.{place_text, list_text}
-use Rattle.listing.specs.Reading.{read_list, places_in}
-use Rattle.listing.specs.declared.reading.Parsed.TheVariants.{Count, Bad}
+use Rattle.listing.specs.Reading.{bad, read_list, places_in}
 
 -- a place that a line shows whole
 pub record Printable (p : Place) : Type 0 where
@@ -20,12 +19,12 @@ AllPrintable (p ∷ ps) = Printable p × AllPrintable ps
 unfoldable pub WrittenIsRead : Type 0
 WrittenIsRead =
     (l : List Place) (room : ℕ) → AllPrintable l → length l ≤ room
-    → (read_list room (list_text l) ≡ Count (length l)) × (places_in (length l) (list_text l) ≡ l)
+    → (read_list room (list_text l) ≡ Ok (length l)) × (places_in (length l) (list_text l) ≡ l)
 
 -- a text that is read is the text of the list that it is read as
 unfoldable pub ReadIsWritten : Type 0
 ReadIsWritten =
-    (t : Text) (room n : ℕ) → read_list room t ≡ Count n
+    (t : Text) (room n : ℕ) → read_list room t ≡ Ok n
     → (list_text (places_in n t) ≡ t) × AllPrintable (places_in n t) × (n ≤ room)
 
 -- the text of line n is the first that is wrong: the lines before it are a list's, it is there, and there is no room for it or it is no place's
@@ -39,4 +38,4 @@ pub record FirstWrong (room n : ℕ) (t : Text) : Type 0 where
 
 -- the number in an answer is that of the first wrong line, from 1
 unfoldable pub BadIsFirstWrong : Type 0
-BadIsFirstWrong = (t : Text) (room n : ℕ) → read_list room t ≡ Bad n → FirstWrong room n t
+BadIsFirstWrong = (t : Text) (room n : ℕ) → read_list room t ≡ bad n → FirstWrong room n t

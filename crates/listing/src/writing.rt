@@ -1,14 +1,17 @@
 // A list as text, a line for each word; and the line of a refusal.
 ghost use Rattle.std.specs.Prelude.{◌≡◌, ◌+◌, ◌*◌, ◌<◌, ◌≤◌, length};
-ghost use Rattle.rules.specs.Assemble.{place, over};
+ghost use Rattle.rules.specs.Assemble.{over};
 ghost use Rattle.rules.specs.Tally.{list_in};
-ghost use Rattle.listing.specs.Listing.{digit_byte, digits_of, decimal_places, decimal, mark_byte, place_text, list_text, refused_text};
+ghost use Rattle.listing.specs.Listing.{digit_byte, digits_of, decimal_places, decimal, mark_byte, list_text, refused_text};
 ghost use Rattle.text.specs.Spans.{over_from};
 
-// The bytes that a line takes.
+use crate::writer::Writer;
+
+/// The bytes that a line takes.
 pub const LINE: usize = 16;
 
 // An upper-case digit.
+#[tactic(auto, unfolding(crate::specs::Listing::digit_byte))]
 fn digit_byte(d: u64) -> u8
     requires { d < 16 }
     ensures { result ≡ digit_byte d }
@@ -16,7 +19,7 @@ fn digit_byte(d: u64) -> u8
     if d < 10 { 48 + d as u8 } else { 55 + d as u8 }
 }
 
-// Puts the last `count` digits of n at an index, from the last one on.
+/// Puts the last `count` digits of n at an index, from the last one on.
 pub fn write_digits(out: &mut [u8], at: usize, base: u64, count: usize, n: u64)
     requires { (0 < base) × (base ≤ 16) × (at + count ≤ length out.old) }
     ensures { out.new ≡ over_from at (digits_of base count n) out.old }
@@ -30,39 +33,24 @@ pub fn write_digits(out: &mut [u8], at: usize, base: u64, count: usize, n: u64)
     }
 }
 
-// Puts a text at an index.
+/// Puts a text at an index.
+#[tactic(auto, unfolding(text::specs::Spans::over_from))]
 pub fn write_bytes(out: &mut [u8], at: usize, text: &[u8])
     requires { at + length text.now ≤ length out.old }
     ensures { out.new ≡ over_from at text.now out.old }
 {
-    let mut i = 0;
-    while i < text.len() {
-        out[at + i] = text[i];
-        i += 1;
-    }
+    out[at..at + text.len()].copy_from_slice(text);
 }
 
 // A mark's digit.
-fn mark_byte(mark: u8) -> u8
+#[tactic(auto, unfolding(crate::specs::Listing::mark_byte))]
+pub(crate) fn mark_byte(mark: u8) -> u8
     ensures { result ≡ mark_byte mark }
 {
     if mark < 10 { 48 + mark } else { b'?' }
 }
 
-// Puts the line of a word at an index.
-pub fn write_place(out: &mut [u8], at: usize, address: u32, word: u16, mark: u8)
-    requires { at + 16 ≤ length out.old }
-    ensures { out.new ≡ over_from at (place_text (place address word mark)) out.old }
-{
-    write_digits(out, at, 16, 8, address as u64);
-    out[at + 8] = b' ';
-    write_digits(out, at + 9, 16, 4, word as u64);
-    out[at + 13] = b' ';
-    out[at + 14] = mark_byte(mark);
-    out[at + 15] = b'\n';
-}
-
-// Puts the text of a list at the front, and answers its length.
+/// Puts the text of a list at the front, and answers its length.
 pub fn write_list(
     addresses: &[u32],
     words: &[u16],
@@ -73,16 +61,13 @@ pub fn write_list(
     requires { (count ≤ length addresses.now) × (count ≤ length words.now) × (count ≤ length marks.now) × (16 * count ≤ length out.old) }
     ensures { (result ≡ 16 * count) × (out.new ≡ over (list_text (list_in count addresses.now words.now marks.now)) out.old) }
 {
-    let mut i = 0;
-    while i < count {
-        write_place(out, LINE * i, addresses[i], words[i], marks[i]);
-        i += 1;
-    }
-    LINE * count
+    let mut text = Writer::new(out);
+    text.push_list(addresses, words, marks, count);
+    text.len
 }
 
 // How many digits a number has in decimal.
-fn decimal_places(n: u64) -> usize
+pub(crate) fn decimal_places(n: u64) -> usize
     ensures { (result ≡ decimal_places n) × (result ≤ 20) }
 {
     let mut count = 1;
@@ -94,7 +79,7 @@ fn decimal_places(n: u64) -> usize
     count
 }
 
-// Puts a number in decimal at an index, and answers the index after it.
+/// Puts a number in decimal at an index, and answers the index after it.
 pub fn write_decimal(out: &mut [u8], at: usize, n: u64) -> usize
     requires { at + 20 ≤ length out.old }
     ensures { (result ≡ at + length (decimal n)) × (result ≤ at + 20) × (out.new ≡ over_from at (decimal n) out.old) }
@@ -104,15 +89,12 @@ pub fn write_decimal(out: &mut [u8], at: usize, n: u64) -> usize
     at + count
 }
 
-// Puts the line of a refusal at the front, and answers its length.
+/// Puts the line of a refusal at the front, and answers its length.
 pub fn write_refused(number: u8, place: usize, out: &mut [u8]) -> usize
     requires { 64 ≤ length out.old }
     ensures { (result ≡ length (refused_text number place)) × (result ≤ 64) × (out.new ≡ over (refused_text number place) out.old) }
 {
-    write_bytes(out, 0, b"refused ");
-    let behind = write_decimal(out, 8, number as u64);
-    out[behind] = b' ';
-    let end = write_decimal(out, behind + 1, place as u64);
-    out[end] = b'\n';
-    end + 1
+    let mut text = Writer::new(out);
+    text.push_refused(number, place);
+    text.len
 }

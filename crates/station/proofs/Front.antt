@@ -12,8 +12,8 @@ use lib.Seq.{take-nil, take-take, take_all, get_or-take}
 use Rattle.rules.specs.Text.{Text, starts}
 use Rattle.listing.specs.Listing.{place_text}
 use Rattle.listing.specs.Reading.{place_in, is_line, read_lines, read_list}
-use Rattle.listing.specs.declared.reading.Parsed.{Parsed}
-use Rattle.listing.specs.declared.reading.Parsed.TheVariants.{Count, Bad}
+use Rattle.std.specs.Prelude.{Result, Ok, Err}
+use Rattle.listing.specs.declared.reading.BadLine.{BadLine}
 use Rattle.listing.proofs.Lines.{length_place, read_line, read_bad}
 use Rattle.listing.proofs.RoundTrip.{read_length, read_within}
 use Rattle.station.specs.Station.{parsed_text, moved_text, unless_failed, list_input_text}
@@ -74,19 +74,19 @@ read_front (suc room) n (suc m) (b ∷ s) h = go (is_line (b ∷ s)) refl (read_
         ∙ sym (read_bad (suc room) n (b ∷ s) (omega arith) q)
 
 -- whatever is made of a text as it is read, where one that is no list does not count but for its wrong line
-pub parsed_front : {A : Type 0} (f : Text → Parsed → A) → ((t u : Text) (n : ℕ) → f t (Bad n) ≡ f u (Bad n)) → (m : ℕ) (t : Text) → 196608 < m
+pub parsed_front : {A : Type 0} (f : Text → Result ℕ BadLine → A) → ((t u : Text) (e : BadLine) → f t (Err e) ≡ f u (Err e)) → (m : ℕ) (t : Text) → 196608 < m
     → f (take m t) (read_list 12288 (take m t)) ≡ f t (read_list 12288 t)
 parsed_front f bad m t h = rw (read_front 12288 0 m t h) (go (read_list 12288 t) refl)
   where
-    go : (a : Parsed) → read_list 12288 t ≡ a → f (take m t) a ≡ f t a
-    go (Count n) e =
+    go : (a : Result ℕ BadLine) → read_list 12288 t ≡ a → f (take m t) a ≡ f t a
+    go (Ok n) e =
         let short : length t ≤ m = omega (arith, read_length t 12288 n e, read_within t 12288 n e) in
-        ap (λ (u : Text). f u (Count n)) (take_all m t short)
-    go (Bad n) e = bad (take m t) t n
+        ap (λ (u : Text). f u (Ok n)) (take_all m t short)
+    go (Err r) e = bad (take m t) t r
 
 list_front : (d : ℤ) (m : ℕ) (t : Text) → 196608 < m → moved_text d (take m t) ≡ moved_text d t
 unfolding moved_text parsed_text
-list_front d m t h = parsed_front (parsed_text d) (λ t u n. refl) m t h
+list_front d m t h = parsed_front (parsed_text d) (λ t u e. refl) m t h
 
 -- ---- an input, by where its reader stands
 module _ (d : ℤ) (i : Input) (buffer : List ℕ) where

@@ -4,11 +4,11 @@ use mathlib.Core.Path.{◌≡◌, refl, sym, ap, ◌∙◌}
 use mathlib.Core.Bool.{Bool, true, false}
 use mathlib.Core.List.{List, [], ◌++◌, append-nil}
 use native.Mathlib.Omega.{arith}
-use lib.IntN.{pos}
-use lib.Dec.{leb}
+use Rattle.std.specs.Prelude.{Some}
+use lib.Dec.{leb, eqb}
 use lib.ListN.{length, take, drop, length-append, length-take}
 use lib.Seq.{take-nil, take_all, take_at, take-append-le, take-append-add, length-take-le, drop-length}
-use borrow.Author.Tests.{leb-true, leb-false, lt-ltb}
+use borrow.Author.Tests.{leb-true, leb-false, lt-ltb, eqb-true}
 use Rattle.rules.specs.Text.{Text}
 use Rattle.text.specs.Spans.{over_from}
 use Rattle.text.proofs.Over.{put_both, put_nil, length_put}
@@ -34,10 +34,13 @@ unfolding kept
 kept_part n m c x y e f = f ∙ ap (λ (s : Text). over_from n s x) (take_lesser m (length x - n) c e)
 
 -- after a read of so many bytes the total has grown
-total_after : (n : ℕ) (i : Input) → i.total + n < 2 ^ 64 → (after_read (pos n) i).total ≡ i.total + n
+total_after : (n : ℕ) (i : Input) → i.total + n < 2 ^ 64 → (after_read (Some n) i).total ≡ i.total + n
 unfolding after_read
-total_after zero i h = omega arith
-total_after (suc k) i h = rw (lt-ltb (i.total + suc k) (2 ^ 64) h)
+total_after n i h = go (eqb n 0) refl
+  where
+    go : (y : Bool) → eqb n 0 ≡ y → (after_read (Some n) i).total ≡ i.total + n
+    go true e = rw e (omega (arith, eqb-true n 0 e))
+    go false e = rw (e, lt-ltb (i.total + n) (2 ^ 64) h)
 
 -- what there is room for, and what stands after it
 chunk_front : (n k : ℕ) (c : Text) (buffer : List ℕ) → n + k ≡ length buffer → take (length c) (take k c ++ drop (n + length (take k c)) buffer) ≡ take k c
@@ -106,7 +109,7 @@ module _ (t c : Text) (buffer : List ℕ) (f : take (length buffer) t ≡ take (
       go false p = grows_past (leb-false (length t) (length buffer) p)
 
 reads_more : (t c : Text) (buffer : List ℕ) (i : Input) → length t + length c < 2 ^ 64 → Reads t buffer i
-    → Reads (t ++ c) (kept i.total c buffer) (after_read (pos (length c)) i)
+    → Reads (t ++ c) (kept i.total c buffer) (after_read (Some (length c)) i)
 reads_more t c buffer i h r =
     let total = total_after (length c) i (omega (arith, r.total)) in
     record {

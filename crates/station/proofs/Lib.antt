@@ -5,7 +5,5 @@ pub mod ScriptInput
 pub mod Script
 pub mod Front
 pub mod Kept
-pub mod After
-pub mod Said
-pub mod WrongLine
+pub mod ReadOn
 pub mod Examples

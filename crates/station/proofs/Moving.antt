@@ -1,29 +1,24 @@
 -- The mover on slices whose front a list fills: what stands after the list changes nothing of what is printed. Assumes nothing.
+use Rattle.std.specs.Prelude.{Some, Result, Ok, Err, OnErr, IfOk}
 use Prim.Native.Nat.{ℕ, zero, suc, ◌≤◌}
 use mathlib.Core.Path.{◌≡◌, refl, ap}
 use mathlib.Core.Bool.{Bool, true, false}
-use mathlib.Core.Option.{some}
 use mathlib.Core.List.{List, [], ◌∷◌, ◌++◌, map}
 use native.Mathlib.Omega.{arith}
 use lib.ListN.{length, length-append, length-map}
 use lib.IntN.{ℤ}
 use borrow.Author.Tests.{le-ltb}
 use Rattle.rules.specs.Text.{Text}
-use Rattle.rules.specs.Answer.{Answer as Ruled, accepted, refused}
+use Rattle.rules.specs.Answer.{Answer, accepted, refused}
 use Rattle.rules.specs.Assemble.{Place, Slices, short, over, holding}
 use Rattle.rules.specs.Relocate.{first_in, first_index, bad_mark, first_bad_mark, move_addresses, move_words, move_answer, move_by, move_slices}
 use Rattle.rules.specs.Tally.{list_in, held}
-use Rattle.answer.specs.declared.Answer.{Answer}
-use Rattle.answer.specs.Answer.{answer_of}
 use Rattle.listing.specs.Listing.{list_text}
-use Rattle.listing.specs.Reading.{room_in, read_list, places_in, places_read, Read}
+use Rattle.listing.specs.Reading.{room_in, bad, read_list, places_in}
 use Rattle.rules.specs.Assemble.{slices}
-use Rattle.listing.specs.declared.reading.Parsed.{Parsed}
-use Rattle.listing.specs.declared.reading.Parsed.TheVariants.{Count, Bad}
+use Rattle.listing.specs.declared.reading.BadLine.{BadLine}
 use Rattle.listing.proofs.RoundTrip.{length_places}
-use Rattle.relocate.specs.Moved.{Moved}
-use Rattle.relocate.proofs.Verdict.{passed}
-use Rattle.relocate.proofs.Callers.{move_keeps_marks, by_slice}
+use Rattle.relocate.proofs.Callers.{accepted_fits}
 use Rattle.station.specs.Station.{answer_text, wrong_line_text, filled_by, moved_slices_text, parsed_text, moved_text}
 
 -- slices that a list fills, and more after it
@@ -54,7 +49,7 @@ unfolding first_bad_mark
 bad_front b i xs ys zero h = refl
 bad_front b i [] ys (suc n) h = absurd (omega arith)
 bad_front b i (x ∷ xs) ys (suc n) h =
-    λ k. elim (bad_mark b x (next_front xs ys n (omega arith) k)) [ true ↦ some i | false ↦ bad_front x (suc i) xs ys n (omega arith) k ]
+    λ k. elim (bad_mark b x (next_front xs ys n (omega arith) k)) [ true ↦ Some i | false ↦ bad_front x (suc i) xs ys n (omega arith) k ]
 
 pub long_enough : (x : Slices) (n : ℕ) → n ≤ length x.addresses → n ≤ length x.words → n ≤ length x.marks → short x n ≡ false
 unfolding short
@@ -81,28 +76,24 @@ module _ (d : ℤ) (l : List Place) (n : ℕ) (e : length l ≡ n) (xs ws ms : L
   unfolding moved_slices_text move_slices move_by answer_text filled_by
   same_text = rw same_answer (go (move_answer (filled_by l) n d) refl)
     where
-      go : (a : Ruled ℕ) → move_answer (filled_by l) n d ≡ a
-          → answer_text (answer_of a) (move_by a d (filled_then l xs ws ms)) ≡ answer_text (answer_of a) (move_by a d (filled_by l))
+      go : (a : Answer ℕ) → move_answer (filled_by l) n d ≡ a
+          → answer_text a (move_by a d (filled_then l xs ws ms)) ≡ answer_text a (move_by a d (filled_by l))
       go (refused r p) f = refl
       go (accepted m) f =
-          let h : m ≤ length l = rw (length-map l (λ (p : Place). p.address)) at (passed (filled_by l) n d m (ap answer_of f)).long.addresses in
+          let h : m ≤ length l = rw (length-map l (λ (p : Place). p.address)) at (accepted_fits (filled_by l) n d m f).1 in
           ap list_text (listed_front d m l xs ws ms h)
 
--- ---- a text read into slices with room for 12,288 places
-module _ (d : ℤ) (t : Text) (x y : Slices) (room : room_in x ≡ 12288) (a : Parsed) (read : Read t x y a) where
-  answered : a ≡ read_list 12288 t
-  answered = rw room at read.answer
-
+-- ---- a text read into slices with room for 12,288 places, which gives y
+module _ (d : ℤ) (t : Text) (x y : Slices) (room : room_in x ≡ 12288) where
   -- it is a list, and the slices after the move are printed by the mover's answer
-  pub moved_text_lem : (n : ℕ) → a ≡ Count n → (r : Answer) (xs ws : List ℕ) → Moved y n d r xs ws → answer_text r (slices xs ws y.marks) ≡ moved_text d t
-  unfolding moved_text parsed_text moved_slices_text places_read holding over
-  moved_text_lem n e r xs ws m =
-      let l = places_in n t in
-      let filled : y ≡ holding l x = rw e at read.after in
-      let after = by_slice (move_slices y n d) xs ws y.marks m.addresses m.words (move_keeps_marks y n d) in
-      rw (m.answer, after, ← answered, e, filled) (same_text d l n (length_places n t) _ _ _)
+  pub moved_text_lem : (n : ℕ) → Ok n ≡ read_list (room_in x) t → y ≡ holding (places_in n t) x → (a : Answer ℕ) (z : Slices)
+      → a ≡ move_answer y n d → z ≡ move_slices y n d → answer_text a z ≡ moved_text d t
+  unfolding moved_text parsed_text moved_slices_text holding over
+  moved_text_lem n e f a z g h =
+      let read : Ok n ≡ read_list 12288 t = rw room at e in
+      rw (g, h, ← read, f) (same_text d (places_in n t) n (length_places n t) _ _ _)
 
   -- it is no list
-  pub refused_text : (n : ℕ) → a ≡ Bad n → wrong_line_text n ≡ moved_text d t
+  pub refused_text : (e : BadLine) → Err e ≡ read_list (room_in x) t → wrong_line_text e.number ≡ moved_text d t
   unfolding moved_text parsed_text
-  refused_text n e = rw (← answered, e)
+  refused_text e f = let read : Err e ≡ read_list 12288 t = rw room at f in rw (← read)

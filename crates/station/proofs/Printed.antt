@@ -12,7 +12,7 @@ use borrow.Author.Tests.{ltb-true, ltb-false}
 use Rattle.rules.specs.Text.{Text}
 use Rattle.rules.specs.Assemble.{over}
 use Rattle.rules.specs.Tally.{list_in, held}
-use Rattle.answer.specs.declared.Answer.TheVariants.{Accepted}
+use Rattle.rules.specs.Answer.{accepted}
 use Rattle.listing.specs.Listing.{list_text}
 use Rattle.rules.specs.Assemble.{slices}
 use Rattle.listing.proofs.RoundTrip.{length_list}
@@ -59,7 +59,7 @@ module _ (n k : ℕ) (xs ws ms : List ℕ) (a : length xs ≡ k) (b : length ws 
 
   -- the text of an accepted answer, written for as many places as there are
   pub printed_list : (r i : ℕ) (x y : List ℕ) → i ≡ min n k → r ≡ 16 * i → y ≡ over (list_text (list_in i xs ws ms)) x
-      → Printed (answer_text (Accepted n) (slices xs ws ms)) r x y
+      → Printed (answer_text (accepted n) (slices xs ws ms)) r x y
   unfolding answer_text held
   printed_list r i x y e f g =
       let s : list_in i xs ws ms ≡ list_in n xs ws ms = rw e listed_within in

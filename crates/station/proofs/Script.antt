@@ -5,14 +5,11 @@ use mathlib.Core.List.{List}
 use native.Mathlib.Omega.{arith}
 use lib.ListN.{length}
 use Rattle.rules.specs.Text.{Text}
-use Rattle.rules.specs.Answer.{Answer as Ruled, accepted, refused, refuse_if, and_then}
+use Rattle.rules.specs.Answer.{Answer, accepted, refused, refuse_if, and_then}
 use Rattle.rules.specs.Assemble.{Place, Slices, assemble, assemble_answer, write_list, assemble_slices, assemble_by, pass_at_by, room}
 use Rattle.promises.specs.Longest.{AtMostTwoALine}
 use Rattle.promises.proofs.Longest.{at_most_two_a_line}
 use Rattle.promises.proofs.Demand1.{written}
-use Rattle.answer.specs.declared.Answer.{Answer}
-use Rattle.answer.specs.Answer.{answer_of}
-use Rattle.assemble.specs.Assembled.{Assembled}
 use Rattle.listing.specs.Listing.{list_text}
 use Rattle.station.specs.Station.{answer_text, listed_text, script_text}
 use Rattle.station.proofs.Moving.{long_enough}
@@ -23,9 +20,9 @@ unfolding AtMostTwoALine
 longest t l e = (at_most_two_a_line t 0 l e).1
 
 -- of any call that answers a list of at most n places: what is printed of slices with n places is the list, or the refusal
-pub list_printed : (n : ℕ) (d : Ruled (List Place)) → ((l : List Place) → d ≡ accepted l → length l ≤ n)
+pub list_printed : (n : ℕ) (d : Answer (List Place)) → ((l : List Place) → d ≡ accepted l → length l ≤ n)
     → (x : Slices) → n ≤ length x.addresses → n ≤ length x.words → n ≤ length x.marks
-    → answer_text (answer_of (and_then d (room x))) (write_list d x) ≡ listed_text d
+    → answer_text (and_then d (room x)) (write_list d x) ≡ listed_text d
 unfolding answer_text listed_text room and_then refuse_if write_list
 list_printed n (refused r p) few x a b c = refl
 list_printed n (accepted l) few x a b c =
@@ -34,9 +31,9 @@ list_printed n (accepted l) few x a b c =
 
 -- after a call of the assembler
 pub assembled : (t : Text) (x : Slices) → 8192 ≤ length x.addresses → 8192 ≤ length x.words → 8192 ≤ length x.marks
-    → (r : Answer) (y : Slices) → Assembled 0 t x r y → answer_text r y ≡ script_text t
+    → (r : Answer ℕ) (y : Slices) → r ≡ assemble_answer 0 t x → y ≡ assemble_slices 0 t x → answer_text r y ≡ script_text t
 unfolding script_text assemble_answer assemble_slices
-assembled t x a b c r y d = rw (d.answer, d.slices) (list_printed 8192 (assemble 0 t) (longest t) x a b c)
+assembled t x a b c r y e f = rw (e, f) (list_printed 8192 (assemble 0 t) (longest t) x a b c)
 
 pub script_refuses_long : RefusesLong script_text
 unfolding script_text listed_text pass_at_by assemble_by and_then

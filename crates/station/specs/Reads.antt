@@ -1,5 +1,6 @@
 -- Where a program stands that reads its input chunk by chunk, and what it keeps of the input. Assumes nothing.
-use Rattle.std.specs.Prelude.{ℕ, zero, suc, ◌+◌, ◌-◌, ◌^◌, ◌<◌, ◌≡◌, true, false, cond, List, [], ◌++◌, ℤ, pos, negsuc, ltb, length, take}
+use Rattle.std.specs.Prelude.{ℕ, ◌+◌, ◌-◌, ◌^◌, ◌<◌, ◌≡◌, true, false, cond, List, [], ◌++◌, Option, None, Some, eqb, ltb, length, take}
+use Rattle.std.specs.Io.KnownBytes.{Consumes, IsAtEnd}
 use Rattle.rules.specs.Text.{Text}
 use Rattle.text.specs.Spans.{over_from}
 use Rattle.station.specs.declared.input.Input.{Input}
@@ -11,16 +12,12 @@ at_start = record { total = 0; more = true; failed = false }
 abbrev pub failed_at : ℕ → Input
 failed_at n = record { total = n; more = false; failed = true }
 
--- before the first read of a script, behind a branch table
-unfoldable pub start_after : Input → Input
-start_after table = cond table.failed (failed_at 0) at_start
-
--- after a read that answered 0, so many bytes, or a failure
-unfoldable pub after_read : ℤ → Input → Input
-after_read (pos zero) i = record { total = i.total; more = false; failed = i.failed }
-after_read (pos (suc k)) i =
-    cond (ltb (i.total + suc k) (2 ^ 64)) (record { total = i.total + suc k; more = true; failed = i.failed }) (failed_at i.total)
-after_read (negsuc k) i = failed_at i.total
+-- after a read that gave so many bytes, 0 at the end, or that failed
+unfoldable pub after_read : Option ℕ → Input → Input
+after_read None i = failed_at i.total
+after_read (Some n) i =
+    cond (eqb n 0) (record { total = i.total; more = false; failed = i.failed })
+    (cond (ltb (i.total + n) (2 ^ 64)) (record { total = i.total + n; more = true; failed = i.failed }) (failed_at i.total))
 
 -- a bound on what may still be read
 unfoldable pub left : Input → ℕ
@@ -39,4 +36,18 @@ pub record Reads (t : Text) (buffer : List ℕ) (i : Input) : Type 0 where
 pub record ReadsOn : Type 0 where
   pub none : (buffer : List ℕ) → Reads [] buffer at_start
   pub more : (t chunk : Text) (buffer : List ℕ) (i : Input) → length t + length chunk < 2 ^ 64 → Reads t buffer i
-      → Reads (t ++ chunk) (kept i.total chunk buffer) (after_read (pos (length chunk)) i)
+      → Reads (t ++ chunk) (kept i.total chunk buffer) (after_read (Some (length chunk)) i)
+
+-- old, the bytes that a reader gives, where they are known, and x, the buffer before the first read; i, where it stands, new, the bytes that are
+-- left, and y, the buffer: some text was read, and its front is put over that of x. After a read that failed nothing is said.
+pub record ReadFrom (old : Option (List ℕ)) (x : List ℕ) (new : Option (List ℕ)) (y : List ℕ) (i : Input) : Type 0 where
+  pub text : Text
+  pub consumed : i.failed ≡ false → Consumes old new text
+  pub at_end : i.failed ≡ false → i.more ≡ false → IsAtEnd new
+  pub reads : i.failed ≡ false → Reads text y i
+  pub after : i.failed ≡ false → y ≡ kept 0 text x
+
+-- and no more will be read
+pub record ReadWhole (old : Option (List ℕ)) (x : List ℕ) (new : Option (List ℕ)) (y : List ℕ) (i : Input) : Type 0 where
+  pub part : ReadFrom old x new y i
+  pub over : i.more ≡ false

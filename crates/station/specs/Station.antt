@@ -1,33 +1,25 @@
 -- The texts that the programs at the station print: `asmlist` for a script, `movelist` for a text and a distance. Assumes nothing.
-use Rattle.std.specs.Prelude.{ℕ, ◌-◌, ◌^◌, Bool, true, false, ◌&&◌, cond, List, [], ◌∷◌, ◌++◌, map, ℤ, eqb, ltb, length, take}
-use Rattle.std.proofs.Math.Option.{get_or}
+use Rattle.std.specs.Prelude.{ℕ, ◌-◌, ◌^◌, Bool, true, false, ◌&&◌, cond, List, [], ◌∷◌, ◌++◌, map, ℤ, Option, None, Result, Ok, Err, eqb, ltb, length, take, unwrap_or}
 use Rattle.rules.specs.Limits.{max_source}
 use Rattle.rules.specs.Text.{Text, bytes, same}
 use Rattle.rules.specs.Number.{Reading, unsigned_reading, signed, hex_tail}
-use Rattle.rules.specs.Answer.{Answer as Ruled, accepted, refused}
+use Rattle.rules.specs.Answer.{Answer, accepted, refused}
 use Rattle.rules.specs.Assemble.{Place, Slices, slices, assemble}
 use Rattle.rules.specs.Relocate.{move_answer, move_slices}
 use Rattle.rules.specs.Tally.{held}
-use Rattle.answer.specs.declared.Answer.{Answer}
-use Rattle.answer.specs.declared.Answer.TheVariants.{Accepted, Refused}
-use Rattle.answer.specs.Answer.{answer_of}
 use Rattle.listing.specs.Listing.{decimal, list_text, refused_text}
 use Rattle.listing.specs.Reading.{read_list, places_in}
-use Rattle.listing.specs.Distance.{distance_of}
-use Rattle.listing.specs.declared.distance.Distance.{Distance}
-use Rattle.listing.specs.declared.distance.Distance.TheVariants.{Bad as NoDistance}
-use Rattle.listing.specs.declared.reading.Parsed.{Parsed}
-use Rattle.listing.specs.declared.reading.Parsed.TheVariants.{Count, Bad}
+use Rattle.listing.specs.declared.reading.BadLine.{BadLine}
 use Rattle.station.specs.declared.input.Input.{Input}
 use Rattle.station.specs.declared.arguments.Given.{Given}
 
 -- "a line per word" of the list that the slices hold; "a refusal prints the one line"
-unfoldable pub answer_text : Answer → Slices → Text
-answer_text (Accepted n) x = list_text (held n x)
-answer_text (Refused r p) x = refused_text r p
+unfoldable pub answer_text : Answer ℕ → Slices → Text
+answer_text (accepted n) x = list_text (held n x)
+answer_text (refused r p) x = refused_text r p
 
 -- the same of a list that is not in slices
-unfoldable pub listed_text : Ruled (List Place) → Text
+unfoldable pub listed_text : Answer (List Place) → Text
 listed_text (accepted l) = list_text l
 listed_text (refused r p) = refused_text r p
 
@@ -55,12 +47,12 @@ filled_by l = slices (map (λ p. p.address) l) (map (λ p. p.word) l) (map (λ p
 
 -- what is printed for slices after a call of the mover with a count
 unfoldable pub moved_slices_text : ℤ → ℕ → Slices → Text
-moved_slices_text d n x = answer_text (answer_of (move_answer x n d)) (move_slices x n d)
+moved_slices_text d n x = answer_text (move_answer x n d) (move_slices x n d)
 
 -- what is printed for a text, read as so many lines or as no list
-unfoldable pub parsed_text : ℤ → Text → Parsed → Text
-parsed_text d t (Count n) = moved_slices_text d n (filled_by (places_in n t))
-parsed_text d t (Bad n) = wrong_line_text n
+unfoldable pub parsed_text : ℤ → Text → Result ℕ BadLine → Text
+parsed_text d t (Ok n) = moved_slices_text d n (filled_by (places_in n t))
+parsed_text d t (Err e) = wrong_line_text e.number
 
 -- what `movelist` prints, for up to 12,288 lines, the longest list there is
 unfoldable pub moved_text : ℤ → Text → Text
@@ -84,12 +76,12 @@ tabled_failure_text name table i written =
 -- ---- arguments
 
 -- the distance, if there is just one argument besides the program's name, and it is a number of 32 bits with an optional sign
-unfoldable pub given_distance : ℕ → Text → Distance
-given_distance count t = cond (eqb count 2) (distance_of (signed 10 (2 ^ 31) t)) NoDistance
+unfoldable pub given_distance : ℕ → Text → Option ℤ
+given_distance count t = cond (eqb count 2) (signed 10 (2 ^ 31) t) None
 
 -- a number of 32 bits in hexadecimal, with or without a prefix
 unfoldable pub hexadecimal_in : Text → Reading ℕ
-hexadecimal_in t = unsigned_reading 16 (2 ^ 32) (get_or (hex_tail t) t)
+hexadecimal_in t = unsigned_reading 16 (2 ^ 32) (unwrap_or (hex_tail t) t)
 
 -- `-b FILE` before the other arguments lends a branch table (W-210): the program's name, these two, and the file's name is not empty
 unfoldable pub lends_table : ℕ → Text → Text → Bool

@@ -4,70 +4,65 @@ ghost use Rattle.rules.specs.Text.{same, bytes};
 ghost use Rattle.station.specs.Station.{given_distance, hexadecimal_in, lends_table, given_table};
 ghost use Rattle.numeral.specs.Number.{number_of};
 
-use listing::distance::{Distance, parse_distance};
-use numeral::unsigned::{Number, prefix_length, read_number};
+use listing::distance::parse_distance;
+use numeral::Failure;
+use numeral::unsigned::{prefix_length, read_number};
 use text::starts_with;
 
-// What is told before a program's own arguments: whether a branch table is lent, by `-b FILE` (W-210).
-#[derive(Clone, Copy)]
+/// What is told before a program's own arguments: whether a branch table is lent, by `-b FILE` (W-210).
+#[derive(Clone, Copy, Debug, PartialEq, Eq, Hash)]
 pub struct Given {
     pub lent: bool,
-    // How many arguments there are without these two.
+    /// How many arguments there are without these two.
     pub count: usize,
-    // Which are the first and the second of the others.
+    /// Which is the first of the others.
     pub first: usize,
+    /// Which is the second of the others.
     pub second: usize,
 }
 
-// Whether a program that takes no argument has none.
+/// Whether a program that takes no argument has none.
 pub fn are_none(count: usize) -> bool
     ensures { result ≡ leb count 1 }
 {
     count <= 1
 }
 
-// The distance in a program's one argument, `text`.
-pub fn given_distance(count: usize, text: &[u8]) -> Distance
+/// The distance in a program's one argument, `text`; None where that is no distance, or not the only argument.
+#[tactic(auto, unfolding(crate::specs::Station::given_distance))]
+pub fn given_distance(count: usize, text: &[u8]) -> Option<i32>
     ensures { result ≡ given_distance count text.now }
 {
     if count != 2 {
-        return Distance::Bad;
+        return None;
     }
     parse_distance(text)
 }
 
-// The number of 32 bits in an argument, in hexadecimal as lists print addresses, with or without a prefix.
-pub fn hexadecimal(text: &[u8]) -> Number
+/// The number of 32 bits in an argument, in hexadecimal as lists print addresses, with or without a prefix.
+pub fn hexadecimal(text: &[u8]) -> Result<u32, Failure>
     ensures { result ≡ number_of (hexadecimal_in text.now) }
 {
     let n = prefix_length(text);
-    read_number(&text[n..], 16, 4294967296)
+    read_number(&text[n..], 16, 1 << 32)
 }
 
 // Whether an argument is `-b`.
 fn is_table_option(option: &[u8]) -> bool
     ensures { result ≡ same option.now (bytes "-b") }
 {
-    if option.len() != 2 {
-        return false;
-    }
-    starts_with(option, b"-b")
+    option.len() == 2 && starts_with(option, b"-b")
 }
 
 // Whether the first two arguments are `-b` and a file's name.
+#[tactic(auto, unfolding(crate::specs::Station::lends_table))]
 fn lends_table(count: usize, option: &[u8], file: &[u8]) -> bool
     ensures { result ≡ lends_table count option.now file.now }
 {
-    if count <= 2 {
-        return false;
-    }
-    if file.len() == 0 {
-        return false;
-    }
-    is_table_option(option)
+    2 < count && 0 < file.len() && is_table_option(option)
 }
 
-// What the first two arguments tell of a branch table.
+/// What the first two arguments tell of a branch table.
 pub fn given_table(count: usize, option: &[u8], file: &[u8]) -> Given
     ensures { result ≡ given_table count option.now file.now }
 {

@@ -4,10 +4,9 @@ ghost use Rattle.station.specs.Station.{failure_text, tabled_failure_text};
 ghost use Rattle.station.specs.Printed.{Printed};
 
 use crate::input::Input;
-use crate::lesser;
-use listing::writing::write_bytes;
+use listing::writer::Writer;
 
-// Room for what is said.
+/// Room for what is said.
 pub const SAID: usize = 128;
 
 // As much of a program's name as is said.
@@ -18,13 +17,13 @@ fn write_said(name: &[u8], words: &[u8], out: &mut [u8; SAID]) -> usize
     requires { length words.now ≤ 96 }
     ensures { Printed (take 32 name.now ++ words.now) result out.old out.new }
 {
-    let n = lesser(name.len(), NAME);
-    write_bytes(out, 0, &name[..n]);
-    write_bytes(out, n, words);
-    n + words.len()
+    let mut text = Writer::new(out);
+    text.push_bytes(&name[..name.len().min(NAME)]);
+    text.push_bytes(words);
+    text.len
 }
 
-// Puts what a program says at its end at the front, and answers its length: nothing if all was read and written.
+/// Puts what a program says at its end at the front, and answers its length: nothing if all was read and written.
 pub fn failure_text(name: &[u8], input: Input, written: bool, out: &mut [u8; SAID]) -> usize
     ensures { Printed (failure_text name.now input written) result out.old out.new }
 {
@@ -37,7 +36,7 @@ pub fn failure_text(name: &[u8], input: Input, written: bool, out: &mut [u8; SAI
     0
 }
 
-// The same of a program that may read a branch table before its input.
+/// The same of a program that may read a branch table before its input.
 pub fn tabled_failure_text(
     name: &[u8],
     table: Input,

@@ -1,21 +1,21 @@
 // Where a program stands that reads its input chunk by chunk, and the front of the input that it keeps.
-ghost use Rattle.std.specs.Prelude.{◌≡◌, true, ◌<◌};
-ghost use Rattle.station.specs.Reads.{at_start, start_after, after_read, left, kept};
+ghost use Rattle.std.specs.Prelude.{◌≡◌, ◌<◌, ◌≤◌, true, false, ℕ, List, Option};
+ghost use Rattle.station.specs.Reads.{at_start, failed_at, after_read, left, kept, ReadFrom, ReadWhole};
 
-use crate::{LIST, SCRIPT, lesser};
 use listing::writing::write_bytes;
+use std::io::Read;
 
-#[derive(Clone, Copy)]
+#[derive(Clone, Copy, Debug, PartialEq, Eq, Hash)]
 pub struct Input {
-    // The bytes read so far.
+    /// The bytes read so far.
     pub total: usize,
-    // There may be more.
+    /// There may be more.
     pub more: bool,
-    // A read failed; or there are more bytes than a `usize` counts.
+    /// A read failed; or there are more bytes than a `usize` counts.
     pub failed: bool,
 }
 
-// Before the first read.
+/// Before the first read.
 pub fn start() -> Input
     ensures { result ≡ at_start }
 {
@@ -26,43 +26,10 @@ pub fn start() -> Input
     }
 }
 
-// Before the first read of a script, behind a branch table: where that could not be read nothing more is.
-pub fn start_after(table: Input) -> Input
-    ensures { result ≡ start_after table }
+/// Where so many bytes were read and no more can be.
+pub fn failed_at(total: usize) -> Input
+    ensures { result ≡ failed_at total }
 {
-    if table.failed {
-        return Input {
-            total: 0,
-            more: false,
-            failed: true,
-        };
-    }
-    start()
-}
-
-// After a read that answered `got`: so many bytes, 0 at the input's end, or a failure. A loop of reads ends, since less is left.
-pub fn after_read(input: Input, got: isize) -> Input
-    ensures value { result ≡ after_read got input }
-    ensures result_bound { input.more ≡ true → left result < left input }
-{
-    let total = input.total;
-    if got == 0 {
-        return Input {
-            total,
-            more: false,
-            failed: input.failed,
-        };
-    }
-    if got > 0 {
-        let count = got as usize;
-        if count <= usize::MAX - total {
-            return Input {
-                total: total + count,
-                more: true,
-                failed: input.failed,
-            };
-        }
-    }
     Input {
         total,
         more: false,
@@ -70,27 +37,81 @@ pub fn after_read(input: Input, got: isize) -> Input
     }
 }
 
-// Puts a chunk after the first `total` bytes of what is kept, as far as there is room.
+/// After a read that gave so many bytes, 0 at the input's end, or none where it failed. A loop of reads ends, since less is left.
+#[tactic(auto, unfolding(crate::specs::Reads::after_read, crate::specs::Reads::left))]
+pub fn after_read(input: Input, got: Option<usize>) -> Input
+    ensures value { result ≡ after_read got input }
+    ensures result_bound { input.more ≡ true → left result < left input }
+{
+    let total = input.total;
+    let Some(count) = got else {
+        return failed_at(total);
+    };
+    if count == 0 {
+        return Input {
+            more: false,
+            ..input
+        };
+    }
+    if usize::MAX - total < count {
+        return failed_at(total);
+    }
+    Input {
+        total: total + count,
+        more: true,
+        failed: input.failed,
+    }
+}
+
+#[tactic(auto, using(crate::proofs::Kept::kept_full, crate::proofs::Kept::kept_part))]
+/// Puts a chunk after the first `total` bytes of what is kept, as far as there is room.
 pub fn keep(buffer: &mut [u8], total: usize, chunk: &[u8])
     ensures { buffer.new ≡ kept total chunk.now buffer.old }
 {
     if buffer.len() <= total {
         return;
     }
-    let n = lesser(buffer.len() - total, chunk.len());
+    let n = chunk.len().min(buffer.len() - total);
     write_bytes(buffer, total, &chunk[..n]);
 }
 
-// Keeps a chunk of a script.
-pub fn keep_script(script: &mut [u8; SCRIPT], total: usize, chunk: &[u8])
-    ensures { script.new ≡ kept total chunk.now script.old }
+// Reads a chunk, and keeps as much of it as there is room for.
+
+fn read_more<R: Read, const CHUNK: usize>(from: &mut R, input: Input, buffer: &mut [u8]) -> Input
+    requires { (0 < CHUNK) × (CHUNK ≤ 65536) }
+    ensures by_index { (old : Option (List ℕ)) (x : List ℕ) → ReadFrom old x (R.remaining from.old) buffer.old input → ReadFrom old x (R.remaining from.new) buffer.new result }
+    ensures result_bound { input.more ≡ true → left result < left input }
 {
-    keep(script, total, chunk);
+    let mut chunk = [0u8; CHUNK];
+    let got = from.read(&mut chunk).ok();
+    keep(buffer, input.total, &chunk[..got.unwrap_or(0)]);
+    after_read(input, got)
 }
 
-// Keeps a chunk of a list's text.
-pub fn keep_list(list: &mut [u8; LIST], total: usize, chunk: &[u8])
-    ensures { list.new ≡ kept total chunk.now list.old }
+/// Reads to the end, and keeps the front. Where the reader's bytes are known and no read failed, they are what was read.
+pub fn read_whole<R: Read, const CHUNK: usize>(from: &mut R, buffer: &mut [u8]) -> Input
+    requires { (0 < CHUNK) × (CHUNK ≤ 65536) }
+    ensures { ReadWhole (R.remaining from.old) buffer.old (R.remaining from.new) buffer.new result }
 {
-    keep(list, total, chunk);
+    let mut input = start();
+    while input.more {
+        input = read_more::<R, CHUNK>(from, input, buffer);
+    }
+    input
+}
+
+/// Reads a script to the end behind a branch table: where that could not be read nothing more is.
+pub fn read_behind<R: Read, const CHUNK: usize>(
+    table: Input,
+    from: &mut R,
+    buffer: &mut [u8],
+) -> Input
+    requires { (0 < CHUNK) × (CHUNK ≤ 65536) }
+    ensures unread { table.failed ≡ true → (result ≡ failed_at 0) × (buffer.new ≡ buffer.old) }
+    ensures read { table.failed ≡ false → ReadWhole (R.remaining from.old) buffer.old (R.remaining from.new) buffer.new result }
+{
+    if table.failed {
+        return failed_at(0);
+    }
+    read_whole::<R, CHUNK>(from, buffer)
 }

@@ -11,4 +11,4 @@ pub returns-then-input : goal.returns-then-input
 returns-then-input c = record { printed = rw (list_failed c.args.distance c.args.input c.args.list.now c.if-input.true) (printed_none _); list_value = (λ t r. list_front_is_enough _ _ _ t (λ f. absurd (false≢true (sym f ∙ c.if-input.true))) r) }
 
 pub returns : goal.returns
-returns c = record { printed = rw (← (list_read c.args.distance c.args.input c.args.list.now c.if-input.false c.lesser-length.result (omega arith))) (rw (to_z-of_z c.ranges.distance) at c.move_text.ensures); list_value = (λ t r. list_front_is_enough _ _ _ t (λ f. omega arith) r) }
+returns c = record { printed = rw (← (list_read c.args.distance c.args.input c.args.list.now c.if-input.false c.min.result (omega arith))) (rw (to_z-of_z c.ranges.distance) at c.move_text.ensures); list_value = (λ t r. list_front_is_enough _ _ _ t (λ f. omega arith) r) }

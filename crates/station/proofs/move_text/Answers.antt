@@ -1,26 +1,17 @@
--- `move_text` meets its contract: the text is read, and either the list is moved and printed, or the wrong line is. Assumes nothing.
--- the slices after the text is read
-use mathlib.Core.Path.{refl, sym}
-use native.Mathlib.Omega.{arith}
-use lib.Seq.{length-take-le}
+-- The text is read, and either the list is moved and printed, or the wrong line is.
+use Rattle.std.proofs.Common.{refl, replicate}
 use mir.Facts.{to_z-of_z}
-use Rattle.rules.specs.Assemble.{Slices}
 use Rattle.rules.specs.Assemble.{slices}
 use Rattle.station.proofs.Moving.{moved_text_lem, refused_text}
 use Rattle.station.proofs.move_text.Goals as goal
-use Rattle.station.proofs.move_text.Goals.{After-read_list-parsed}
 
-abbrev filled : After-read_list-parsed → Slices
-filled c = slices c.read_list-parsed.new.addresses c.read_list-parsed.new.words c.read_list-parsed.new.marks
-
-pub slice_bounds-read_list-end : goal.slice_bounds-read_list-end
-slice_bounds-read_list-end c = sym (length-take-le _ _ (omega arith))
-
-pub returns-in-Count : goal.returns-in-Count
-returns-in-Count c =
+pub returns-in-Ok : goal.returns-in-Ok
+returns-in-Ok c =
+    let zeros = slices (replicate 12288 0) (replicate 12288 0) (replicate 12288 0) in
     let e = to_z-of_z c.ranges.distance in
-    rw (moved_text_lem _ _ _ (filled (goal.at.returns-in-Count c).After-read_list-parsed) refl _ c.read_list-parsed.ensures _ c.in-Count.is _ _ _ (rw e at c.relocate-answer.ensures)) at c.write_answer.ensures
+    rw (moved_text_lem c.args.distance c.args.list.now zeros _ refl _ c.in-Ok.ensures.answer c.in-Ok.ensures.filled _ _ (rw e at c.relocate-answer.ensures.answer) (rw e at c.relocate-answer.ensures.slices)) at c.write_answer.ensures
 
-pub returns-in-Bad : goal.returns-in-Bad
-returns-in-Bad c =
-    rw (refused_text c.args.distance _ _ (filled (goal.at.returns-in-Bad c).After-read_list-parsed) refl _ c.read_list-parsed.ensures _ c.in-Bad.is) at c.write_wrong_line.ensures
+pub returns-in-Err : goal.returns-in-Err
+returns-in-Err c =
+    let zeros = slices (replicate 12288 0) (replicate 12288 0) (replicate 12288 0) in
+    rw (refused_text c.args.distance c.args.list.now zeros zeros refl _ c.in-Err.ensures.answer) at c.write_wrong_line.ensures

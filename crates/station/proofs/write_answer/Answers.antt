@@ -1,18 +1,12 @@
--- `write_answer` meets its contract: a list of as many places as there are, or a refusal's line. Assumes nothing.
-use native.Mathlib.Omega.{arith}
+-- A list of as many places as there are, or a refusal's line.
+use Rattle.std.proofs.Common.{arith}
 use Rattle.station.specs.Station.{answer_text}
-use Rattle.station.proofs.Printed.{printed, printed_list}
+use Rattle.station.proofs.Printed.{printed_list}
 use Rattle.station.proofs.write_answer.Goals as goal
 
-pub returns-in-Accepted : goal.returns-in-Accepted
-returns-in-Accepted c =
-    let told = c.in-Accepted.is in
-    let w = c.write_list.ensures in
-    rw told (printed_list _ 12288 _ _ _ (omega arith) (omega arith) (omega arith) _ _ _ _ c.lesser.ensures w.0 w.1)
+pub returns-in-Ok : goal.returns-in-Ok
+returns-in-Ok c = rw c.in-Ok.is (printed_list _ 12288 _ _ _ (omega arith) (omega arith) (omega arith) _ _ _ _ c.min.ensures c.write_list.ensures.0 c.write_list.ensures.1)
 
-pub returns-in-Refused : goal.returns-in-Refused
+pub returns-in-Err : goal.returns-in-Err
 unfolding answer_text
-returns-in-Refused c =
-    let told = c.in-Refused.is in
-    let w = c.write_refused.ensures in
-    rw told (printed _ _ _ _ w.0 w.2)
+returns-in-Err c = rw c.in-Err.is c.write_refusal.ensures

@@ -1,12 +1,13 @@
--- `write_wrong_line` meets its contract: the words, and the number after them. Assumes nothing.
-use native.Mathlib.Omega.{arith}
+-- The words, and the number after them.
+use Rattle.std.proofs.Common.{rules}
 use Rattle.rules.specs.Text.{bytes}
-use Rattle.station.proofs.WrongLine.{wrong_line}
+use Rattle.listing.proofs.Adding.{adds_both, adds_all}
+use Rattle.station.specs.Station.{wrong_line_text}
+use Rattle.station.proofs.Printed.{printed}
 use Rattle.station.proofs.write_wrong_line.Goals as goal
 
 pub returns : goal.returns
-unfolding bytes
+unfolding wrong_line_text bytes
 returns c =
-    let number = c.write_decimal-end.ensures in
-    let words = c.write_bytes.ensures in
-    wrong_line _ _ _ _ _ (omega arith) words number.2 number.0
+    let h = adds_all c.new-text.ensures (adds_both (adds_both c.push_bytes.ensures c.push_decimal.ensures.text) c.push.ensures) in
+    printed _ _ _ _ h.0 (search rules)

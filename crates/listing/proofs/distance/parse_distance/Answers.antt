@@ -1,18 +1,15 @@
--- `parse_distance` meets its contract: a signed number of 32 bits, if one is read. Assumes nothing.
-use Prim.Native.Nat.{◌^◌}
-use mathlib.Core.Path.{◌≡◌, sym, ap, ◌∙◌}
-use mir.Syntax.{w32}
-use mir.Val.{to_z, of_z}
-use borrow.Author.Rules.{rules}
-use Rattle.numeral.proofs.Answers.{signed_some, signed_none}
-use Rattle.listing.specs.Distance.{distance_of}
-use Rattle.listing.specs.declared.distance.Distance.TheVariants.{Value}
+-- A reading that failed is no distance.
+use Rattle.std.proofs.Common.{◌≡◌, ◌^◌, ℤ, refl, ap, ◌∙◌}
+use Rattle.std.specs.Result.{result_ok}
+use Rattle.rules.specs.Number.{Reading, read, failed, signed_reading, value_of, signed}
+use Rattle.numeral.specs.Number.{signed_of}
 use Rattle.listing.proofs.distance.parse_distance.Goals as goal
 
-pub returns-in-Value : goal.returns-in-Value
-returns-in-Value c =
-    let read : to_z w32 (of_z w32 c.in-Value.d) ≡ c.in-Value.d = search rules in
-    ap Value read ∙ sym (ap distance_of (signed_some 10 (2 ^ 31) _ c.read_signed.ensures c.in-Value.is))
+value_is : (r : Reading ℤ) → result_ok (signed_of r) ≡ value_of r
+unfolding value_of
+value_is (read z) = refl
+value_is (failed f) = refl
 
-pub returns-in-Failed : goal.returns-in-Failed
-returns-in-Failed c = sym (ap distance_of (signed_none 10 (2 ^ 31) _ c.read_signed.ensures c.in-Failed.is))
+pub returns : goal.returns
+unfolding signed
+returns c = c.ok.ensures.value ∙ ap result_ok c.read_signed.ensures ∙ value_is (signed_reading 10 (2 ^ 31) c.args.t.now)

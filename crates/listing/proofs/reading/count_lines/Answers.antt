@@ -1,29 +1,22 @@
--- `count_lines` meets its contract: what is left to read answers as the whole. Assumes nothing.
-use mathlib.Core.Path.{sym, ◌∙◌}
-use native.Mathlib.Omega.{arith}
+-- What is left to read answers as the whole.
+use Rattle.std.proofs.Common.{arith, sym, ap, not, ◌∙◌, ◌≡◌, ◌*◌}
 use borrow.Author.Tests.{not-true, not-false}
-use Rattle.listing.proofs.Lines.{counting_start, counting_end, counting_full, counting_short, counting_bad, counting_more}
-use Rattle.std.proofs.Common.{ap, not}
+use Rattle.listing.proofs.Lines.{counting_end, counting_full, counting_bad, counting_more, rest_is}
 use Rattle.listing.proofs.reading.count_lines.Goals as goal
 
-pub loop-at-init : goal.loop-at-init
-loop-at-init c = counting_start _ _
-
-pub returns-then-n-room : goal.returns-then-n-room
-returns-then-n-room c = counting_full c.loop-at.invariant c.loop-at-test.true c.if-n-room.true
-
-pub returns-then-t-at-lt-LINE : goal.returns-then-t-at-lt-LINE
-returns-then-t-at-lt-LINE c = counting_short c.loop-at.invariant c.loop-at-test.true c.if-t-at-lt-LINE.true
+pub returns-then-at-t : goal.returns-then-at-t
+returns-then-at-t c = counting_end c.loop-n.invariant (omega arith)
 
 pub returns-then-not-is_line : goal.returns-then-not-is_line
 returns-then-not-is_line c =
-    let call = c.is_line in
-    counting_bad c.loop-at.invariant c.loop-at-test.true (sym call.ensures ∙ not-true _ (ap not c.if-not-is_line.true))
+    counting_bad c.loop-n.invariant (omega arith) (sym (rw (rest_is c.args.t.now (16 * c.loop-n.n)) at c.is_line.ensures) ∙ not-true _ (ap not c.if-not-is_line.true))
 
-pub loop-at-preserved : goal.loop-at-preserved
-loop-at-preserved c =
-    let call = c.is_line in
-    counting_more c.loop-at.invariant (omega arith) (omega arith) (sym call.ensures ∙ not-false _ (ap not c.if-not-is_line.false))
+pub loop-n-preserved : goal.loop-n-preserved
+loop-n-preserved c =
+    counting_more c.loop-n.invariant (omega arith) (omega arith) (sym (rw (rest_is c.args.t.now (16 * c.loop-n.n)) at c.is_line.ensures) ∙ not-false _ (ap not c.if-not-is_line.false))
+
+pub returns-then-room-t : goal.returns-then-room-t
+returns-then-room-t c = let e : c.loop-n.n ≡ c.args.room = omega arith in rw e at (counting_full c.loop-n.invariant (omega arith) (omega arith))
 
 pub returns : goal.returns
-returns c = counting_end c.loop-at.invariant c.loop-at-test.false
+returns c = let e : c.loop-n.n ≡ c.args.room = omega arith in rw e at (counting_end c.loop-n.invariant (omega arith))

