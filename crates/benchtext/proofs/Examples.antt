@@ -8,12 +8,12 @@ use Rattle.listing.specs.Listing.{digit_byte, digits_of, decimal_places_by, deci
 use Rattle.listing.specs.Reading.{digit_in, hex_in, place_in, is_line, read_lines, places_in}
 use Rattle.station.specs.Station.{wrong_line_text, hexadecimal_in}
 use Rattle.machine.specs.Bench.{short_list, misplaced, bench_answer, bench_of}
-use Rattle.benchtext.specs.Arguments.{decimal_in, number_at, placed_at, is_option, with_argument, is_whole}
-use Rattle.benchtext.specs.BenchText.{with_value, answer_text, tried_text, words_for, run_line, row_of, rows_of, parsed_row, parsed_rows, row_text, row_count, rows_text, bench_text}
+use Rattle.benchtext.specs.Arguments.{decimal_in, number_at, placed_at, is_option, argued, is_whole, whole}
+use Rattle.benchtext.specs.BenchText.{with_value, value_for, words_for, run_line, row_of, rows_of, parsed_row, parsed_rows, row_text, row_count, rows_text, bench_text}
 use Rattle.benchtext.specs.Examples.{Examples}
 
 pub examples : Examples
-unfolding bytes starts after digit_value digits some_digits ranged below without unsigned_reading hex_tail value_of refuse_if refuse_at first_index digit_byte digits_of decimal_places_by decimal mark_byte place_text refused_text digit_in hex_in place_in is_line read_lines places_in wrong_line_text hexadecimal_in short_list misplaced bench_answer bench_of decimal_in number_at placed_at is_option with_argument is_whole with_value answer_text tried_text words_for run_line row_of rows_of parsed_row parsed_rows row_text row_count rows_text bench_text
+unfolding bytes starts after digit_value digits some_digits ranged below without unsigned_reading hex_tail value_of refuse_if refuse_at first_index digit_byte digits_of decimal_places_by decimal mark_byte place_text refused_text digit_in hex_in place_in is_line read_lines places_in wrong_line_text hexadecimal_in short_list misplaced bench_answer bench_of decimal_in number_at placed_at is_option argued is_whole whole with_value value_for words_for run_line row_of rows_of parsed_row parsed_rows row_text row_count rows_text bench_text
 examples =
     record {
       odd = refl;

@@ -1,7 +1,7 @@
 -- A row of what `bench` prints: what stands after a list in the arrays changes nothing of it. Assumes nothing.
 use Prim.Native.Nat.{ℕ, zero, suc, ◌≤◌, ◌<◌, min}
 use mathlib.Core.Path.{◌≡◌, refl, sym, ◌∙◌, ap}
-use mathlib.Core.Bool.{Bool, true, false, cond, false≢true}
+use mathlib.Core.Bool.{Bool, true, false, cond}
 use mathlib.Core.List.{List, [], ◌∷◌, ◌++◌, map}
 use native.Mathlib.Omega.{arith}
 use lib.Dec.{eqb}
@@ -9,11 +9,9 @@ use lib.ListN.{length, take, replicate, length-append, length-map, get_or-append
 use borrow.Author.Tests.{le-ltb}
 use Rattle.rules.specs.Text.{Text}
 use Rattle.rules.specs.Assemble.{Place, Slices, over, holding}
-use Rattle.answer.specs.declared.Answer.{Answer as Verdict}
-use Rattle.answer.specs.Answer.{answer_of}
-use Rattle.listing.specs.Reading.{room_in, read_list, places_in, places_read, Read}
-use Rattle.listing.specs.declared.reading.Parsed.{Parsed}
-use Rattle.listing.specs.declared.reading.Parsed.TheVariants.{Count, Bad}
+use Rattle.std.specs.Prelude.{Ok, Err}
+use Rattle.listing.specs.Reading.{room_in, read_list, places_in}
+use Rattle.listing.specs.declared.reading.BadLine.{BadLine}
 use Rattle.listing.proofs.RoundTrip.{length_places}
 use Rattle.station.specs.Station.{wrong_line_text, unless_failed}
 use Rattle.station.specs.Reads.{Reads}
@@ -24,16 +22,7 @@ use Rattle.station.proofs.Kept.{take_lesser}
 use Rattle.machine.specs.Machine.{run_of}
 use Rattle.machine.specs.Bench.{clear, fill_of, state_at, short_list, bench_answer, bench_of}
 use Rattle.benchtext.specs.declared.arguments.Given.{Given}
-use Rattle.benchtext.specs.BenchText.{with_value, run_line, threshold, value_at, words_for, row_of, tried_rows, rows_of, registers_of, start_of, addresses_in, words_in, parsed_row, parsed_rows, row_text, row_count, input_row, input_rows}
-
--- the rows of a threshold
-pub rows_tried : (g : Given) → g.tries ≡ true → (n : ℕ) (xs ws : List ℕ) (a : Verdict) → a ≡ answer_of (bench_answer n xs ws n) → tried_rows g a ≡ rows_of g n xs ws
-unfolding rows_of
-rows_tried g e n xs ws a h = rw h (go g.tries e)
-  where
-    go : (x : Bool) → x ≡ true → tried_rows g (answer_of (bench_answer n xs ws n)) ≡ cond x (tried_rows g (answer_of (bench_answer n xs ws n))) 1
-    go true d = refl
-    go false d = absurd (false≢true d)
+use Rattle.benchtext.specs.BenchText.{with_value, value_for, run_line, threshold, value_at, words_for, row_of, rows_of, registers_of, start_of, addresses_in, words_in, parsed_row, parsed_rows, row_text, row_count, input_row, input_rows}
 
 -- ---- more after the first n places
 module _ (n : ℕ) (xs ys : List ℕ) (h : n ≤ length xs) where
@@ -94,21 +83,18 @@ module _ (g : Given) (row n : ℕ) (xs ys ws zs : List ℕ) (h : n ≤ length xs
   unfolding row_of
   row_front =
       let l = words_long in
-      rw words_front (ap (run_line g.tries (value_at g row)) (bench_front n xs ys h (words_for g row n xs ws) zs (omega arith) (registers_of g) (start_of g) g.limit))
+      rw words_front (ap (run_line (value_for g row)) (bench_front n xs ys h (words_for g row n xs ws) zs (omega arith) (registers_of g) (start_of g) g.limit))
 
   rows_front : rows_of g n (xs ++ ys) (ws ++ zs) ≡ rows_of g n xs ws
   unfolding rows_of
   rows_front = rw (answer_front n xs ys h ws zs k n)
 
--- ---- a text read into slices with room for 12,288 places
-module _ (t : Text) (x y : Slices) (room : room_in x ≡ 12288) (a : Parsed) (read : Read t x y a) where
-  answered : a ≡ read_list 12288 t
-  answered = rw room at read.answer
-
-  module _ (n : ℕ) (e : a ≡ Count n) where
-    filled : y ≡ holding (places_in n t) x
-    unfolding places_read
-    filled = rw e at read.after
+-- ---- a text read into slices with room for 12,288 places, which gives y
+module _ (t : Text) (x y : Slices) (room : room_in x ≡ 12288) where
+  -- it is a list
+  module _ (n : ℕ) (e : Ok n ≡ read_list (room_in x) t) (filled : y ≡ holding (places_in n t) x) where
+    answered : Ok n ≡ read_list 12288 t
+    answered = rw room at e
 
     columns : (f : Place → ℕ) → length (map f (places_in n t)) ≡ n
     columns f = length-map (places_in n t) f ∙ length_places n t
@@ -124,29 +110,32 @@ module _ (t : Text) (x y : Slices) (room : room_in x ≡ 12288) (a : Parsed) (re
     unfolding holding over
     words_fit = rw filled (fits (λ (p : Place). p.word) _)
 
-    -- it is a list
     pub row_read : (g : Given) (row : ℕ) → row_of g row n y.addresses y.words ≡ row_text g row t
     unfolding row_text parsed_row holding over
     row_read g row =
         let l = columns (λ (p : Place). p.address) in
         let m = columns (λ (p : Place). p.word) in
-        rw (← answered, e, filled) (row_front g row n (addresses_in n t) _ (words_in n t) _ (omega arith) (omega arith))
+        rw (← answered, filled) (row_front g row n (addresses_in n t) _ (words_in n t) _ (omega arith) (omega arith))
 
     pub rows_read : (g : Given) → rows_of g n y.addresses y.words ≡ row_count g t
     unfolding row_count parsed_rows holding over
     rows_read g =
         let l = columns (λ (p : Place). p.address) in
         let m = columns (λ (p : Place). p.word) in
-        rw (← answered, e, filled) (rows_front g 0 n (addresses_in n t) _ (words_in n t) _ (omega arith) (omega arith))
+        rw (← answered, filled) (rows_front g 0 n (addresses_in n t) _ (words_in n t) _ (omega arith) (omega arith))
 
   -- it is no list
-  pub row_wrong : (n : ℕ) → a ≡ Bad n → (g : Given) (row : ℕ) → wrong_line_text n ≡ row_text g row t
-  unfolding row_text parsed_row
-  row_wrong n e g row = rw (← answered, e)
+  module _ (r : BadLine) (e : Err r ≡ read_list (room_in x) t) where
+    wrong : Err r ≡ read_list 12288 t
+    wrong = rw room at e
 
-  pub rows_wrong : (n : ℕ) → a ≡ Bad n → (g : Given) → 1 ≡ row_count g t
-  unfolding row_count parsed_rows
-  rows_wrong n e g = rw (← answered, e)
+    pub row_wrong : (g : Given) (row : ℕ) → wrong_line_text r.number ≡ row_text g row t
+    unfolding row_text parsed_row
+    row_wrong g row = rw (← wrong)
+
+    pub rows_wrong : (g : Given) → 1 ≡ row_count g t
+    unfolding row_count parsed_rows
+    rows_wrong g = rw (← wrong)
 
 -- ---- an input, by where its reader stands
 module _ (g : Given) (i : Input) (buffer : List ℕ) where

@@ -1,9 +1,9 @@
 -- What `bench` prints, byte for byte, where it runs nothing: refusals, and texts that are no lists; and which arguments it takes. What it
 -- prints for runs stands in crates/bench/stdout, by Unicorn. Assumes nothing.
-use Rattle.std.specs.Prelude.{◌≡◌, Bool, true, false}
+use Rattle.std.specs.Prelude.{◌≡◌, Bool, true, false, None, Some}
 use mathlib.Core.List.{List, [], ◌∷◌, foldl}
 use Rattle.rules.specs.Text.{Text, bytes}
-use Rattle.benchtext.specs.Arguments.{no_argument, with_argument, is_whole}
+use Rattle.benchtext.specs.Arguments.{no_argument, with_argument, whole}
 use Rattle.benchtext.specs.BenchText.{bench_text}
 
 -- `bench 0 9` and `bench -w 2 5 7 0 9`
@@ -14,7 +14,7 @@ abbrev tried : List Text
 tried = bytes "-w" ∷ bytes "2" ∷ bytes "5" ∷ bytes "7" ∷ once
 
 abbrev takes : List Text → Bool
-takes arguments = is_whole (foldl with_argument no_argument arguments)
+takes arguments = elim (whole (foldl with_argument (Some no_argument) arguments)) [ None ↦ false | Some g ↦ true ]
 
 pub record Examples : Type 0 where
   -- "19: a list address that is odd or above 16,382; place the lowest such index"

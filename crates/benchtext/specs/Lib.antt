@@ -1,4 +1,3 @@
-pub mod Puts
 pub mod Arguments
 pub mod BenchText
 pub mod Examples

@@ -1,199 +1,166 @@
 // What the arguments of `bench` say.
-ghost use Rattle.std.specs.Prelude.{◌≡◌, true, ◌<◌, ◌^◌};
-ghost use Rattle.numeral.specs.Number.{number_of};
-ghost use Rattle.benchtext.specs.Arguments.{limit_of, decimal_in, number_at, no_argument, wronged, with_limit, with_number, placed_at, is_option, with_argument, is_whole};
+ghost use Rattle.std.specs.Prelude.{◌≡◌, ◌<◌, ◌^◌, ◌||◌, eqb};
+ghost use Rattle.benchtext.specs.Arguments.{decimal_in, number_at, no_argument, with_limit, with_number, placed_at, is_option, argued, with_argument, is_whole, whole};
 
 use numeral::digit::digit_value;
-use numeral::unsigned::{Number, read_digits};
+use numeral::unsigned::read_digits;
 use station::arguments::hexadecimal;
 use text::starts_with;
 
-// The arguments so far.
-#[derive(Clone, Copy)]
+/// What the arguments so far say.
+#[derive(Clone, Copy, Debug, PartialEq, Eq, Hash)]
 pub struct Given {
-    // The place of the next one: 0 before the first.
+    /// The place of the next one: 0 before the first.
     pub place: usize,
-    // One was not what its place asks for.
-    pub wrong: bool,
-    // A threshold is tried.
+    /// A threshold is tried.
     pub tries: bool,
-    // The numbers at their places: 1 ADDRESS, 2 FROM, 3 TO, 4 START, 6 to 13 A0 to A7.
+    /// The numbers at their places: 1 ADDRESS, 2 FROM, 3 TO, 4 START, 6 to 13 A0 to A7.
     pub numbers: [u32; 14],
-    // LIMIT, whose place is 5.
+    /// LIMIT, whose place is 5.
     pub limit: u64,
 }
 
 // ---- Numbers.
 
-// LIMIT as it is read.
-#[derive(Clone, Copy)]
-pub enum Limit {
-    Value(u64),
-    Bad,
-}
-
 // A decimal number of 64 bits.
-fn read_limit(t: &[u8]) -> Limit
-    ensures { result ≡ limit_of (decimal_in (2 ^ 64) t.now) }
+fn read_limit(t: &[u8]) -> Option<u64>
+    ensures { result ≡ decimal_in (2 ^ 64) t.now }
 {
-    if t.len() == 0 {
-        return Limit::Bad;
+    if t.is_empty() {
+        return None;
     }
     let mut v: u64 = 0;
-    let mut i = 0;
-    while i < t.len() {
-        let d = digit_value(t[i]) as u64;
+    for &b in t {
+        let d = u64::from(digit_value(b));
         if d >= 10 {
-            return Limit::Bad;
+            return None;
         }
-        if (u64::MAX - d) / 10 < v {
-            return Limit::Bad;
-        }
-        v = v * 10 + d;
-        i += 1;
+        v = v.checked_mul(10)?.checked_add(d)?;
     }
-    Limit::Value(v)
+    Some(v)
+}
+
+// Whether a place is FROM's or TO's.
+fn is_decimal(place: usize) -> bool
+    ensures { result ≡ (eqb place 2 || eqb place 3) }
+{
+    place == 2 || place == 3
 }
 
 // The number at a place that is not LIMIT's.
-fn number_at(place: usize, t: &[u8]) -> Number
-    ensures { result ≡ number_of (number_at place t.now) }
+fn number_at(place: usize, t: &[u8]) -> Option<u32>
+    ensures { result ≡ number_at place t.now }
 {
-    if place == 2 {
-        return read_digits(t, 10, 65536);
+    if is_decimal(place) {
+        read_digits(t, 10, 65536).ok()
+    } else {
+        hexadecimal(t).ok()
     }
-    if place == 3 {
-        return read_digits(t, 10, 65536);
-    }
-    hexadecimal(t)
+}
+
+// Whether an argument is `-w`.
+#[tactic(auto, unfolding(crate::specs::Arguments::is_option, rules::specs::Text::bytes))]
+fn is_option(t: &[u8]) -> bool
+    ensures { result ≡ is_option t.now }
+{
+    t.len() == 2 && starts_with(t, b"-w")
 }
 
 // ---- One argument after another.
 
-// Before the first.
-pub fn no_argument() -> Given
-    ensures { result ≡ no_argument }
-{
-    Given {
-        place: 0,
-        wrong: false,
-        tries: false,
-        numbers: [0u32; 14],
-        limit: 0,
+impl Given {
+    /// Before the first argument.
+    pub fn new() -> Self
+        ensures { result ≡ no_argument }
+    {
+        Given {
+            place: 0,
+            tries: false,
+            numbers: [0; 14],
+            limit: 0,
+        }
+    }
+
+    // After LIMIT.
+    fn with_limit(self, t: &[u8]) -> Option<Given>
+        ensures { result ≡ with_limit self (decimal_in (2 ^ 64) t.now) }
+    {
+        let limit = read_limit(t)?;
+        Some(Given {
+            place: 6,
+            limit,
+            ..self
+        })
+    }
+
+    // After a number at another place.
+    fn with_number(self, place: usize, t: &[u8]) -> Option<Given>
+        requires { place < 14 }
+        ensures { result ≡ with_number self place (number_at place t.now) }
+    {
+        let number = number_at(place, t)?;
+        let mut numbers = self.numbers;
+        numbers[place] = number;
+        Some(Given {
+            place: place + 1,
+            numbers,
+            ..self
+        })
+    }
+
+    // After the argument at a place.
+    #[tactic(auto, unfolding(crate::specs::Arguments::placed_at))]
+    fn placed_at(self, place: usize, t: &[u8]) -> Option<Given>
+        ensures { result ≡ placed_at self place t.now }
+    {
+        if place == 5 {
+            self.with_limit(t)
+        } else if place < 14 {
+            self.with_number(place, t)
+        } else {
+            None
+        }
+    }
+
+    // After one more argument.
+    #[tactic(auto, unfolding(crate::specs::Arguments::argued))]
+    fn argued(self, t: &[u8]) -> Option<Given>
+        ensures { result ≡ argued self t.now }
+    {
+        if self.place != 0 {
+            return self.placed_at(self.place, t);
+        }
+        if is_option(t) {
+            return Some(Given {
+                place: 1,
+                tries: true,
+                ..self
+            });
+        }
+        self.placed_at(4, t)
+    }
+
+    // Whether START and LIMIT are there, and FROM is not above TO.
+    #[tactic(auto, unfolding(crate::specs::Arguments::is_whole))]
+    fn is_whole(&self) -> bool
+        ensures { result ≡ is_whole self.now }
+    {
+        6 <= self.place && self.numbers[2] <= self.numbers[3]
     }
 }
 
-// After one that is not what its place asks for.
-fn wrong_argument(given: Given) -> Given
-    ensures { result ≡ wronged given }
-{
-    let numbers = given.numbers;
-    Given {
-        place: given.place,
-        wrong: true,
-        tries: given.tries,
-        numbers,
-        limit: given.limit,
-    }
-}
-
-// After LIMIT.
-fn with_limit(given: Given, t: &[u8]) -> Given
-    ensures { result ≡ with_limit given (decimal_in (2 ^ 64) t.now) }
-{
-    let Limit::Value(limit) = read_limit(t) else {
-        return wrong_argument(given);
-    };
-    let numbers = given.numbers;
-    Given {
-        place: 6,
-        wrong: given.wrong,
-        tries: given.tries,
-        numbers,
-        limit,
-    }
-}
-
-// After a number at another place.
-fn with_number(given: Given, place: usize, t: &[u8]) -> Given
-    requires { place < 14 }
-    ensures { result ≡ with_number given place (number_at place t.now) }
-{
-    let Number::Value(v) = number_at(place, t) else {
-        return wrong_argument(given);
-    };
-    let mut numbers = given.numbers;
-    numbers[place] = v;
-    Given {
-        place: place + 1,
-        wrong: given.wrong,
-        tries: given.tries,
-        numbers,
-        limit: given.limit,
-    }
-}
-
-// After the argument at a place.
-fn placed_at(given: Given, place: usize, t: &[u8]) -> Given
-    ensures { result ≡ placed_at given place t.now }
-{
-    if place == 5 {
-        return with_limit(given, t);
-    }
-    if place < 14 {
-        return with_number(given, place, t);
-    }
-    wrong_argument(given)
-}
-
-// Whether an argument is `-w`.
-fn is_option(t: &[u8]) -> bool
-    ensures { result ≡ is_option t.now }
-{
-    if t.len() == 2 {
-        return starts_with(t, b"-w");
-    }
-    false
-}
-
-// After `-w`.
-fn trying(given: Given) -> Given
-    ensures { result ≡ record { place = 1; wrong = given.wrong; tries = true; numbers = given.numbers; limit = given.limit } }
-{
-    let numbers = given.numbers;
-    Given {
-        place: 1,
-        wrong: given.wrong,
-        tries: true,
-        numbers,
-        limit: given.limit,
-    }
-}
-
-// After one more argument.
-pub fn with_argument(given: Given, t: &[u8]) -> Given
+/// What the arguments say with one more; None where one of them is not what its place asks for.
+pub fn with_argument(given: Option<Given>, t: &[u8]) -> Option<Given>
     ensures { result ≡ with_argument given t.now }
 {
-    let place = given.place;
-    if place == 0 {
-        if is_option(t) {
-            return trying(given);
-        }
-        return placed_at(given, 4, t);
-    }
-    placed_at(given, place, t)
+    given?.argued(t)
 }
 
-// Whether the arguments are what `bench` takes.
-pub fn is_whole(given: Given) -> bool
-    ensures { result ≡ is_whole given }
+/// What the arguments say, if they are what `bench` takes.
+#[tactic(auto, unfolding(crate::specs::Arguments::whole))]
+pub fn whole(given: Option<Given>) -> Option<Given>
+    ensures { result ≡ whole given }
 {
-    if given.wrong {
-        return false;
-    }
-    if given.place < 6 {
-        return false;
-    }
-    let numbers = given.numbers;
-    numbers[2] <= numbers[3]
+    let given = given?;
+    if given.is_whole() { Some(given) } else { None }
 }

@@ -1,11 +1,11 @@
 -- The texts under a table: what is printed of an answer and of slices with at least 8,192 places is the list, or the refusal; at most 4,096 verdicts
 -- come; the table goes before a script over the limit, and its front is enough. Assumes nothing.
+use Rattle.std.specs.Prelude.{Option, None, Some}
 use Prim.Native.Nat.{ℕ, ◌<◌, ◌≤◌}
 use mathlib.Core.Path.{◌≡◌, refl, sym, ap, ◌∙◌}
 use mathlib.Core.List.{List}
 use native.Mathlib.Omega.{arith}
 use lib.ListN.{length}
-use Rattle.rules.specs.Limits.{max_lines}
 use Rattle.rules.specs.Text.{Text}
 use Rattle.rules.specs.Line.{size}
 use Rattle.rules.specs.Encode.{Mnemonic, encode_by}
@@ -19,19 +19,12 @@ use Rattle.promises.proofs.Compared.{clash}
 use Rattle.promises.proofs.Lawful.{rules_are_lawful}
 use Rattle.promises.proofs.Longest.{at_most_a_line}
 use Rattle.promises.proofs.BranchCalls.{front_is_enough}
-use Rattle.answer.specs.Answer.{answer_of}
-use Rattle.answer.specs.declared.Answer.{Answer}
-use Rattle.answer.specs.declared.Answer.TheVariants as A
-use Rattle.answer.proofs.Answers.{told_accepted, told_refused}
-use Rattle.assemble.specs.Assembled.{AssembledUnder}
 use Rattle.listing.specs.Listing.{refused_text}
 use Rattle.station.specs.Station.{answer_text, listed_text}
 use Rattle.station.proofs.Script.{list_printed}
 use Rattle.station.proofs.ScriptInput.{checks_long}
 use Rattle.whytext.specs.WhyLine.{told_text, all_text}
-use Rattle.whytext.specs.declared.Lines.{Lines}
-use Rattle.whytext.specs.declared.Lines.TheVariants.{One, All}
-use Rattle.whytext.proofs.Told.{few_lines}
+use Rattle.whytext.specs.declared.LineAt.{LineAt}
 use Rattle.branchtext.specs.BranchText.{list_under_text, line_under_text, lines_under_text, script_under_text, why_under_text, long_text}
 use Rattle.branchtext.proofs.TableInput.{Loads}
 
@@ -54,13 +47,9 @@ longest t base s l e =
 
 -- after a call of the assembler
 pub assembled : (t : Text) (base : ℕ) (s : Text) (x : Slices) → 8192 ≤ length x.addresses → 8192 ≤ length x.words → 8192 ≤ length x.marks
-    → (r : Answer) (y : Slices) → AssembledUnder t base s x r y → answer_text r y ≡ list_under_text t base s
+    → (r : Ruled ℕ) (y : Slices) → r ≡ assemble_under_answer t base s x → y ≡ assemble_under_slices t base s x → answer_text r y ≡ list_under_text t base s
 unfolding list_under_text assemble_under_answer assemble_under_slices
-assembled t base s x a b c r y d = rw (d.answer, d.slices) (list_printed 8192 (assemble_under t base s) (longest t base s) x a b c)
-
--- ---- verdicts
-pub few_under : (t : Text) (base : ℕ) (s : Text) (vs : List Verdict) → explain_all_under t base s ≡ accepted vs → length vs ≤ max_lines
-few_under t base s vs e = let c = accepted_by t (λ names. explain_all_by names base s) vs e in few_lines c.0 base s vs c.1
+assembled t base s x a b c r y e f = rw (e, f) (list_printed 8192 (assemble_under t base s) (longest t base s) x a b c)
 
 -- ---- a script over the limit
 -- a call that refuses it, whatever the names: printed by q
@@ -87,14 +76,13 @@ unfolding lines_under_text all_text pass_at_by explain_all_by and_then
 lines_long t base s h = long_under all_text (λ n p. refl) t s (λ names. explain_all_by names base s) (λ names. rw (checks_long s _ h))
 
 -- by what loading the table answers
-module _ (t : Text) {r : Answer} (e : r ≡ answer_of (checked t)) (m : ℕ) where
-  pub long_accepted : (n : ℕ) → r ≡ A.Accepted n → refused_text 1 m ≡ long_text (checked t) m
-  unfolding long_text
-  long_accepted n f = rw (told_accepted (checked t) n (sym e ∙ f))
+pub long_accepted : (t : Text) {n : ℕ} → accepted n ≡ checked t → (m : ℕ) → refused_text 1 m ≡ long_text (checked t) m
+unfolding long_text
+long_accepted t e m = rw (← e)
 
-  pub long_refused : (n p : ℕ) → r ≡ A.Refused n p → refused_text n p ≡ long_text (checked t) m
-  unfolding long_text
-  long_refused n p f = rw (told_refused (checked t) n p (sym e ∙ f))
+pub long_refused : (t : Text) {n p : ℕ} → refused n p ≡ checked t → (m : ℕ) → refused_text n p ≡ long_text (checked t) m
+unfolding long_text
+long_refused t e m = rw (← e)
 
 -- ---- the programs' texts
 pub script_loads : Loads script_under_text
@@ -105,14 +93,14 @@ script_loads =
       front = λ t s. ap listed_text ((front_is_enough t).list 0 s);
     }
 
-pub why_loads : (lines : Lines) → Loads (why_under_text lines)
+pub why_loads : (asked : Option LineAt) → Loads (why_under_text asked)
 unfolding why_under_text line_under_text lines_under_text
-why_loads (One line base) =
+why_loads (Some a) =
     record {
-      long = λ t s h. line_long t base line s h;
-      front = λ t s. ap told_text ((front_is_enough t).verdict base s line);
+      long = λ t s h. line_long t a.base a.line s h;
+      front = λ t s. ap told_text ((front_is_enough t).verdict a.base s a.line);
     }
-why_loads All =
+why_loads None =
     record {
       long = λ t s h. lines_long t 0 s h;
       front = λ t s. ap all_text ((front_is_enough t).verdicts 0 s);

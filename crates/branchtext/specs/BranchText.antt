@@ -1,5 +1,5 @@
 -- What `asmlist -b` and `whyline -b` print for a branch table and a script (W-210). Assumes nothing.
-use Rattle.std.specs.Prelude.{ℕ, Bool, cond, List, ltb, take}
+use Rattle.std.specs.Prelude.{ℕ, Bool, cond, List, ltb, take, Option, None, Some}
 use Rattle.rules.specs.Limits.{max_source}
 use Rattle.rules.specs.Text.{Text}
 use Rattle.rules.specs.Answer.{Answer, accepted, refused}
@@ -8,8 +8,7 @@ use Rattle.listing.specs.Listing.{refused_text}
 use Rattle.station.specs.Station.{listed_text, unless_failed, input_text}
 use Rattle.station.specs.declared.input.Input.{Input}
 use Rattle.whytext.specs.WhyLine.{told_text, all_text}
-use Rattle.whytext.specs.declared.Lines.{Lines}
-use Rattle.whytext.specs.declared.Lines.TheVariants.{One, All}
+use Rattle.whytext.specs.declared.LineAt.{LineAt}
 
 -- ---- a script under a table
 
@@ -31,9 +30,9 @@ unfoldable pub script_under_text : Text → Text → Text
 script_under_text t s = list_under_text t 0 s
 
 -- `whyline -b`, all lines at base 0, or the one line that is asked for
-unfoldable pub why_under_text : Lines → Text → Text → Text
-why_under_text (One line base) t s = line_under_text t base line s
-why_under_text All t s = lines_under_text t 0 s
+unfoldable pub why_under_text : Option LineAt → Text → Text → Text
+why_under_text None t s = lines_under_text t 0 s
+why_under_text (Some a) t s = line_under_text t a.base a.line s
 
 -- ---- what is printed for a table and a script of which the buffers x and y keep the fronts, by where their readers b and i stand
 

@@ -1,8 +1,8 @@
 #![tactic(auto)]
 
-// What `asmlist` and `whyline` print for a script that was read chunk by chunk, and under a branch table that was read before it
-// where one is lent (W-210).
-ghost use Rattle.std.specs.Prelude.{◌≡◌, ◌≤◌, min, length as len, take};
+//! What `asmlist` and `whyline` print for a script that was read chunk by chunk, and under a branch table that was read before it
+//! where one is lent (W-210).
+ghost use Rattle.std.specs.Prelude.{◌≡◌, min};
 ghost use Rattle.rules.specs.Text.{Text};
 ghost use Rattle.requests.specs.Branches.{checked};
 ghost use Rattle.station.specs.Station.{script_text};
@@ -11,19 +11,18 @@ ghost use Rattle.station.specs.Reads.{Reads};
 ghost use Rattle.whytext.specs.WhyLine.{why_text};
 ghost use Rattle.branchtext.specs.BranchText.{list_under_text, line_under_text, lines_under_text, script_under_text, why_under_text, long_text, tabled_input_text, tabled_text};
 
-use answer::Answer;
+use answer::Refusal;
 use assemble::assemble_branches;
 use branches::load_branches;
-use explain::{explain_branches, explain_lines_branches};
-use listing::writing::write_refused;
+use explain::{Verdict, explain_branches, explain_lines_branches};
 use rules::{MAX_LINES, MAX_SOURCE};
 use station::input::Input;
-use station::{PLACES, SCRIPT, TABLE, TEXT, script_text, write_answer};
-use whytext::{Lines, why_text, write_counted, write_explained};
+use station::{PLACES, SCRIPT, TABLE, TEXT, script_text, write_answer, write_refusal};
+use whytext::{LineAt, why_text, write_counted, write_explained};
 
 // ---- A source under a table.
 
-// Puts the text for a source at a base, its list or its refusal, at the front, and answers its length.
+/// Puts the text for a source at a base, its list or its refusal, at the front, and answers its length.
 pub fn write_list_under(names: &[u8], source: &[u8], base: u32, out: &mut [u8; TEXT]) -> usize
     ensures { Printed (list_under_text names.now base source.now) result out.old out.new }
 {
@@ -34,7 +33,7 @@ pub fn write_list_under(names: &[u8], source: &[u8], base: u32, out: &mut [u8; T
     write_answer(answer, &addresses, &words, &marks, out)
 }
 
-// Puts the verdict's line on a line of a source, from 1, or that of a refusal, at the front, and answers its length.
+/// Puts the verdict's line on a line of a source, from 1, or that of a refusal, at the front, and answers its length.
 pub fn write_line_under(
     names: &[u8],
     source: &[u8],
@@ -44,15 +43,14 @@ pub fn write_line_under(
 ) -> usize
     ensures { Printed (line_under_text names.now base line source.now) result out.old out.new }
 {
-    let explained = explain_branches(names, source, base, line);
-    write_explained(explained, out)
+    write_explained(explain_branches(names, source, base, line), out)
 }
 
-// Puts the rows of every line of a source that is read, or the line of a refusal, at the front, and answers their length.
+/// Puts the rows of every line of a source that is read, or the line of a refusal, at the front, and answers their length.
 pub fn write_lines_under(names: &[u8], source: &[u8], base: u32, out: &mut [u8; TEXT]) -> usize
     ensures { Printed (lines_under_text names.now base source.now) result out.old out.new }
 {
-    let mut verdicts = [0u8; MAX_LINES];
+    let mut verdicts = [Verdict::Emitted; MAX_LINES];
     let answer = explain_lines_branches(names, source, base, &mut verdicts);
     write_counted(answer, &verdicts, out)
 }
@@ -63,58 +61,34 @@ pub fn write_lines_under(names: &[u8], source: &[u8], base: u32, out: &mut [u8; 
 fn kept_size(table: Input) -> usize
     ensures { result ≡ min 97 table.total }
 {
-    let total = table.total;
-    if TABLE < total { TABLE } else { total }
+    TABLE.min(table.total)
 }
 
 // Puts the line for a script over the limit at the front, and answers its length: a table that is refused comes first.
-fn write_long(table: &[u8], kept: usize, total: usize, out: &mut [u8; TEXT]) -> usize
-    requires { kept ≤ len table.now }
-    ensures { Printed (long_text (checked (take kept table.now)) total) result out.old out.new }
+fn write_long(table: &[u8], total: usize, out: &mut [u8; TEXT]) -> usize
+    ensures { Printed (long_text (checked table.now) total) result out.old out.new }
 {
-    match load_branches(&table[..kept]) {
-        Answer::Accepted(_) => write_refused(1, total, out),
-        Answer::Refused(number, place) => write_refused(number, place, out),
+    match load_branches(table) {
+        Ok(_) => write_refusal(Refusal::LongSource(total), out),
+        Err(refusal) => write_refusal(refusal, out),
     }
-}
-
-// Puts what `asmlist` prints under a table at the front, and answers its length.
-fn write_script(
-    table: &[u8],
-    kept: usize,
-    script: &[u8],
-    length: usize,
-    out: &mut [u8; TEXT],
-) -> usize
-    requires { (kept ≤ len table.now) × (length ≤ len script.now) }
-    ensures { Printed (script_under_text (take kept table.now) (take length script.now)) result out.old out.new }
-{
-    write_list_under(&table[..kept], &script[..length], 0, out)
 }
 
 // Puts what `whyline` prints under a table at the front, and answers its length.
-fn write_why(
-    table: &[u8],
-    kept: usize,
-    script: &[u8],
-    length: usize,
-    lines: Lines,
-    out: &mut [u8; TEXT],
-) -> usize
-    requires { (kept ≤ len table.now) × (length ≤ len script.now) }
-    ensures { Printed (why_under_text lines (take kept table.now) (take length script.now)) result out.old out.new }
+#[tactic(auto, unfolding(crate::specs::BranchText::why_under_text))]
+fn write_why(table: &[u8], script: &[u8], asked: Option<LineAt>, out: &mut [u8; TEXT]) -> usize
+    ensures { Printed (why_under_text asked table.now script.now) result out.old out.new }
 {
-    match lines {
-        Lines::One(line, base) => {
-            write_line_under(&table[..kept], &script[..length], base, line as usize, out)
-        }
-        Lines::All => write_lines_under(&table[..kept], &script[..length], 0, out),
+    match asked {
+        Some(LineAt { line, base }) => write_line_under(table, script, base, line as usize, out),
+        None => write_lines_under(table, script, 0, out),
     }
 }
 
-// ---- What the programs print, where a table is lent or not.
+// ---- What the programs print, where a table is lent or not. The two are not one function over closures for what they print: each closure
+// would carry the contract of both prints, and the flag stands beside a buffer that the program always has.
 
-// Puts what `asmlist` prints at the front, and answers its length: nothing if the table or the script was not read whole.
+/// Puts what `asmlist` prints at the front, and answers its length: nothing if the table or the script was not read whole.
 pub fn tabled_script_text(
     lent: bool,
     table: &[u8; TABLE],
@@ -138,27 +112,27 @@ pub fn tabled_script_text(
     let kept = kept_size(branches);
     let total = input.total;
     if MAX_SOURCE < total {
-        return write_long(table, kept, total, out);
+        return write_long(&table[..kept], total, out);
     }
-    write_script(table, kept, script, total, out)
+    write_list_under(&table[..kept], &script[..total], 0, out)
 }
 
-// Puts what `whyline` prints for the lines that are asked for at the front, and answers its length: nothing if the table or the
-// script was not read whole.
+/// Puts what `whyline` prints for the lines that are asked for at the front, and answers its length: nothing if the table or the
+/// script was not read whole.
 pub fn tabled_why_text(
     lent: bool,
     table: &[u8; TABLE],
     branches: Input,
     script: &[u8; SCRIPT],
     input: Input,
-    lines: Lines,
+    asked: Option<LineAt>,
     out: &mut [u8; TEXT],
 ) -> usize
-    ensures printed { Printed (tabled_input_text lent (why_text lines) (why_under_text lines) branches table.now input script.now) result out.old out.new }
-    ensures script_value { (t s : Text) → Reads t table.now branches → Reads s script.now input → tabled_input_text lent (why_text lines) (why_under_text lines) branches table.now input script.now ≡ tabled_text lent (why_text lines) (why_under_text lines) branches t input s }
+    ensures printed { Printed (tabled_input_text lent (why_text asked) (why_under_text asked) branches table.now input script.now) result out.old out.new }
+    ensures script_value { (t s : Text) → Reads t table.now branches → Reads s script.now input → tabled_input_text lent (why_text asked) (why_under_text asked) branches table.now input script.now ≡ tabled_text lent (why_text asked) (why_under_text asked) branches t input s }
 {
     if !lent {
-        return why_text(script, input, lines, out);
+        return why_text(script, input, asked, out);
     }
     if branches.failed {
         return 0;
@@ -169,7 +143,7 @@ pub fn tabled_why_text(
     let kept = kept_size(branches);
     let total = input.total;
     if MAX_SOURCE < total {
-        return write_long(table, kept, total, out);
+        return write_long(&table[..kept], total, out);
     }
-    write_why(table, kept, script, total, lines, out)
+    write_why(&table[..kept], &script[..total], asked, out)
 }

@@ -1,5 +1,5 @@
 -- Paper 02's calls by the numbers that they have in records, each answered as a text. Assumes nothing.
-use Rattle.std.specs.Prelude.{ℕ, ◌≡◌, Bool, true, false, ◌&&◌, cond, [], ◌∷◌, ◌++◌, eqb, leb, take, drop}
+use Rattle.std.specs.Prelude.{ℕ, ◌≡◌, Bool, true, false, ◌&&◌, cond, [], ◌∷◌, ◌++◌, eqb, leb, take, drop, Option, None, Some, Result, Ok, Err}
 use Rattle.rules.specs.Text.{Text, bytes}
 use Rattle.rules.specs.Answer.{Answer, accepted, refused}
 use Rattle.rules.specs.Directive.{line_reading}
@@ -7,8 +7,6 @@ use Rattle.requests.specs.Nearest.{Nearest, nearest}
 use Rattle.numeral.specs.declared.Failure.{Failure}
 use Rattle.numeral.specs.declared.Failure.TheVariants.{NoDigits, BadDigit, OutOfRange}
 use Rattle.directive.specs.Directive.{line_number_of}
-use Rattle.directive.specs.declared.LineNumber.{LineNumber}
-use Rattle.directive.specs.declared.LineNumber.TheVariants.{Value, Failed, Nothing}
 use Rattle.listing.specs.Listing.{decimal, refused_text}
 use Rattle.symtext.specs.Symlist.{symbols_text}
 use Rattle.whytext.specs.WhyLine.{line_text}
@@ -46,17 +44,16 @@ failure_text NoDigits = bytes "no digits\n"
 failure_text BadDigit = bytes "bad digit\n"
 failure_text OutOfRange = bytes "out of range\n"
 
-abbrev pub said_text : LineNumber → Text
-said_text (Value v) = read_text v
-said_text (Failed x) = failure_text x
-said_text Nothing = bytes "no number\n"
+abbrev pub said_text : Option (Result ℕ Failure) → Text
+said_text (Some (Ok v)) = read_text v
+said_text (Some (Err x)) = failure_text x
+said_text None = bytes "no number\n"
 
 -- the arguments of `bench` with START and LIMIT alone: the address registers are 0
 abbrev pub run_of : ℕ → ℕ → Given
 run_of start limit =
     record {
       place = 6;
-      wrong = false;
       tries = false;
       numbers = 0 ∷ 0 ∷ 0 ∷ 0 ∷ start ∷ 0 ∷ 0 ∷ 0 ∷ 0 ∷ 0 ∷ 0 ∷ 0 ∷ 0 ∷ 0 ∷ [];
       limit = limit;

@@ -1,9 +1,9 @@
 #![tactic(auto)]
 
-// Paper 02's calls by the numbers that they have in records, each answered as a text, and a recorded text compared with it.
+//! Paper 02's calls by the numbers that they have in records, each answered as a text, and a recorded text compared with it.
 ghost use Rattle.std.specs.Prelude.{◌≡◌, true, ◌↔◌, ◌+◌, ◌≤◌, min, length as len, take, drop};
 ghost use Rattle.rules.specs.Text.{same};
-ghost use Rattle.text.specs.Spans.{over_from};
+ghost use Rattle.listing.specs.Writer.{Adds};
 ghost use Rattle.station.specs.Printed.{Printed};
 ghost use Rattle.rules.specs.Directive.{line_reading};
 ghost use Rattle.directive.specs.Directive.{line_number_of};
@@ -18,19 +18,21 @@ ghost use Rattle.calls.specs.Calls.{number_text, answered_text, nearest_text, re
 use benchtext::arguments::Given;
 use benchtext::parsed_row;
 use branchtext::{write_lines_under, write_list_under};
-use directive::{LineNumber, line_number};
-use listing::writing::{write_bytes, write_decimal, write_refused};
+use directive::line_number;
+use listing::writer::Writer;
+use listing::writing::write_bytes;
 use mantext::write_manual;
 use nearest::{Nearest, nearest_label};
 use numeral::Failure;
-use sheet::{Added, Totals, add_source};
+use sheet::{Totals, add_source};
 use sheettext::rows::write_sheet;
+use station::write_refusal;
 use symtext::write_symbols;
 use text::starts_with;
 use tidytext::write_tidied;
 use whytext::write_line_verdict;
 
-// The bytes of the longest text there is, a list's.
+/// The bytes of the longest text there is, a list's.
 pub const ROOM: usize = station::TEXT;
 
 // The calls' numbers go on from the assembler's, which is 1.
@@ -40,25 +42,27 @@ const LAST: u8 = 11;
 
 // ---- Texts.
 
-// Puts a number in decimal and the byte after it at an index, and answers the index behind them.
-fn write_number(out: &mut [u8], at: usize, n: u64, after: u8) -> usize
-    requires { at + 21 ≤ len out.old }
-    ensures { (result ≡ at + len (number_text n after)) × (result ≤ at + 21) × (out.new ≡ over_from at (number_text n after) out.old) }
+// Writes a number in decimal and the byte after it.
+fn push_number(n: u64, after: u8, text: &mut Writer<'_>)
+    requires { text.old.len + 21 ≤ len text.old.out.now }
+    ensures text { Adds (number_text n after) text.old text.new }
+    ensures short { text.new.len ≤ text.old.len + 21 }
 {
-    let end = write_decimal(out, at, n);
-    out[end] = after;
-    end + 1
+    text.push_decimal(n);
+    text.push(after);
 }
 
 // ---- The calls.
 
 // Puts W-201's three numbers at the front, and answers their length.
-fn write_nearest(start: usize, length: usize, distance: u32, out: &mut [u8; ROOM]) -> usize
-    ensures { Printed (nearest_text (record { start = start; length = length; distance = distance })) result out.old out.new }
+fn write_nearest(label: Nearest, out: &mut [u8; ROOM]) -> usize
+    ensures { Printed (nearest_text (record { start = label.start; length = label.length; distance = label.distance })) result out.old out.new }
 {
-    let first = write_number(out, 0, start as u64, b' ');
-    let second = write_number(out, first, length as u64, b' ');
-    write_number(out, second, distance as u64, b'\n')
+    let mut text = Writer::new(out);
+    push_number(label.start as u64, b' ', &mut text);
+    push_number(label.length as u64, b' ', &mut text);
+    push_number(u64::from(label.distance), b'\n', &mut text);
+    text.len
 }
 
 // Puts W-201's answer at the front, and answers its length.
@@ -66,8 +70,8 @@ fn nearest_text(source: &[u8], base: u32, address: u32, out: &mut [u8; ROOM]) ->
     ensures { Printed (answered_text nearest_text (nearest base source.now address)) result out.old out.new }
 {
     match nearest_label(source, base, address) {
-        Nearest::Label(start, length, distance) => write_nearest(start, length, distance, out),
-        Nearest::Refused(number, place) => write_refused(number, place, out),
+        Ok(label) => write_nearest(label, out),
+        Err(refusal) => write_refusal(refusal, out),
     }
 }
 
@@ -75,8 +79,10 @@ fn nearest_text(source: &[u8], base: u32, address: u32, out: &mut [u8; ROOM]) ->
 fn write_value(v: u32, out: &mut [u8; ROOM]) -> usize
     ensures { Printed (read_text v) result out.old out.new }
 {
-    write_bytes(out, 0, b"read ");
-    write_number(out, 5, v as u64, b'\n')
+    let mut text = Writer::new(out);
+    text.push_bytes(b"read ");
+    push_number(u64::from(v), b'\n', &mut text);
+    text.len
 }
 
 // Puts a line's words at the front, and answers their length.
@@ -104,9 +110,9 @@ fn line_number_text(line: &[u8], out: &mut [u8; ROOM]) -> usize
     ensures { Printed (said_text (line_number_of (line_reading line.now))) result out.old out.new }
 {
     match line_number(line) {
-        LineNumber::Value(v) => write_value(v, out),
-        LineNumber::Failed(f) => write_failure(f, out),
-        LineNumber::Nothing => write_words(b"no number\n", out),
+        Some(Ok(v)) => write_value(v, out),
+        Some(Err(failure)) => write_failure(failure, out),
+        None => write_words(b"no number\n", out),
     }
 }
 
@@ -114,8 +120,7 @@ fn line_number_text(line: &[u8], out: &mut [u8; ROOM]) -> usize
 fn table_size(said: u32, source: &[u8]) -> usize
     ensures { result ≡ min (len source.now) said }
 {
-    let n = said as usize;
-    if source.len() < n { source.len() } else { n }
+    source.len().min(said as usize)
 }
 
 // Puts the list under the table that a source starts with at the front (W-210), and answers the text's length.
@@ -140,10 +145,9 @@ fn run_of(start: u32, limit: u32) -> Given
 {
     Given {
         place: 6,
-        wrong: false,
         tries: false,
         numbers: [0, 0, 0, 0, start, 0, 0, 0, 0, 0, 0, 0, 0, 0],
-        limit: limit as u64,
+        limit: u64::from(limit),
     }
 }
 
@@ -152,7 +156,7 @@ fn run_text(list: &[u8], start: u32, limit: u32, out: &mut [u8; ROOM]) -> usize
     ensures { Printed (row_text (run_of start limit) 0 list.now) result out.old out.new }
 {
     let given = run_of(start, limit);
-    parsed_row(list, list.len(), given, 0, out)
+    parsed_row(list, given, 0, out)
 }
 
 // The totals of so many sources that have no lines.
@@ -170,8 +174,8 @@ fn empty_sources(accepted: u32, refused: u32) -> Totals
         words: 0,
         marked: 0,
         labels: 0,
-        accepted: accepted as u64,
-        refused: refused as u64,
+        accepted: u64::from(accepted),
+        refused: u64::from(refused),
     }
 }
 
@@ -180,12 +184,12 @@ fn sheet_text(source: &[u8], accepted: u32, refused: u32, out: &mut [u8; ROOM]) 
     ensures { Printed (answered_text sheet_text (add_source (empty_sources accepted refused) source.now)) result out.old out.new }
 {
     match add_source(empty_sources(accepted, refused), source) {
-        Added::Sum(totals) => write_sheet(totals, out),
-        Added::Refused(number, place) => write_refused(number, place, out),
+        Ok(totals) => write_sheet(totals, out),
+        Err(refusal) => write_refusal(refusal, out),
     }
 }
 
-// Puts the text of a call at the front, and answers its length: none for a call that is not known.
+/// Puts the text of a call at the front, and answers its length: none for a call that is not known.
 pub fn call_text(call: u8, x: u32, y: u32, source: &[u8], out: &mut [u8; ROOM]) -> usize
     ensures { Printed (call_text call x y source.now) result out.old out.new }
 {
@@ -204,19 +208,18 @@ pub fn call_text(call: u8, x: u32, y: u32, source: &[u8], out: &mut [u8; ROOM]) 
     }
 }
 
-// Whether a call is known.
+/// Whether a call is known.
+#[tactic(auto, unfolding(crate::specs::Calls::is_call))]
 pub fn is_call(call: u8) -> bool
     ensures { result ≡ is_call call }
 {
-    if call < FIRST {
-        return false;
-    }
-    call <= LAST
+    FIRST <= call && call <= LAST
 }
 
 // ---- A recorded call.
 
 // Whether two texts are the same.
+#[tactic(auto, using(text::proofs::Compare::same_longer, text::proofs::Compare::same_starts))]
 fn same_text(t: &[u8], s: &[u8]) -> bool
     ensures { result ≡ same t.now s.now }
 {
@@ -226,7 +229,7 @@ fn same_text(t: &[u8], s: &[u8]) -> bool
     starts_with(t, s)
 }
 
-// Whether a call is known, and its text the recorded one.
+/// Whether a call is known, and its text the recorded one.
 pub fn call_agrees(call: u8, x: u32, y: u32, source: &[u8], recorded: &[u8]) -> bool
     ensures { (result ≡ true) ↔ CallAgrees call x y source.now recorded.now }
 {

@@ -1,20 +1,20 @@
 #![tactic(auto)]
 
-// What `manlist` prints for a script that was read chunk by chunk: its list by the manual's own words (W-207).
-ghost use Rattle.std.specs.Prelude.{◌≡◌, ◌≤◌, length as len, take};
+//! What `manlist` prints for a script that was read chunk by chunk: its list by the manual's own words (W-207).
+ghost use Rattle.std.specs.Prelude.{◌≡◌};
 ghost use Rattle.rules.specs.Text.{Text};
 ghost use Rattle.station.specs.Station.{unless_failed, input_text};
 ghost use Rattle.station.specs.Printed.{Printed};
 ghost use Rattle.station.specs.Reads.{Reads};
 ghost use Rattle.mantext.specs.Manlist.{manual_text};
 
+use answer::Refusal;
 use assemble::assemble_manual;
-use listing::writing::write_refused;
 use rules::MAX_SOURCE;
 use station::input::Input;
-use station::{PLACES, SCRIPT, TEXT, write_answer};
+use station::{PLACES, SCRIPT, TEXT, write_answer, write_refusal};
 
-// Puts the text for a source at a base, its list or its refusal, at the front, and answers its length.
+/// Puts the text for a source at a base, its list or its refusal, at the front, and answers its length.
 pub fn write_manual(source: &[u8], base: u32, out: &mut [u8; TEXT]) -> usize
     ensures { Printed (manual_text base source.now) result out.old out.new }
 {
@@ -25,15 +25,7 @@ pub fn write_manual(source: &[u8], base: u32, out: &mut [u8; TEXT]) -> usize
     write_answer(answer, &addresses, &words, &marks, out)
 }
 
-// The same at base 0 for a script, the first `length` bytes.
-fn write_script(bytes: &[u8], length: usize, out: &mut [u8; TEXT]) -> usize
-    requires { length ≤ len bytes.now }
-    ensures { Printed (manual_text 0 (take length bytes.now)) result out.old out.new }
-{
-    write_manual(&bytes[..length], 0, out)
-}
-
-// Puts what is printed for an input that is a script at the front, and answers its length: nothing if it was not read whole.
+/// Puts what is printed for an input that is a script at the front, and answers its length: nothing if it was not read whole.
 pub fn manual_text(script: &[u8; SCRIPT], input: Input, out: &mut [u8; TEXT]) -> usize
     ensures printed { Printed (input_text (manual_text 0) input script.now) result out.old out.new }
     ensures script_value { (t : Text) → Reads t script.now input → input_text (manual_text 0) input script.now ≡ unless_failed input (manual_text 0 t) }
@@ -43,7 +35,7 @@ pub fn manual_text(script: &[u8; SCRIPT], input: Input, out: &mut [u8; TEXT]) ->
     }
     let total = input.total;
     if MAX_SOURCE < total {
-        return write_refused(1, total, out);
+        return write_refusal(Refusal::LongSource(total), out);
     }
-    write_script(script, total, out)
+    write_manual(&script[..total], 0, out)
 }

@@ -1,15 +1,13 @@
--- What `nearlabel` prints for a script (W-201), and what its arguments ask. Assumes nothing.
-use Rattle.std.specs.Prelude.{ℕ, cond, [], ◌∷◌, ◌++◌, eqb, take, drop}
+-- What `nearlabel` prints for a script, and what its arguments ask. Assumes nothing.
+use Rattle.std.specs.Prelude.{ℕ, cond, [], ◌∷◌, ◌++◌, eqb, take, drop, Option, None, Some, Result, Ok, Err}
 use Rattle.rules.specs.Text.{Text}
 use Rattle.rules.specs.Answer.{Answer, accepted, refused}
 use Rattle.requests.specs.Nearest.{Nearest, nearest}
 use Rattle.numeral.specs.Number.{number_of}
-use Rattle.numeral.specs.declared.unsigned.Number.{Number}
-use Rattle.numeral.specs.declared.unsigned.Number.TheVariants.{Value, Failed}
+use Rattle.numeral.specs.declared.Failure.{Failure}
 use Rattle.listing.specs.Listing.{decimal, refused_text}
 use Rattle.station.specs.Station.{hexadecimal_in}
 use Rattle.neartext.specs.declared.Asked.{Asked}
-use Rattle.neartext.specs.declared.Asked.TheVariants.{At, Wrong}
 
 -- a label's line: its name, a space, the distance in decimal, byte 10
 unfoldable pub label_text : Text → ℕ → Text
@@ -27,13 +25,13 @@ near_text base a s = told_text s (nearest base s a)
 -- ---- arguments
 
 -- an address and a base, if both are read
-abbrev pub asked_at : Number → Number → Asked
-asked_at (Value a) (Value b) = At a b
-asked_at (Value a) (Failed x) = Wrong
-asked_at (Failed x) b = Wrong
+abbrev pub asked_at : Result ℕ Failure → Result ℕ Failure → Option Asked
+asked_at (Ok a) (Ok b) = Some (record { address = a; base = b })
+asked_at (Ok a) (Err x) = None
+asked_at (Err x) b = None
 
 -- one argument besides the program's name, the address, and the base is 0; or two
-unfoldable pub asked_by : ℕ → Text → Text → Asked
+unfoldable pub asked_by : ℕ → Text → Text → Option Asked
 asked_by count a b =
-    cond (eqb count 2) (asked_at (number_of (hexadecimal_in a)) (Value 0))
-    (cond (eqb count 3) (asked_at (number_of (hexadecimal_in a)) (number_of (hexadecimal_in b))) Wrong)
+    cond (eqb count 2) (asked_at (number_of (hexadecimal_in a)) (Ok 0))
+    (cond (eqb count 3) (asked_at (number_of (hexadecimal_in a)) (number_of (hexadecimal_in b))) None)

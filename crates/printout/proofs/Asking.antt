@@ -1,10 +1,10 @@
 -- Which line asks what: the lines that an accepted pass reads, and END behind them. Assumes nothing.
+use Rattle.std.specs.Prelude.{Option, Some, slice_get}
 use Prim.Native.Nat.{ℕ, zero, suc, ◌+◌, ◌≤◌, ◌<◌}
 use mathlib.Core.Path.{◌≡◌, refl, ap}
-use mathlib.Core.Option.{Option, some}
 use mathlib.Core.List.{List, [], ◌∷◌, ◌++◌}
 use native.Mathlib.Omega.{arith}
-use lib.ListN.{length, get_or, get_elem?}
+use lib.ListN.{length, get_or}
 use Rattle.rules.specs.Limits.{max_lines, address_limit}
 use Rattle.rules.specs.Text.{Text, cut_at}
 use Rattle.rules.specs.Number.{Failure, Reading, failed}
@@ -43,13 +43,13 @@ asked base a t (l ∷ ls) =
     task : Task
     task = (line_of l.text).task
 
-pub asks_at : (us : List Put) (ls : List SourceLine) (k : ℕ) (u : Put) (l : SourceLine) → Asks us ls → get_elem? us k ≡ some u → get_elem? ls k ≡ some l → u.task ≡ (line_of l.text).task
+pub asks_at : (us : List Put) (ls : List SourceLine) (k : ℕ) (u : Put) (l : SourceLine) → Asks us ls → slice_get us k ≡ Some u → slice_get ls k ≡ Some l → u.task ≡ (line_of l.text).task
 asks_at _ _ k u l over e f = clash cc
 asks_at _ _ k u l (stops h) e f = clash cc
 asks_at _ _ zero u l (goes {u = v} {l = m} q h) e f = let x : v ≡ u = cc in let y : m ≡ l = cc in rw (x, y) at q
 asks_at _ _ (suc k) u l (goes q h) e f = asks_at _ _ k u l h e f
 
-pub asks_end : (us : List Put) (ls : List SourceLine) (k : ℕ) (l : SourceLine) → Asks us ls → length us ≡ k → get_elem? ls k ≡ some l → (line_of l.text).task ≡ end
+pub asks_end : (us : List Put) (ls : List SourceLine) (k : ℕ) (l : SourceLine) → Asks us ls → length us ≡ k → slice_get ls k ≡ Some l → (line_of l.text).task ≡ end
 asks_end _ _ k l over e f = clash cc
 asks_end _ _ zero l (stops {l = m} h) e f = let y : m ≡ l = cc in rw y at h
 asks_end _ _ (suc k) l (stops h) e f = absurd (omega arith)
@@ -59,9 +59,9 @@ asks_end _ _ (suc k) l (goes q h) e f = asks_end _ _ k l h (omega arith) f
 -- ---- line k of a source
 pub record LineIs (n k : ℕ) (ls : List SourceLine) (x : Text) : Type 0 where
   pub start : ℕ
-  pub at : get_elem? ls k ≡ some (record { number = n + k; start = start; text = x })
+  pub at : slice_get ls k ≡ Some (record { number = n + k; start = start; text = x })
 
-pub line_is : (n i : ℕ) (ts : List Text) (k : ℕ) (x : Text) → get_elem? ts k ≡ some x → LineIs n k (numbered n i ts) x
+pub line_is : (n i : ℕ) (ts : List Text) (k : ℕ) (x : Text) → slice_get ts k ≡ Some x → LineIs n k (numbered n i ts) x
 unfolding numbered
 line_is n i [] k x e = clash cc
 line_is n i (y ∷ ts) zero x e = let q : y ≡ x = cc in let z : n + 0 ≡ n = omega arith in record { start = i; at = rw (q, z) }
@@ -81,23 +81,23 @@ module _ (base : ℕ) (s : Text) (p : Pass) (e : pass_at base s ≡ accepted p) 
   pub few_lines : length (cut_at 10 s) ≤ max_lines
   few_lines = limits.few
 
-  pub put_low : (k : ℕ) (u : Put) → get_elem? p.puts k ≡ some u → LowPut size base u
+  pub put_low : (k : ℕ) (u : Put) → slice_get p.puts k ≡ Some u → LowPut size base u
   put_low k u f = go p.puts k f (λ j d h. (low size base s p e).puts j d h)
     where
-      go : (us : List Put) (k : ℕ) → get_elem? us k ≡ some u → ((j : ℕ) (d : Put) → j < length us → LowPut size base (get_or us j d)) → LowPut size base u
+      go : (us : List Put) (k : ℕ) → slice_get us k ≡ Some u → ((j : ℕ) (d : Put) → j < length us → LowPut size base (get_or us j d)) → LowPut size base u
       go [] k f h = clash cc
       go (v ∷ us) zero f h = let x : v ≡ u = cc in rw x at (h 0 u (omega arith))
       go (v ∷ us) (suc k) f h = go us k f (λ j d l. h (suc j) d (omega arith))
 
 -- END's address
-pub end_last : (base a : ℕ) (us : List Put) (j : ℕ) (u : Put) → length us ≡ suc j → get_elem? us j ≡ some u → end_at base a us ≡ address_after size base u.address u.task
+pub end_last : (base a : ℕ) (us : List Put) (j : ℕ) (u : Put) → length us ≡ suc j → slice_get us j ≡ Some u → end_at base a us ≡ address_after size base u.address u.task
 unfolding end_at
 end_last base a [] j u e f = clash cc
 end_last base a (v ∷ []) zero u e f = let x : v ≡ u = cc in rw x
 end_last base a (v ∷ w ∷ us) zero u e f = absurd (omega arith)
 end_last base a (v ∷ us) (suc j) u e f = end_last base (address_after size base v.address v.task) us j u (omega arith) f
 
-end_below : (base a : ℕ) (us : List Put) → a < address_limit → ((j : ℕ) (u : Put) → get_elem? us j ≡ some u → address_after size base u.address u.task < address_limit) → end_at base a us < address_limit
+end_below : (base a : ℕ) (us : List Put) → a < address_limit → ((j : ℕ) (u : Put) → slice_get us j ≡ Some u → address_after size base u.address u.task < address_limit) → end_at base a us < address_limit
 unfolding end_at
 end_below base a [] h f = h
 end_below base a (u ∷ us) h f = end_below base (address_after size base u.address u.task) us (f 0 u refl) (λ j v e. f (suc j) v e)
@@ -125,7 +125,7 @@ no_places a (x ∷ d) e f = clash cc
 
 module _ (names : List Mnemonic) (t : Table) (u : Put) where
   abbrev At : Text → ℕ → Type 0
-  At l x = find l t ≡ some x
+  At l x = find l t ≡ Some x
 
   told : Told names t At u.address u.task (why_task names t u.address u.task)
   told = task_told names t u.address At (λ l x e. e) (λ l x e. e) u.task
@@ -147,11 +147,11 @@ module _ (names : List Mnemonic) (t : Table) (u : Put) where
       go _ (reasoned f h b) q = no_places u.address (data_contents u.task) (code_contents_by (encode_by names) t u.address u.task) f
 
   -- a directive whose number fails has none
-  pub failed_places : (l : Text) (f : Failure) → u.task ≡ (line_of l).task → line_reading l ≡ some (failed f) → places_of_put names t u ≡ []
+  pub failed_places : (l : Text) (f : Failure) → u.task ≡ (line_of l).task → line_reading l ≡ Some (failed f) → places_of_put names t u ≡ []
   unfolding places_of_put data_places data_contents places_at code_places_by code_contents_by LinesPassOn
   failed_places l f e q = go u.task (line_reading l) (rw (← e) at (lines_pass_on l)) q
     where
-      go : (k : Task) (o : Option (Reading ℕ)) → Passes k o → o ≡ some (failed f) → places_of_put names t (record { address = u.address; task = k }) ≡ []
+      go : (k : Task) (o : Option (Reading ℕ)) → Passes k o → o ≡ Some (failed f) → places_of_put names t (record { address = u.address; task = k }) ≡ []
       go _ _ org_read g = clash cc
       go _ _ org_failed g = refl
       go _ _ value_read g = clash cc

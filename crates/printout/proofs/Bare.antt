@@ -1,12 +1,12 @@
 -- Rows without their byte 10: that the printout is them, and what stands in their columns. Assumes nothing.
+use Rattle.std.specs.Prelude.{Some, slice_get}
 use Prim.Native.Nat.{ℕ, zero, suc, ◌+◌, ◌≤◌, ◌<◌, suc-le-suc}
 use mathlib.Core.Path.{◌≡◌, refl, sym, ap, ◌∙◌}
 use mathlib.Core.Bool.{Bool, true, false, cond}
-use mathlib.Core.Option.{some}
 use mathlib.Core.List.{List, [], ◌∷◌, ◌++◌, append_assoc, append-nil, flat_map, map}
 use native.Mathlib.Omega.{arith}
 use lib.Dec.{eqb}
-use lib.ListN.{length, take, drop, get_elem?, length-append, length-map}
+use lib.ListN.{length, take, drop, length-append, length-map}
 use lib.Seq.{take_at, drop_at, drop-drop}
 use Rattle.rules.specs.Number.{no_digits, bad_digit, out_of_range}
 use Rattle.rules.specs.Text.{Text, bytes}
@@ -16,7 +16,7 @@ use Rattle.rules.specs.Label.{Table}
 use Rattle.rules.specs.Encode.{Mnemonic}
 use Rattle.rules.specs.Assemble.{Put, Place, address_after}
 use Rattle.requests.specs.Explain.{not_instruction, unknown_mnemonic, wrong_count, wrong_kinds, bad_number, not_recorded, out_of_reach, Verdict, emitted, because, why_task}
-use Rattle.promises.proofs.Lists.{All, getElem?-map}
+use Rattle.promises.proofs.Lists.{All, slice_get-mapped}
 use Rattle.promises.proofs.Compared.{clash}
 use Rattle.listing.specs.Listing.{digits_of, decimal}
 use Rattle.whytext.specs.WhyLine.{phrase, verdict_text}
@@ -210,13 +210,13 @@ end_at base a (u ∷ us) = end_at base (address_after size base u.address u.task
 
 -- the row of the k-th line, from 0: one that asks, END, or one behind it
 pub data RowIs (names : List Mnemonic) (t : Table) (base a : ℕ) (us : List Put) (k : ℕ) (l : SourceLine) (r : Text) : Type 0 where
-  asks : (u : Put) → get_elem? us k ≡ some u → r ≡ bare_read names t u l → RowIs names t base a us k l r
+  asks : (u : Put) → slice_get us k ≡ Some u → r ≡ bare_read names t u l → RowIs names t base a us k l r
   ends : length us ≡ k → r ≡ bare_read names t (end_put (end_at base a us)) l → RowIs names t base a us k l r
   behind_end : length us < k → r ≡ bare_unread l → RowIs names t base a us k l r
 
 pub record RowFound (names : List Mnemonic) (t : Table) (base a : ℕ) (us : List Put) (ls : List SourceLine) (k : ℕ) (l : SourceLine) : Type 0 where
   pub row : Text
-  pub at : get_elem? (row_lines names t base a us ls) k ≡ some row
+  pub at : slice_get (row_lines names t base a us ls) k ≡ Some row
   pub is : RowIs names t base a us k l row
 
 module _ (names : List Mnemonic) (t : Table) (base : ℕ) where
@@ -226,11 +226,11 @@ module _ (names : List Mnemonic) (t : Table) (base : ℕ) where
   later a u us k l r (ends e q) = ends (ap suc e) q
   later a u us k l r (behind_end h q) = behind_end (suc-le-suc h) q
 
-  pub row_at : (a : ℕ) (us : List Put) (ls : List SourceLine) (k : ℕ) (l : SourceLine) → get_elem? ls k ≡ some l → RowFound names t base a us ls k l
+  pub row_at : (a : ℕ) (us : List Put) (ls : List SourceLine) (k : ℕ) (l : SourceLine) → slice_get ls k ≡ Some l → RowFound names t base a us ls k l
   unfolding row_lines end_at
   row_at a us [] k l e = clash cc
   row_at a [] (m ∷ ls) zero l e = let q : m ≡ l = cc in record { row = bare_read names t (end_put a) m; at = refl; is = ends refl (rw q) }
-  row_at a [] (m ∷ ls) (suc k) l e = record { row = bare_unread l; at = getElem?-map bare_unread ls k ∙ rw e; is = behind_end (omega arith) refl }
+  row_at a [] (m ∷ ls) (suc k) l e = record { row = bare_unread l; at = slice_get-mapped bare_unread ls k ∙ rw e; is = behind_end (omega arith) refl }
   row_at a (u ∷ us) (m ∷ ls) zero l e = let q : m ≡ l = cc in record { row = bare_read names t u m; at = refl; is = asks u refl (rw q) }
   row_at a (u ∷ us) (m ∷ ls) (suc k) l e =
       let f = row_at (address_after size base u.address u.task) us ls k l e in

@@ -1,4 +1,5 @@
 -- The columns of a row: how they are put, and how long they are. Assumes nothing.
+use Rattle.std.specs.Prelude.{Some}
 use Prim.Native.Nat.{ℕ, ◌+◌, ◌-◌, ◌≤◌}
 use mathlib.Core.Path.{◌≡◌, refl}
 use mathlib.Core.Bool.{cond}
@@ -9,11 +10,15 @@ use lib.ListN.{length, take, drop, set, length-append, length-drop}
 use lib.Seq.{take_at, take_all}
 use Rattle.rules.specs.Text.{Text, bytes}
 use Rattle.rules.specs.Assemble.{Place}
-use Rattle.requests.specs.Explain.{Verdict}
+use Rattle.rules.specs.Number.{no_digits, bad_digit, out_of_range}
+use Rattle.requests.specs.Explain.{not_instruction, unknown_mnemonic, wrong_count, wrong_kinds, bad_number, not_recorded, out_of_reach, Verdict, emitted, because}
 use Rattle.text.specs.Spans.{over_from}
+use Rattle.encode.specs.Code.{places_of}
+use Rattle.encode.specs.declared.Code.{Code}
+use Rattle.encode.specs.declared.Code.TheVariants.{Word, Value, Label}
 use Rattle.listing.specs.Listing.{digits_of, decimal}
 use Rattle.listing.proofs.Digits.{length_digits, few_places, decimal_length}
-use Rattle.whytext.proofs.Numbered.{verdict_short}
+use Rattle.whytext.specs.WhyLine.{verdict_text}
 use Rattle.printout.specs.Printout.{padded, word_text, words_text, front_text, end_text, row_text, unread_row}
 use Rattle.printout.specs.Rows.{Puts}
 use Rattle.printout.proofs.Putting.{puts_as, puts_one, puts_more, puts_both, puts_byte}
@@ -46,14 +51,15 @@ module _ (line : ℕ) (h : line ≤ 9999) where
     pub digits_taken : n ≡ length (take n d)
     digits_taken = rw digits_front (omega arith)
 
+    pub spaces_left : length (take (4 - n) (drop n spaces)) ≡ 4 - n
+    spaces_left = rw (to_end spaces n) (length-drop n spaces)
+
     -- the spaces that are left, and then the digits
-    pub number_put : (i r : ℕ) (x z y : List ℕ) → i ≤ length x → z ≡ over_from i (drop n spaces) x → r ≡ i + (4 - n) + length (take n d) → y ≡ over_from (i + (4 - n)) (take n d) z
-        → Puts (padded line) i r x y
+    pub number_put : (i m r : ℕ) (x z y : List ℕ) → i ≤ length x → Puts (take (4 - n) (drop n spaces)) i m x z → Puts (take n d) m r z y → Puts (padded line) i r x y
     unfolding padded bytes
-    number_put i r x z y l f q h =
+    number_put i m r x z y l p q =
         let long : n ≡ length (decimal line) = omega arith in
-        let front : Puts (drop (length (decimal line)) spaces) i (i + (4 - n)) x z = rw (← long) (puts_one _ i (i + (4 - n)) x z (rw (length-drop n spaces)) f) in
-        puts_more front l (decimal line) r y (rw digits_front at q) (rw digits_front at h)
+        puts_both (rw (to_end spaces n, long) at p) l (rw digits_front at q)
 
 -- ---- words
 pub word_length : (w m : ℕ) → length (word_text w m) ≡ 5
@@ -77,10 +83,29 @@ pub front_length : (n : ℕ) (a w : Text) → n ≤ 9999 → length a ≡ 8 → 
 unfolding front_text bytes
 front_length n a w h e f = simp length-append (omega (arith, padded_length n h))
 
+verdict_short : (v : Verdict) → length (verdict_text v) ≤ 26
+unfolding verdict_text bytes
+verdict_short emitted = omega arith
+verdict_short (because not_instruction) = omega arith
+verdict_short (because unknown_mnemonic) = omega arith
+verdict_short (because wrong_count) = omega arith
+verdict_short (because wrong_kinds) = omega arith
+verdict_short (because (bad_number no_digits)) = omega arith
+verdict_short (because (bad_number bad_digit)) = omega arith
+verdict_short (because (bad_number out_of_range)) = omega arith
+verdict_short (because not_recorded) = omega arith
+verdict_short (because out_of_reach) = omega arith
+
 pub end_length : (ps : List Place) (v : Verdict) → length (end_text ps v) ≤ 31
 unfolding end_text bytes
 end_length [] v = simp length-append (omega (arith, verdict_short v))
 end_length (p ∷ ps) v = omega arith
+
+pub end_some : (a : ℕ) (code : Code) (v : Verdict) → 10 ∷ [] ≡ end_text (places_of a (Some code)) v
+unfolding end_text
+end_some a (Word w) v = refl
+end_some a (Value w x) v = refl
+end_some a (Label w x) v = refl
 
 pub row_length : (n a : ℕ) (ps : List Place) (v : Verdict) (l : Text) → n ≤ 9999 → length (row_text n a ps v l) ≤ 58 + length l
 unfolding row_text
@@ -92,41 +117,27 @@ row_length n a ps v l h =
 pub number_ends : (n : ℕ) {i r : ℕ} {x y : List ℕ} → Puts (padded n) i r x y → n ≤ 9999 → r ≡ i + 4
 number_ends n p h = omega (arith, p.ends, padded_length n h)
 
-pub word_ends : (w m : ℕ) {i r : ℕ} {x y : List ℕ} → Puts (word_text w m) i r x y → r ≡ i + 5
-word_ends w m p = omega (arith, p.ends, word_length w m)
-
-pub words_ends : (ps : List Place) {i r : ℕ} {x y : List ℕ} → Puts (words_text ps) i r x y → r ≡ i + 10
-words_ends ps p = omega (arith, p.ends, words_length ps)
-
-pub front_ends : (n a : ℕ) (ps : List Place) {i r : ℕ} {x y : List ℕ} → Puts (front_text n (digits_of 16 8 a) (words_text ps)) i r x y → n ≤ 9999 → r ≡ i + 27
-front_ends n a ps p h = omega (arith, p.ends, front_length n (digits_of 16 8 a) (words_text ps) h (length_digits 16 8 a) (words_length ps))
-
 -- ---- parts put together
 pub front_put : (line address : ℕ) (w : Text) {i a b c d r : ℕ} {x x₁ x₂ x₃ x₄ x₅ y : List ℕ} → i ≤ length x → Puts (padded line) i a x x₁
-    → b ≡ a + 2 → x₂ ≡ over_from a (32 ∷ 32 ∷ []) x₁ → x₃ ≡ over_from b (digits_of 16 8 address) x₂ → c ≡ b + 8 + 2 → x₄ ≡ over_from (b + 8) (32 ∷ 32 ∷ []) x₃
-    → Puts w c d x₄ x₅ → r ≡ d + 1 → y ≡ over_from d (32 ∷ []) x₅ → Puts (front_text line (digits_of 16 8 address) w) i r x y
+    → Puts (bytes "  ") a b x₁ x₂ → x₃ ≡ over_from b (digits_of 16 8 address) x₂ → Puts (bytes "  ") (b + 8) c x₃ x₄ → Puts w c d x₄ x₅ → Puts (bytes " ") d r x₅ y
+    → Puts (front_text line (digits_of 16 8 address) w) i r x y
 unfolding front_text bytes
-front_put line address w {b = b} h p e₁ f₁ f₂ e₃ f₃ q e₄ f₄ =
+front_put line address w {b = b} h p q f t u v =
     let eight : b + 8 ≡ b + length (digits_of 16 8 address) = rw (length_digits 16 8 address) in
-    let one = puts_more p h (32 ∷ 32 ∷ []) _ _ e₁ f₁ in
-    let two = puts_more one h (digits_of 16 8 address) _ _ eight f₂ in
-    let three = puts_more two h (32 ∷ 32 ∷ []) _ _ e₃ f₃ in
-    puts_more (puts_both three h q) h (32 ∷ []) _ _ e₄ f₄
+    puts_both (puts_both (puts_both (puts_more (puts_both p h q) h (digits_of 16 8 address) _ _ eight f) h t) h u) h v
 
 pub row_put : (n a : ℕ) (ps : List Place) (v : Verdict) (l : Text) {i f e r : ℕ} {x x₁ x₂ y : List ℕ} → n ≤ 9999 → i ≤ length x
-    → Puts (front_text n (digits_of 16 8 a) (words_text ps)) i f x x₁ → e ≡ f + length l → x₂ ≡ over_from f l x₁ → Puts (end_text ps v) e r x₂ y
+    → Puts (front_text n (digits_of 16 8 a) (words_text ps)) i f x x₁ → Puts l f e x₁ x₂ → Puts (end_text ps v) e r x₂ y
     → Puts (row_text n a ps v l) i r x y × (r ≤ i + 58 + length l)
 unfolding row_text
-row_put n a ps v l g h p e₁ f₁ q =
-    let row = puts_both (puts_more p h l _ _ e₁ f₁) h q in
+row_put n a ps v l g h p o q =
+    let row = puts_both (puts_both p h o) h q in
     (row, omega (arith, row.ends, row_length n a ps v l g))
 
 -- behind END: the 23 bytes between the number and the line
 pub unread_put : (line start : ℕ) (l : Text) {i a b c r : ℕ} {x x₁ x₂ x₃ y : List ℕ} → line ≤ 9999 → i ≤ length x → Puts (padded line) i a x x₁
-    → b ≡ a + 23 → x₂ ≡ over_from a (bytes "  not read             ") x₁ → c ≡ b + length l → x₃ ≡ over_from b l x₂ → r ≡ c + 1 → y ≡ over_from c (10 ∷ []) x₃
+    → Puts (bytes "  not read             ") a b x₁ x₂ → Puts l b c x₂ x₃ → Puts (10 ∷ []) c r x₃ y
     → Puts (unread_row (record { number = line; start = start; text = l })) i r x y × (r ≤ i + 58 + length l)
 unfolding unread_row front_text bytes
-unread_put line start l g h p e₁ f₁ e₂ f₂ e₃ f₃ =
-    let one = puts_more p h (bytes "  not read             ") _ _ e₁ f₁ in
-    let all = puts_more (puts_more one h l _ _ e₂ f₂) h (10 ∷ []) _ _ e₃ f₃ in
-    (puts_as _ _ (simp append_assoc) all, omega (arith, number_ends line p g))
+unread_put line start l g h p q t u =
+    (puts_as _ _ (simp append_assoc) (puts_both (puts_both (puts_both p h q) h t) h u), omega (arith, number_ends line p g, q.ends, t.ends, u.ends))

@@ -1,6 +1,6 @@
 -- The examples hold by computing. Assumes nothing.
+use Rattle.rules.specs.Option.{bind, or_else}
 use mathlib.Core.Path.{refl}
-use mathlib.Core.Option.{bind, or_else}
 use mathlib.Core.List.{flat_map}
 use Rattle.rules.specs.Text.{bytes, blank, upper, uppers, leading, trim_start, keep_end, trim_end, trim, on_first, cut_where, cut_at, drop_empty, pieces, join_more, joined, in_front, first_cut, same, starts, contains, after, nth, first_text, other_texts, last_text}
 use Rattle.rules.specs.Number.{digit_value, digits, some_digits, ranged, below, within, modulo, without, unsigned_reading, signed_reading, hex_tail, by_prefix, reading32, reading16, reading8, immediate, value_of, number16, imm8, imm16}

@@ -17,7 +17,7 @@ use Rattle.rules.specs.Assemble.{Put, address_after, putting, first_pass_by}
 use Rattle.rules.specs.Assemble.{Pass as Ruled}
 use Rattle.promises.proofs.Fit.{Holds as Kept, holds_then}
 use Rattle.promises.proofs.Tasks.{pass_line}
-use Rattle.label.specs.Table.{table_of}
+use Rattle.label.specs.Labelled.{Labelled}
 use Rattle.outline.specs.Lines.{line_end, lines_from}
 use Rattle.outline.proofs.Lines.{lines_all, lines_none, lines_step}
 use Rattle.line.specs.declared.Task.TheVariants.{End}
@@ -49,13 +49,12 @@ few_asked base a t (l ∷ ls) =
     task : Said
     task = (line_of l.text).task
 
-module _ {source : Text} {table cells : List ℕ} {pass : Pass} (h : Holds source table cells pass) where
-  pub few_kept : pass.lines ≤ length (lines_from source 1 0)
-  unfolding pass_in
+module _ {labels : Labelled} {cells : List ℕ} {pass : Pass} (h : Holds labels cells pass) where
+  pub few_kept : pass.lines ≤ length (lines_from labels.source 1 0)
   few_kept =
-      let w = within size pass.base source (pass_in source table cells pass) h.passed in
-      let f = rw w.passed at (few_asked pass.base pass.base [] (lines_of source)) in
-      omega (arith, f, puts_length source pass.base cells pass.lines, ap length (lines_all source))
+      let w = within size pass.base labels.source (pass_in labels cells pass) h.passed in
+      let f = rw w.passed at (few_asked pass.base pass.base [] (lines_of labels.source)) in
+      omega (arith, f, puts_length labels.source pass.base cells pass.lines, ap length (lines_all labels.source))
 
   -- the address before line k, and before END
   pub address_low : (k : ℕ) → k ≤ pass.lines → address_at pass.base cells k < address_limit
@@ -63,79 +62,70 @@ module _ {source : Text} {table cells : List ℕ} {pass : Pass} (h : Holds sourc
   address_low zero l = (bounded h).base
   address_low (suc j) l =
       let b = (bounded h).puts j (omega arith) in
-      rw (after_kept size source pass.base (address_at pass.base cells j) (kept_at cells j) (h.lines.line j (omega arith)).sized) b.after
+      rw (after_kept size labels.source pass.base (address_at pass.base cells j) (kept_at cells j) (h.lines.line j (omega arith)).sized) b.after
 
-  pub end_needs : (k address : ℕ) → k ≤ pass.lines → address ≡ address_at pass.base cells k → WhyTaskNeeds source table pass.labels address End
-  end_needs k address l e =
-      rw e
-      (record {
-        near = record { held = h.labels; labels_below = (bounded h).labels; address_below = address_low k l };
-        short = (bounded h).short;
-        within = tt;
-      })
+  pub end_needs : (k address : ℕ) → k ≤ pass.lines → address ≡ address_at pass.base cells k → WhyTaskNeeds labels address End
+  end_needs k address l e = rw e (record { near = record { labels_below = (bounded h).labels_below; address_below = address_low k l }; short = (bounded h).short; within = tt })
 
 -- ---- the rows
-module _ (names : List Mnemonic) (source : Text) (table cells : List ℕ) (pass : Pass) where
-  abbrev recorded : Table
-  recorded = table_of source table pass.labels
-
+module _ (names : List Mnemonic) (labels : Labelled) (cells : List ℕ) (pass : Pass) where
   abbrev asked : List Put
-  asked = puts_of source pass.base cells pass.lines
+  asked = puts_of labels.source pass.base cells pass.lines
 
   abbrev pub all_rows : Text
-  all_rows = rows_from names recorded pass.base pass.base asked (lines_of source)
+  all_rows = rows_from names labels.table pass.base pass.base asked (lines_of labels.source)
 
   -- from line k on, which starts at i and is read at address a
   abbrev pub left_rows : ℕ → ℕ → ℕ → Text
-  left_rows a k i = rows_from names recorded pass.base a (drop k asked) (lines_from source (k + 1) i)
+  left_rows a k i = rows_from names labels.table pass.base a (drop k asked) (lines_from labels.source (k + 1) i)
 
 -- the rows of k lines are put into first, which gives out
-pub record Keeping (names : List Mnemonic) (source : Text) (table cells : List ℕ) (pass : Pass) (first : List ℕ) (address k i to : ℕ) (out : List ℕ) : Type 0 where
+pub record Keeping (names : List Mnemonic) (labels : Labelled) (cells : List ℕ) (pass : Pass) (first : List ℕ) (address k i to : ℕ) (out : List ℕ) : Type 0 where
   pub among : k ≤ pass.lines
   pub here : address ≡ address_at pass.base cells k
-  pub rows : Rowing source 1 0 0 (all_rows names source table cells pass) first (k + 1) i to (left_rows names source table cells pass address k i) out
+  pub rows : Rowing labels.source 1 0 0 (all_rows names labels cells pass) first (k + 1) i to (left_rows names labels cells pass address k i) out
 
-pub keeping_start : (names : List Mnemonic) (source : Text) (table cells : List ℕ) (pass : Pass) (first : List ℕ) → Keeping names source table cells pass first pass.base 0 0 0 first
+pub keeping_start : (names : List Mnemonic) (labels : Labelled) (cells : List ℕ) (pass : Pass) (first : List ℕ) → Keeping names labels cells pass first pass.base 0 0 0 first
 unfolding address_at
-keeping_start names source table cells pass first =
+keeping_start names labels cells pass first =
     record {
       among = omega arith;
       here = refl;
-      rows = rowing_start source 1 0 0 (all_rows names source table cells pass) (left_rows names source table cells pass pass.base 0 0) first (omega arith)
-          (ap (rows_from names (recorded names source table cells pass) pass.base pass.base (asked names source table cells pass)) (sym (lines_all source)));
+      rows = rowing_start labels.source 1 0 0 (all_rows names labels cells pass) (left_rows names labels cells pass pass.base 0 0) first (omega arith)
+          (ap (rows_from names labels.table pass.base pass.base (asked names labels cells pass)) (sym (lines_all labels.source)));
     }
 
-module _ {names : List Mnemonic} {source : Text} {table cells : List ℕ} {pass : Pass} {first : List ℕ} {address k i to : ℕ} {out : List ℕ} (w : Keeping names source table cells pass first address k i to out)
-    (h : Holds source table cells pass) (needs : LinesNeeds source 1 0 0 first) where
+module _ {names : List Mnemonic} {labels : Labelled} {cells : List ℕ} {pass : Pass} {first : List ℕ} {address k i to : ℕ} {out : List ℕ} (w : Keeping names labels cells pass first address k i to out)
+    (h : Holds labels cells pass) (needs : LinesNeeds labels.source 1 0 0 first) where
   -- a line is left
-  pub keeping_inside : k < pass.lines → i ≤ length source
-  keeping_inside l = go (leb i (length source)) refl
+  pub keeping_inside : k < pass.lines → i ≤ length labels.source
+  keeping_inside l = go (leb i (length labels.source)) refl
     where
-      go : (y : Bool) → leb i (length source) ≡ y → i ≤ length source
-      go true e = leb-true i (length source) e
-      go false e = absurd (omega (arith, ap length (lines_none source (k + 1) i (leb-false i (length source) e)), w.rows.count, few_kept h))
+      go : (y : Bool) → leb i (length labels.source) ≡ y → i ≤ length labels.source
+      go true e = leb-true i (length labels.source) e
+      go false e = absurd (omega (arith, ap length (lines_none labels.source (k + 1) i (leb-false i (length labels.source) e)), w.rows.count, few_kept h))
 
   module _ (l : k < pass.lines) {kept : Line} (e : kept ≡ kept_at cells k) where
-    pub keeping_task : WhyTaskNeeds source table pass.labels address kept.task
+    pub keeping_task : WhyTaskNeeds labels address kept.task
     keeping_task = task_needs h k l w.here e
 
     pub keeping_fits : after_by pass.base address kept < 2 ^ 32
     keeping_fits = rw (w.here, e) (after_low h k l)
 
-    module _ {end : ℕ} (q : end ≡ line_end source i) where
-      pub keeping_line : LineNeeds source (k + 1) i end to out
+    module _ {end : ℕ} (q : end ≡ line_end labels.source i) where
+      pub keeping_line : LineNeeds labels.source (k + 1) i end to out
       keeping_line = rowing_line w.rows needs (keeping_inside l) end q
 
       step : {a : ℕ} → a ≡ after_by pass.base address kept
-          → left_rows names source table cells pass address k i ≡ read_row names (table_of source table pass.labels) (put_of source address kept.task) (line_at source (k + 1) i) ++ left_rows names source table cells pass a (k + 1) (end + 1)
+          → left_rows names labels cells pass address k i ≡ read_row names labels.table (put_of labels.source address kept.task) (line_at labels.source (k + 1) i) ++ left_rows names labels cells pass a (k + 1) (end + 1)
       unfolding rows_from
       step {a} p =
-          let f : a ≡ address_after size pass.base (address_at pass.base cells k) (put_at source pass.base cells k).task = p ∙ (rw (w.here, e) (after_kept size source pass.base (address_at pass.base cells k) (kept_at cells k) (h.lines.line k l).sized)) in
-          rw (puts_next source pass.base cells pass.lines k l, lines_step source (k + 1) i (keeping_inside l), f, w.here, e, q, add-one (line_end source i), add-one (k + 1), add-one k)
+          let f : a ≡ address_after size pass.base (address_at pass.base cells k) (put_at labels.source pass.base cells k).task = p ∙ (rw (w.here, e) (after_kept size labels.source pass.base (address_at pass.base cells k) (kept_at cells k) (h.lines.line k l).sized)) in
+          rw (puts_next labels.source pass.base cells pass.lines k l, lines_step labels.source (k + 1) i (keeping_inside l), f, w.here, e, q, add-one (line_end labels.source i), add-one (k + 1), add-one k)
 
       pub keeping_more : {a r : ℕ} {last : List ℕ} → a ≡ after_by pass.base address kept
-          → Puts (read_row names (table_of source table pass.labels) (put_of source address kept.task) (line_at source (k + 1) i)) to r out last
-          → r + i ≤ to + 58 + end → length last ≡ length out → Keeping names source table cells pass first a (k + 1) (end + 1) r last
+          → Puts (read_row names labels.table (put_of labels.source address kept.task) (line_at labels.source (k + 1) i)) to r out last
+          → r + i ≤ to + 58 + end → length last ≡ length out → Keeping names labels cells pass first a (k + 1) (end + 1) r last
       unfolding address_at
       keeping_more p g b c =
           record {
@@ -145,17 +135,21 @@ module _ {names : List Mnemonic} {source : Text} {table cells : List ℕ} {pass 
           }
 
   -- behind them
-  pub keeping_end : WhyTaskNeeds source table pass.labels address End
+  pub keeping_end : WhyTaskNeeds labels address End
   keeping_end = end_needs h k address w.among w.here
 
-  pub keeping_left : LinesNeeds source (k + 1) i to out
+  pub keeping_left : LinesNeeds labels.source (k + 1) i to out
   keeping_left = rowing_needs w.rows needs
 
+  -- and all kept ones are put
+  pub keeping_done : pass.lines ≤ k → Keeping names labels cells pass first address pass.lines i to out
+  keeping_done l = let z : k ≡ pass.lines = omega (arith, w.among) in rw z at w
+
   pub keeping_rest : pass.lines ≤ k → {r : ℕ} {last : List ℕ}
-      → RowsGive source (k + 1) i (rows_from names (table_of source table pass.labels) pass.base address [] (lines_from source (k + 1) i)) to r out last → length last ≡ length out
-      → RowsGive source 1 0 (all_rows names source table cells pass) 0 r first last
+      → RowsGive labels.source (k + 1) i (rows_from names labels.table pass.base address [] (lines_from labels.source (k + 1) i)) to r out last → length last ≡ length out
+      → RowsGive labels.source 1 0 (all_rows names labels cells pass) 0 r first last
   keeping_rest l {r} {last} g c =
-      let past : length (puts_of source pass.base cells pass.lines) ≤ k = omega (arith, puts_length source pass.base cells pass.lines) in
-      let none : drop k (puts_of source pass.base cells pass.lines) ≡ [] = drop_of_length-le (puts_of source pass.base cells pass.lines) past in
-      let g' : RowsGive source (k + 1) i (left_rows names source table cells pass address k i) to r out last = rw none g in
+      let past : length (puts_of labels.source pass.base cells pass.lines) ≤ k = omega (arith, puts_length labels.source pass.base cells pass.lines) in
+      let none : drop k (puts_of labels.source pass.base cells pass.lines) ≡ [] = drop_of_length-le (puts_of labels.source pass.base cells pass.lines) past in
+      let g' : RowsGive labels.source (k + 1) i (left_rows names labels cells pass address k i) to r out last = rw none g in
       rowing_rest w.rows needs g' c

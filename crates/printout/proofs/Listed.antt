@@ -1,11 +1,11 @@
 -- All rows together show the list: the words of the lines with a value, and then those of the others. Assumes nothing.
+use Rattle.std.specs.Prelude.{Some, slice_get}
 use Prim.Native.Nat.{ℕ, suc, ◌+◌, ◌^◌, ◌≤◌, ◌<◌}
 use mathlib.Core.Path.{◌≡◌, refl, sym, ap, ◌∙◌}
 use mathlib.Core.Bool.{Bool, true, false, cond}
-use mathlib.Core.Option.{some}
 use mathlib.Core.List.{List, [], ◌∷◌, ◌++◌, map, flat_map, map-append}
 use native.Mathlib.Omega.{arith}
-use lib.ListN.{length, get_elem?}
+use lib.ListN.{length}
 use Rattle.rules.specs.Text.{Text, cut_at}
 use Rattle.rules.specs.Line.{SourceLine, numbered, lines_of, Task, skipped, end, org, no_org, label_only, instruction, value, space, line_of, size}
 use Rattle.rules.specs.Label.{Table}
@@ -108,7 +108,7 @@ unfolding numbered
 numbered_texts n i [] = refl
 numbered_texts n i (x ∷ ts) = ap (λ (r : List Text). x ∷ r) (numbered_texts (suc n) (suc (i + length x)) ts)
 
-all_fit : (us : List Put) → ((k : ℕ) (u : Put) → get_elem? us k ≡ some u → Fits u) → All Fits us
+all_fit : (us : List Put) → ((k : ℕ) (u : Put) → slice_get us k ≡ Some u → Fits u) → All Fits us
 all_fit [] h = tt
 all_fit (u ∷ us) h = (h 0 u refl, all_fit us (λ k v e. h (suc k) v e))
 

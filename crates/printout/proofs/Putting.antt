@@ -1,11 +1,13 @@
 -- A text put into a slice part by part, from an index on. Assumes nothing.
-use Prim.Native.Nat.{ℕ, ◌+◌, ◌<◌, ◌≤◌}
+use Prim.Native.Nat.{ℕ, ◌+◌, ◌-◌, ◌<◌, ◌≤◌}
 use mathlib.Core.Path.{◌≡◌, sym, ap, ◌∙◌}
-use mathlib.Core.List.{List, [], ◌∷◌, ◌++◌}
+use mathlib.Core.List.{List, [], ◌∷◌, ◌++◌, append-nil}
 use native.Mathlib.Omega.{arith}
 use native.Mathlib.Nat.{add-zero}
-use lib.ListN.{length, set, length-append}
+use lib.ListN.{length, take, drop, set, length-append, length-drop, drop_of_length-le}
+use lib.Seq.{take_all, drop-drop}
 use Rattle.rules.specs.Text.{Text}
+use Rattle.rules.specs.Assemble.{over}
 use Rattle.text.specs.Spans.{over_from}
 use Rattle.text.proofs.Over.{put_both, put_nil, put_over, set_put}
 use Rattle.station.specs.Printed.{Printed}
@@ -34,6 +36,15 @@ module _ {s : Text} {i r : ℕ} {x y : List ℕ} (p : Puts s i r x y) where
   -- a byte more
   pub puts_byte : i ≤ length x → (b m : ℕ) → m ≡ r + 1 → r < length y → Puts (s ++ (b ∷ [])) i m x (set y r b)
   puts_byte h b m e g = puts_more h (b ∷ []) m (set y r b) e (set_put r b y g)
+
+-- z, the slice from i on, after the text is put over its front
+pub puts_behind : (s : Text) (i n : ℕ) (x z : List ℕ) → n ≡ length s → z ≡ over s (take (length x - i) (drop i x))
+    → Puts s i (i + n) x (take i x ++ (z ++ drop (length x - i) (drop i x)))
+unfolding over_from over
+puts_behind s i n x z e f =
+    let all : take (length x - i) (drop i x) ≡ drop i x = take_all (length x - i) (drop i x) (omega (arith, length-drop i x)) in
+    let none : drop (length x - i) (drop i x) ≡ [] = drop_of_length-le (drop i x) (omega (arith, length-drop i x)) in
+    record { ends = rw e; after = rw (none, append-nil z, f, all, drop-drop (length s) i x) }
 
 -- all of it, from the front on
 pub puts_all : {s : Text} {r : ℕ} {x y : List ℕ} → Puts s 0 r x y → Printed s r x y

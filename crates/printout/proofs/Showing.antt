@@ -1,12 +1,12 @@
 -- What a printout shows, row by row. Assumes nothing.
+use Rattle.std.specs.Prelude.{Option, None, Some, slice_get}
 use Prim.Native.Nat.{ℕ, zero, suc, ◌+◌, ◌^◌, ◌≤◌, ◌<◌}
 use mathlib.Core.Path.{◌≡◌, refl, sym, ap, ◌∙◌}
 use mathlib.Core.Bool.{Bool, true, false, cond}
-use mathlib.Core.Option.{Option, none, some}
 use mathlib.Core.List.{List, [], ◌∷◌, ◌++◌, map, flat_map}
 use native.Mathlib.Omega.{arith}
 use lib.Dec.{ltb}
-use lib.ListN.{length, take, drop, get_elem?}
+use lib.ListN.{length, take, drop}
 use lib.Seq.{drop_at}
 use Rattle.rules.specs.Text.{Text, bytes, cut_where, cut_at}
 use Rattle.rules.specs.Number.{Failure, Reading, read, failed}
@@ -36,12 +36,12 @@ use Rattle.printout.proofs.Worded.{places_read, blank_read}
 use Rattle.printout.proofs.Asking.{asks_at, asks_end, line_is, pass_asks, few_lines, put_low, end_last, end_low, emitted_places, reason_places, failed_places}
 
 -- ---- a list at an index
-at_below : {A : Type 0} (xs : List A) (k : ℕ) (x : A) → get_elem? xs k ≡ some x → k < length xs
+at_below : {A : Type 0} (xs : List A) (k : ℕ) (x : A) → slice_get xs k ≡ Some x → k < length xs
 at_below [] k x e = clash cc
 at_below (y ∷ xs) zero x e = omega arith
 at_below (y ∷ xs) (suc k) x e = omega (arith, at_below xs k x e)
 
-at_front : {A : Type 0} (xs ys : List A) (k : ℕ) (x : A) → get_elem? xs k ≡ some x → get_elem? (xs ++ ys) k ≡ some x
+at_front : {A : Type 0} (xs ys : List A) (k : ℕ) (x : A) → slice_get xs k ≡ Some x → slice_get (xs ++ ys) k ≡ Some x
 at_front [] ys k x e = clash cc
 at_front (y ∷ xs) ys zero x e = e
 at_front (y ∷ xs) ys (suc k) x e = at_front xs ys k x e
@@ -131,10 +131,10 @@ record Found (names : List Mnemonic) (base : ℕ) (s t : Text) (p : Pass) (k : �
   text : line.text ≡ x
   number : line.number ≡ suc k
   small : line.number ≤ 9999
-  among : get_elem? (lines_of s) k ≡ some line
+  among : slice_get (lines_of s) k ≡ Some line
   inside : k < length (cut_at 10 s)
   row : Text
-  at : get_elem? (cut_at 10 t) k ≡ some row
+  at : slice_get (cut_at 10 t) k ≡ Some row
   is : RowIs names p.labels base base p.puts k line row
 
 module _ {names : List Mnemonic} {base : ℕ} {s t : Text} {p : Pass} (h : Printout names base s t p) where
@@ -153,7 +153,7 @@ module _ {names : List Mnemonic} {base : ℕ} {s t : Text} {p : Pass} (h : Print
       ap (cut_at 10) (page ∙ ap (λ (x : Text). x ++ under) (rows_ended names p.labels base base p.puts (lines_of s)))
       ∙ cut_rows lines under (rows_whole names p.labels base base p.puts (lines_of s) (numbered_whole 1 0 (cut_at 10 s) (lines_whole s)))
 
-  found : (k : ℕ) (x : Text) → get_elem? (cut_at 10 s) k ≡ some x → Found names base s t p k x
+  found : (k : ℕ) (x : Text) → slice_get (cut_at 10 s) k ≡ Some x → Found names base s t p k x
   unfolding lines_of
   found k x e =
       let l = line_is 1 0 (cut_at 10 s) k x e in
@@ -172,7 +172,7 @@ module _ {names : List Mnemonic} {base : ℕ} {s t : Text} {p : Pass} (h : Print
       }
 
   -- addresses have 8 digits
-  pub put_fits : (k : ℕ) (u : Put) → get_elem? p.puts k ≡ some u → u.address < 16 ^ 8
+  pub put_fits : (k : ℕ) (u : Put) → slice_get p.puts k ≡ Some u → u.address < 16 ^ 8
   put_fits k u e = omega (arith, (put_low base s p h.passed k u e).here)
 
   pub end_fits : end_at base base p.puts < 16 ^ 8
@@ -241,7 +241,7 @@ end_places names t a = refl
 
 module _ {names : List Mnemonic} {base : ℕ} {s t : Text} {p : Pass} (h : Printout names base s t p) (k : ℕ) (l : SourceLine) (small : l.number ≤ 9999) where
   abbrev Shown : Text → Type 0
-  Shown r = ((u : Put) → get_elem? p.puts k ≡ some u → PutShown names p u r) × (length p.puts ≤ k → places_in r ≡ [])
+  Shown r = ((u : Put) → slice_get p.puts k ≡ Some u → PutShown names p u r) × (length p.puts ≤ k → places_in r ≡ [])
 
   put_shown : (r : Text) → RowIs names p.labels base base p.puts k l r → Shown r
   unfolding places_of_put
@@ -263,7 +263,7 @@ module _ {names : List Mnemonic} {base : ℕ} {s t : Text} {p : Pass} (h : Print
   end_shown r (ends e q) n = rw q (read_address names p.labels (end_put (end_at base base p.puts)) l small (end_fits h))
   end_shown r (behind_end e q) n = absurd (omega arith)
 
-same_row : (t : Text) {r r' : Text} (k : ℕ) → get_elem? (cut_at 10 t) k ≡ some r → get_elem? (cut_at 10 t) k ≡ some r' → r ≡ r'
+same_row : (t : Text) {r r' : Text} (k : ℕ) → slice_get (cut_at 10 t) k ≡ Some r → slice_get (cut_at 10 t) k ≡ Some r' → r ≡ r'
 same_row t k e f = cc
 
 pub shows_places : ShowsPlaces
@@ -287,13 +287,13 @@ shows_end names base s t p h k x r i n =
     (λ z. address ∙ none_asked p.puts base base (n ∙ z), λ j u z e. address ∙ end_last base base p.puts j u (n ∙ z) e)
 
 -- ---- reasons
-given_reason : (o : Option (Reading ℕ)) (v : Verdict) → ((f : Failure) → ¬ (o ≡ some (failed f))) → reason_of o v ≡ v
+given_reason : (o : Option (Reading ℕ)) (v : Verdict) → ((f : Failure) → ¬ (o ≡ Some (failed f))) → reason_of o v ≡ v
 unfolding reason_of
-given_reason none v n = refl
-given_reason (some (read m)) v n = refl
-given_reason (some (failed f)) v n = absurd (n f refl)
+given_reason None v n = refl
+given_reason (Some (read m)) v n = refl
+given_reason (Some (failed f)) v n = absurd (n f refl)
 
-failed_reason : (o : Option (Reading ℕ)) (v : Verdict) (f : Failure) → o ≡ some (failed f) → reason_of o v ≡ because (bad_number f)
+failed_reason : (o : Option (Reading ℕ)) (v : Verdict) (f : Failure) → o ≡ Some (failed f) → reason_of o v ≡ because (bad_number f)
 unfolding reason_of
 failed_reason o v f e = rw e
 

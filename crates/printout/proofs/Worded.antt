@@ -1,4 +1,5 @@
 -- A row's words read back: what a line asks has a code, and its columns show the code's places. Assumes nothing.
+use Rattle.std.specs.Prelude.{Option, None, Some}
 use Prim.Native.Nat.{ℕ, ◌+◌, ◌*◌, ◌/◌, ◌%◌, ◌<◌}
 use mathlib.Core.Path.{◌≡◌, refl, sym, ap, ◌∙◌}
 use mathlib.Core.Bool.{Bool, true, false, cond}
@@ -16,7 +17,7 @@ use Rattle.rules.specs.Encode.{Mnemonic, encode_by}
 use Rattle.rules.specs.Assemble.{Put, Place, place, places_at, data_contents, data_places, code_contents_by, code_places_by}
 use Rattle.encode.specs.Code.{code_of, places_of}
 use Rattle.encode.specs.declared.Code.{Code}
-use Rattle.encode.specs.declared.Code.TheVariants.{Nothing, Word, Value, Label}
+use Rattle.encode.specs.declared.Code.TheVariants.{Word, Value, Label}
 use Rattle.encode.proofs.Callers.{encode_places}
 use Rattle.listing.specs.Listing.{digit_byte, digits_of}
 use Rattle.listing.specs.Reading.{hex_in}
@@ -120,26 +121,26 @@ both_read a x y rest ps qs l f g =
     rw (first, second)
 
 module _ (a : ℕ) (rest : Text) where
-  pub code_read : (c : Code) → word_in a (words_text (places_of a c) ++ rest) ++ word_in (a + 2) (drop 5 (words_text (places_of a c) ++ rest)) ≡ map sixteen (places_of a c)
+  pub code_read : (c : Option Code) → word_in a (words_text (places_of a c) ++ rest) ++ word_in (a + 2) (drop 5 (words_text (places_of a c) ++ rest)) ≡ map sixteen (places_of a c)
   unfolding words_text bytes sixteen
-  code_read Nothing = both_read a blanks blanks rest [] [] refl (blank_read a) (blank_read (a + 2))
-  code_read (Word w) = both_read a (word_text w 0) blanks rest (place a (w % 65536) 0 ∷ []) [] (word_length w 0) (word_read a w 0) (blank_read (a + 2))
-  code_read (Value w v) =
+  code_read None = both_read a blanks blanks rest [] [] refl (blank_read a) (blank_read (a + 2))
+  code_read (Some (Word w)) = both_read a (word_text w 0) blanks rest (place a (w % 65536) 0 ∷ []) [] (word_length w 0) (word_read a w 0) (blank_read (a + 2))
+  code_read (Some (Value w v)) =
       both_read a (word_text w 0) (word_text v 0) rest (place a (w % 65536) 0 ∷ []) (place (a + 2) (v % 65536) 0 ∷ []) (word_length w 0) (word_read a w 0) (word_read (a + 2) v 0)
-  code_read (Label w x) =
+  code_read (Some (Label w x)) =
       both_read a (word_text w 0) (word_text x 1) rest (place a (w % 65536) 0 ∷ []) (place (a + 2) (x % 65536) 1 ∷ []) (word_length w 0) (word_read a w 0) (word_read (a + 2) x 1)
 
 -- ---- what a line asks has a code
-pub coded : (names : List Mnemonic) (t : Table) (a : ℕ) (k : Task) → (c : Code) × (places_of a c ≡ places_of_put names t (record { address = a; task = k }))
+pub coded : (names : List Mnemonic) (t : Table) (a : ℕ) (k : Task) → (c : Option Code) × (places_of a c ≡ places_of_put names t (record { address = a; task = k }))
 unfolding places_of_put data_places data_contents places_at code_places_by code_contents_by
-coded names t a skipped = (Nothing, refl)
-coded names t a end = (Nothing, refl)
-coded names t a (org v) = (Nothing, refl)
-coded names t a no_org = (Nothing, refl)
-coded names t a label_only = (Nothing, refl)
+coded names t a skipped = (None, refl)
+coded names t a end = (None, refl)
+coded names t a (org v) = (None, refl)
+coded names t a no_org = (None, refl)
+coded names t a label_only = (None, refl)
 coded names t a (instruction i) = (code_of (encode_by names t a i), encode_places names t a i)
-coded names t a (value n v) = (Value (v / 65536) (v % 65536), refl)
-coded names t a (space n) = (Nothing, refl)
+coded names t a (value n v) = (Some (Value (v / 65536) (v % 65536)), refl)
+coded names t a (space n) = (None, refl)
 
 -- the two columns of a line that asks u
 pub places_read : (names : List Mnemonic) (t : Table) (u : Put) (rest : Text)

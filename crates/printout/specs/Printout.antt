@@ -1,7 +1,6 @@
 -- What `lagvettu list` prints for a script, an assembly listing for people: a row for each line of the source with its address and its
 -- words, or why it has none, and the labels under the rows; over the mnemonics in use, by 01's and under a branch table. Assumes nothing.
-use Rattle.std.specs.Prelude.{ℕ, cond, eqb, length, drop}
-use Rattle.std.proofs.Math.Option.{Option, none, some}
+use Rattle.std.specs.Prelude.{ℕ, cond, eqb, length, drop, Option, None, Some}
 use mathlib.Core.List.{List, [], ◌∷◌, ◌++◌, flat_map}
 use Rattle.rules.specs.Text.{Text, bytes}
 use Rattle.rules.specs.Number.{Reading, read, failed}
@@ -48,9 +47,9 @@ row_text n a ps v l = (front_text n (digits_of 16 8 a) (words_text ps) ++ l) ++ 
 
 -- a directive, ORG or data with `DC.`, whose number cannot be read is told by what failed in it, any other line by W-205's verdict
 unfoldable pub reason_of : Option (Reading ℕ) → Verdict → Verdict
-reason_of none v = v
-reason_of (some (read n)) v = v
-reason_of (some (failed f)) v = because (bad_number f)
+reason_of None v = v
+reason_of (Some (read n)) v = v
+reason_of (Some (failed f)) v = because (bad_number f)
 
 -- all places of what a line asks
 unfoldable pub places_of_put : List Mnemonic → Table → Put → List Place

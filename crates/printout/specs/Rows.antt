@@ -1,14 +1,15 @@
 -- Rows as the code puts them one after another into a slice: what its functions need and give. Assumes nothing.
-use Rattle.std.specs.Prelude.{ℕ, zero, suc, ◌+◌, ◌-◌, ◌*◌, ◌≤◌, ◌≡◌, List, [], ◌∷◌, length}
+use Rattle.std.specs.Prelude.{ℕ, ◌+◌, ◌-◌, ◌*◌, ◌≤◌, ◌≡◌, List, length, Option, None, Some, Result, Ok, Err}
 use Rattle.rules.specs.Text.{Text}
 use Rattle.rules.specs.Line.{SourceLine}
 use Rattle.rules.specs.Assemble.{Put}
 use Rattle.text.specs.Spans.{over_from}
 use Rattle.outline.specs.Lines.{line_end, line_from, lines_from}
+use Rattle.numeral.specs.declared.Failure.{Failure}
 use Rattle.line.specs.Line.{task_at}
 use Rattle.line.specs.declared.Task.{Task}
-use Rattle.numeral.specs.declared.Failure.{Failure}
-use Rattle.numeral.specs.declared.Failure.TheVariants.{NoDigits, BadDigit, OutOfRange}
+use Rattle.explain.specs.Verdict.{failure_verdict}
+use Rattle.explain.specs.declared.Verdict.{Verdict}
 
 -- ---- texts put into a slice
 -- r, the index after s, and y, the slice after s is put over x from index i on
@@ -17,11 +18,11 @@ pub record Puts (s : Text) (i r : ℕ) (x y : List ℕ) : Type 0 where
   pub after : y ≡ over_from i s x
 
 -- ---- one line
--- the number of the verdict that a number's failure is
-abbrev pub failure_number : Failure → ℕ
-failure_number NoDigits = 5
-failure_number BadDigit = 6
-failure_number OutOfRange = 7
+-- the verdict that is shown of a line, by what its number is
+abbrev pub shown_verdict : Option (Result ℕ Failure) → Verdict → Verdict
+shown_verdict None v = v
+shown_verdict (Some (Ok n)) v = v
+shown_verdict (Some (Err f)) v = failure_verdict f
 
 -- what a task asks at an address
 abbrev pub put_of : Text → ℕ → Task → Put
@@ -53,9 +54,3 @@ pub record LinesNeeds (source : Text) (line start at : ℕ) (out : List ℕ) : T
 pub record RowsGive (source : Text) (line start : ℕ) (s : Text) (at r : ℕ) (x y : List ℕ) : Type 0 where
   pub puts : Puts s at r x y
   pub low : r ≤ at + rows_room source line start
-
--- ---- labels
--- what stands under the rows, by how many labels there are
-abbrev pub under_count : ℕ → Text → Text
-under_count zero symbols = []
-under_count (suc n) symbols = 10 ∷ symbols

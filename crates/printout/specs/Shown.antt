@@ -1,8 +1,6 @@
 -- What a printout shows, read back from its text alone: each line of the source once and in order, each place of the list in the row of the
 -- line that asks it and no other word, why a line has none, and the labels under the rows. Apart from how it is written. Assumes nothing.
-use Rattle.std.specs.Prelude.{ℕ, suc, ◌+◌, ◌%◌, ◌≤◌, ◌≡◌, ◌↔◌, Bool, true, false, cond, List, [], ◌∷◌, ◌++◌, map, eqb, length, take, drop, get_or}
-use Rattle.std.proofs.Math.Option.{some}
-use Rattle.std.proofs.Math.ListN.{get_elem?}
+use Rattle.std.specs.Prelude.{ℕ, suc, ◌+◌, ◌%◌, ◌≤◌, ◌≡◌, ◌↔◌, Bool, true, false, cond, List, [], ◌∷◌, ◌++◌, map, eqb, length, take, drop, get_or, Some, slice_get}
 use Rattle.rules.specs.Text.{Text, bytes, cut_at}
 use Rattle.rules.specs.Number.{Failure, failed}
 use Rattle.rules.specs.Line.{Task, skipped, end, org, no_org, label_only, instruction, value, space, line_of, size}
@@ -41,8 +39,8 @@ pub record Printout (names : List Mnemonic) (base : ℕ) (s t : Text) (p : Pass)
 
 -- row k of the printout is r, and line k of the source is l; both are cut at byte 10
 pub record IsRow (s t : Text) (k : ℕ) (l r : Text) : Type 0 where
-  pub line : get_elem? (cut_at 10 s) k ≡ some l
-  pub row : get_elem? (cut_at 10 t) k ≡ some r
+  pub line : slice_get (cut_at 10 s) k ≡ Some l
+  pub row : slice_get (cut_at 10 t) k ≡ Some r
 
 -- ---- each line once and in order, and nothing but the labels after the lines
 -- its number, right-aligned, and its own bytes
@@ -58,7 +56,7 @@ after_rows (b ∷ symbols) = [] ∷ cut_at 10 (b ∷ symbols)
 unfoldable pub ShowsLines : Type 0
 ShowsLines =
     (names : List Mnemonic) (base : ℕ) (s t : Text) → printout_by names base s ≡ accepted t
-    → ((k : ℕ) (l : Text) → get_elem? (cut_at 10 s) k ≡ some l → (r : Text) × (get_elem? (cut_at 10 t) k ≡ some r) × LineShown k l r)
+    → ((k : ℕ) (l : Text) → slice_get (cut_at 10 s) k ≡ Some l → (r : Text) × (slice_get (cut_at 10 t) k ≡ Some r) × LineShown k l r)
     × (drop (length (cut_at 10 s)) (cut_at 10 t) ≡ after_rows (symbols_text base s))
 
 -- ---- words
@@ -70,13 +68,13 @@ pub record PutShown (names : List Mnemonic) (p : Pass) (u : Put) (r : Text) : Ty
 unfoldable pub ShowsPlaces : Type 0
 ShowsPlaces =
     (names : List Mnemonic) (base : ℕ) (s t : Text) (p : Pass) → Printout names base s t p → (k : ℕ) (l r : Text) → IsRow s t k l r
-    → ((u : Put) → get_elem? p.puts k ≡ some u → PutShown names p u r) × (length p.puts ≤ k → places_in r ≡ [])
+    → ((u : Put) → slice_get p.puts k ≡ Some u → PutShown names p u r) × (length p.puts ≤ k → places_in r ≡ [])
 
 -- END is read at the address after the line before it, or at the base
 unfoldable pub ShowsEnd : Type 0
 ShowsEnd =
     (names : List Mnemonic) (base : ℕ) (s t : Text) (p : Pass) → Printout names base s t p → (k : ℕ) (l r : Text) → IsRow s t k l r → length p.puts ≡ k
-    → (k ≡ 0 → address_in r ≡ base) × ((j : ℕ) (u : Put) → k ≡ suc j → get_elem? p.puts j ≡ some u → address_in r ≡ address_after size base u.address u.task)
+    → (k ≡ 0 → address_in r ≡ base) × ((j : ℕ) (u : Put) → k ≡ suc j → slice_get p.puts j ≡ Some u → address_in r ≡ address_after size base u.address u.task)
 
 -- what is shown of the lines with a value, or of the others, in order
 unfoldable pub has_value : Task → Bool
@@ -112,9 +110,9 @@ ending l r = drop (27 + length l) r
 
 pub record ReasonShown (names : List Mnemonic) (base : ℕ) (s : Text) (k : ℕ) (l r : Text) : Type 0 where
   pub word : explain_by names base s (suc k) ≡ accepted emitted → ending l r ≡ []
-  pub number : (f : Failure) (v : Verdict) → explain_by names base s (suc k) ≡ accepted v → line_reading l ≡ some (failed f)
+  pub number : (f : Failure) (v : Verdict) → explain_by names base s (suc k) ≡ accepted v → line_reading l ≡ Some (failed f)
       → ending l r ≡ bytes "  <- " ++ phrase (because (bad_number f))
-  pub reason : (x : Reason) → explain_by names base s (suc k) ≡ accepted (because x) → ((f : Failure) → ¬ (line_reading l ≡ some (failed f)))
+  pub reason : (x : Reason) → explain_by names base s (suc k) ≡ accepted (because x) → ((f : Failure) → ¬ (line_reading l ≡ Some (failed f)))
       → ending l r ≡ bytes "  <- " ++ phrase (because x)
   pub unread : (n i : ℕ) → explain_by names base s (suc k) ≡ refused n i → (ending l r ≡ []) × (take 8 (drop 6 r) ≡ bytes "not read")
 

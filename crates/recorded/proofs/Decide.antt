@@ -4,7 +4,7 @@ use mathlib.Core.Bool.{false≢true}
 use Rattle.rules.specs.Text.{Text, same}
 use Rattle.rules.specs.Assemble.{Slices, holding, assemble_answer, assemble_slices}
 use Rattle.text.proofs.Compare.{same_is, same_self}
-use Rattle.answer.specs.Answer.{answer_of, answer_number, answer_place}
+use Rattle.answer.specs.Told.{told_number, told_place}
 use Rattle.calls.specs.Calls.{call_text, CallAgrees}
 use Rattle.recorded.specs.Recorded.{rows_in, Terms, terms_in, count_of, old, onto, lent, WholeRecord, Same, Agrees}
 use Rattle.recorded.specs.Replay.{whole_in, same_slices, same_in, agrees_in, call_agrees_in}
@@ -75,10 +75,10 @@ slices_decided x y =
 same_decided : (r : Terms) (s l : Text) → ((same_in r s l ≡ true) ↔ Same r s l)
 unfolding same_in
 same_decided r s l =
-    let a = answer_of (assemble_answer r.base s (lent r)) in
+    let a = assemble_answer r.base s (lent r) in
     let d =
-    both (equal (answer_number a) r.number)
-    (both (equal (answer_place a) r.place) (slices_decided (onto (assemble_slices r.base s (lent r)) old) (holding (rows_in (count_of r) l) old)))
+    both (equal (told_number a) r.number)
+    (both (equal (told_place a) r.place) (slices_decided (onto (assemble_slices r.base s (lent r)) old) (holding (rows_in (count_of r) l) old)))
     in (
       (λ e. let w = d.0 e in record { number = w.0; place = w.1.0; after = w.1.1 }),
       (λ w. d.1 (w.number, (w.place, w.after))),

@@ -3,8 +3,7 @@ use Rattle.std.proofs.Common.{◌≡◌, ℕ, ◌+◌, ◌%◌, ◌^◌, ◌<◌
 use Rattle.rules.specs.Text.{Text}
 use Rattle.text.proofs.Over.{drop_more}
 use Rattle.recorded.specs.Replay.{verdict_in, verdict_by, size_by, counted_by, Replay, replay, took, took_byte, fed, ChunksJoin}
-use Rattle.recorded.specs.declared.Verdict.{Verdict}
-use Rattle.recorded.specs.declared.Verdict.TheVariants.{Differs}
+use Rattle.std.specs.Prelude.{Option, None}
 use Rattle.recorded.specs.declared.Tally.{Tally}
 
 pub chunks_join : ChunksJoin
@@ -23,11 +22,11 @@ module _ (b : ℕ) (t : List ℕ) (s : Tally) (index : ℕ) (e : index ≡ min s
   unfolding took_byte took
   byte_judged h r g = rw (← e, ← next, ← size, le-ltb n k h, g)
 
-  pub byte_long : k ≤ n → 103030 < n → (r : Tally) → r ≡ counted_by Differs s → replay (set t index b) r ≡ took_byte b (replay t s)
+  pub byte_long : k ≤ n → 103030 < n → (r : Tally) → r ≡ counted_by None s → replay (set t index b) r ≡ took_byte b (replay t s)
   unfolding verdict_by
   byte_long h l r g = byte_judged h r (rw (lt-ltb 103030 n l) g)
 
-  pub byte_last : k ≤ n → n ≤ 103030 → (v : Verdict) → v ≡ verdict_in (take n (set t index b)) → (r : Tally) → r ≡ counted_by v s → replay (set t index b) r ≡ took_byte b (replay t s)
+  pub byte_last : k ≤ n → n ≤ 103030 → (v : Option ℕ) → v ≡ verdict_in (take n (set t index b)) → (r : Tally) → r ≡ counted_by v s → replay (set t index b) r ≡ took_byte b (replay t s)
   unfolding verdict_by
   byte_last h l v f r g = byte_judged h r (rw (le-ltb 103030 n l, ← f) g)
 

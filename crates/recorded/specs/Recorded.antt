@@ -1,9 +1,9 @@
 -- A recorded call of the assembler: what its terms, its source and its rows say, and when the code's answer agrees. Assumes nothing.
 use Rattle.std.specs.Prelude.{◌≡◌, ℕ, zero, suc, ◌+◌, ◌*◌, ◌≤◌, cond, List, [], ◌∷◌, length, take, drop, replicate, ◌==◌}
 use Rattle.rules.specs.Text.{Text}
+use Rattle.rules.specs.Answer.{Answer}
 use Rattle.rules.specs.Assemble.{Place, Slices, slices, over, holding, assemble_answer, assemble_slices}
-use Rattle.answer.specs.declared.Answer.{Answer}
-use Rattle.answer.specs.Answer.{answer_of, answer_number, answer_place}
+use Rattle.answer.specs.Told.{told_number, told_place}
 
 -- ---- numbers and lists in bytes
 
@@ -67,8 +67,8 @@ unfoldable pub onto : Slices → Slices → Slices
 onto y x = slices (over y.addresses x.addresses) (over y.words x.words) (over y.marks x.marks)
 
 -- what a call owes that lends the first i, j and k places of x to the assembler: those after them stay
-pub record Called (base : ℕ) (source : Text) (i j k : ℕ) (x : Slices) (r : Answer) (y : Slices) : Type 0 where
-  pub answer : r ≡ answer_of (assemble_answer base source (front i j k x))
+pub record Called (base : ℕ) (source : Text) (i j k : ℕ) (x : Slices) (r : Answer ℕ) (y : Slices) : Type 0 where
+  pub answer : r ≡ assemble_answer base source (front i j k x)
   pub after : y ≡ onto (assemble_slices base source (front i j k x)) x
 
 -- the slices that a record lends
@@ -76,12 +76,6 @@ unfoldable pub lent : Terms → Slices
 lent r = front r.addresses r.words r.marks old
 
 -- ---- agreement
-
--- three slices of one length
-pub record Even (n : ℕ) (a w m : List ℕ) : Type 0 where
-  pub addresses : length a ≡ n
-  pub words : length w ≡ n
-  pub marks : length m ≡ n
 
 -- the three parts are as long as they say, and the places are within the slices
 pub record WholeRecord (s t l : Text) : Type 0 where
@@ -95,8 +89,8 @@ pub record WholeRecord (s t l : Text) : Type 0 where
 
 -- the answer is the recorded one, and so is every place: the list, and the pattern after it
 pub record Same (r : Terms) (source rows : Text) : Type 0 where
-  pub number : answer_number (answer_of (assemble_answer r.base source (lent r))) ≡ r.number
-  pub place : answer_place (answer_of (assemble_answer r.base source (lent r))) ≡ r.place
+  pub number : told_number (assemble_answer r.base source (lent r)) ≡ r.number
+  pub place : told_place (assemble_answer r.base source (lent r)) ≡ r.place
   pub after : onto (assemble_slices r.base source (lent r)) old ≡ holding (rows_in (count_of r) rows) old
 
 -- a call of three parts agrees with the assembler

@@ -1,19 +1,20 @@
 #![tactic(auto)]
 
-// Recorded calls: each is read from the bytes of its record, made again, and compared, the assembler's place by place and 02's by
-// their texts. A record starts with the number of the call that it records; compare/src/record.rs says how it goes on.
-ghost use Rattle.std.specs.Prelude.{◌≡◌, ◌+◌, ◌*◌, ◌≤◌, min, true, ◌↔◌, length, if◌then◌else◌, nat_eq};
+//! Recorded calls: each is read from the bytes of its record, made again, and compared, the assembler's place by place and 02's by
+//! their texts. A record starts with the number of the call that it records; compare/src/record.rs says how it goes on.
+ghost use Rattle.std.specs.Prelude.{◌≡◌, ◌+◌, ◌*◌, ◌≤◌, true, ◌↔◌, length, None};
 ghost use Rattle.rules.specs.Assemble.{slices, holding};
-ghost use Rattle.answer.specs.Answer.{answer_number, answer_place};
-ghost use Rattle.station.specs.Printed.{Printed, Written};
-ghost use Rattle.recorded.specs.Recorded.{number_at, rows_in, terms_in, count_of, Called, Even, WholeRecord, Agrees};
+ghost use Rattle.answer.specs.Refusal.{answer_of};
+ghost use Rattle.answer.specs.Told.{told_number, told_place};
+ghost use Rattle.listing.specs.Writer.{Adds};
+ghost use Rattle.station.specs.Printed.{Printed};
+ghost use Rattle.recorded.specs.Recorded.{number_at, rows_in, terms_in, count_of, Called, WholeRecord, Agrees};
 ghost use Rattle.recorded.specs.Replay.{call_verdict, verdict_in, size_by, counted_by, replay, took_byte, fed, counts_text, replay_text, is_cut_off};
 
-use answer::Answer;
+use answer::{Refusal, tell};
 use calls::call_agrees;
-use listing::writing::{write_bytes, write_decimal};
+use listing::writer::Writer;
 use station::input::Input;
-use std::num::{wrapping_add_u64, wrapping_add_usize};
 
 // The bytes of a head, of terms and of a row.
 const HEAD: usize = 5;
@@ -32,10 +33,10 @@ const SOURCE: usize = 40000;
 
 const PLACES: usize = 9000;
 
-// The bytes of the longest record that is compared.
+/// The bytes of the longest record that is compared.
 pub const RECORD: usize = FRONT + SOURCE + ROW * PLACES;
 
-// Room for what is printed.
+/// Room for what is printed.
 pub const COUNTS: usize = 256;
 
 // The number of the assembler's call; all others are 02's.
@@ -52,14 +53,14 @@ const OLD_MARK: u8 = 170;
 fn number(a: u8, b: u8, c: u8, d: u8) -> u32
     ensures { result ≡ a + 256 * b + 65536 * c + 16777216 * d }
 {
-    a as u32 + 256 * (b as u32) + 65536 * (c as u32) + 16777216 * (d as u32)
+    u32::from_le_bytes([a, b, c, d])
 }
 
 // The number that two bytes make.
 fn small_number(a: u8, b: u8) -> u16
     ensures { result ≡ a + 256 * b }
 {
-    a as u16 + 256 * (b as u16)
+    u16::from_le_bytes([a, b])
 }
 
 // The number in the four bytes at an index.
@@ -68,13 +69,6 @@ fn number_at(t: &[u8], at: usize) -> u32
     ensures { result ≡ number_at at 4 t.now }
 {
     number(t[at], t[at + 1], t[at + 2], t[at + 3])
-}
-
-// The lesser of two lengths.
-fn at_most(n: usize, most: usize) -> usize
-    ensures { result ≡ min n most }
-{
-    if n < most { n } else { most }
 }
 
 // How many places the list has: a refusal has no list.
@@ -92,6 +86,7 @@ fn count(terms: &[u8]) -> usize
 fn is_whole(source: &[u8], terms: &[u8], rows: &[u8]) -> bool
     ensures { (result ≡ true) ↔ WholeRecord source.now terms.now rows.now }
 {
+    // One test after another: of a chain of `&&` the proof knows each test only through the one before it.
     if terms.len() != TERMS {
         return false;
     }
@@ -119,13 +114,11 @@ fn read_list(rows: &[u8], count: usize, a: &mut [u32], w: &mut [u16], m: &mut [u
     requires { (7 * count ≤ length rows.now) × (count ≤ length a.old) × (count ≤ length w.old) × (count ≤ length m.old) }
     ensures { slices a.new w.new m.new ≡ holding (rows_in count rows.now) (slices a.old w.old m.old) }
 {
-    let mut i = 0;
-    while i < count {
+    for i in 0..count {
         let at = ROW * i;
         a[i] = number_at(rows, at);
         w[i] = small_number(rows[at + 4], rows[at + 5]);
         m[i] = rows[at + 6];
-        i += 1;
     }
 }
 
@@ -139,42 +132,26 @@ fn assemble_lent(
     a: &mut [u32],
     w: &mut [u16],
     m: &mut [u8],
-) -> Answer
+) -> Result<usize, Refusal>
     requires { (la ≤ length a.old) × (lw ≤ length w.old) × (lm ≤ length m.old) }
-    ensures { Called base source.now la lw lm (slices a.old w.old m.old) result (slices a.new w.new m.new) }
+    ensures { Called base source.now la lw lm (slices a.old w.old m.old) (answer_of result) (slices a.new w.new m.new) }
 {
     assemble::assemble(source, base, &mut a[..la], &mut w[..lw], &mut m[..lm])
 }
 
 // Whether the answer is the recorded one.
-fn same_answer(answer: Answer, number: u8, place: u32) -> bool
-    ensures { (result ≡ true) ↔ ((answer_number answer ≡ number) × (answer_place answer ≡ place)) }
+fn same_answer(answer: Result<usize, Refusal>, number: u8, place: u32) -> bool
+    ensures { (result ≡ true) ↔ ((told_number (answer_of answer) ≡ number) × (told_place (answer_of answer) ≡ place)) }
 {
-    if answer::number(answer) != number {
-        return false;
-    }
-    answer::place(answer) == place as usize
+    let mut told = 0;
+    tell(answer, &mut told) == number && told == place as usize
 }
 
-// Whether two lists, each in three slices of one length, are the same at every place.
+// Whether two lists, each in three slices, are the same at every place.
 fn same_list(a: &[u32], w: &[u16], m: &[u8], b: &[u32], x: &[u16], n: &[u8]) -> bool
-    requires { Even (length a.now) a.now w.now m.now × Even (length a.now) b.now x.now n.now }
     ensures { (result ≡ true) ↔ (slices a.now w.now m.now ≡ slices b.now x.now n.now) }
 {
-    let mut i = 0;
-    while i < a.len() {
-        if a[i] != b[i] {
-            return false;
-        }
-        if w[i] != x[i] {
-            return false;
-        }
-        if m[i] != n[i] {
-            return false;
-        }
-        i += 1;
-    }
-    true
+    a == b && w == x && m == n
 }
 
 // Whether the assembler answers as a call's parts say, and leaves the slices so: in a, w and m is what the assembler was
@@ -205,81 +182,76 @@ fn agrees(source: &[u8], terms: &[u8], rows: &[u8]) -> bool
 
 // ---- Records one after another.
 
-// What a record comes to.
-#[derive(Clone, Copy)]
-pub enum Verdict {
-    // It agrees, in so many places.
-    Agrees(usize),
-    Differs,
-}
-
-// How far a replay has come.
-#[derive(Clone, Copy)]
+/// How far a replay has come.
+#[derive(Clone, Copy, Debug, PartialEq, Eq, Hash)]
 pub struct Tally {
-    // The bytes of the record that is not yet whole.
+    /// The bytes of the record that is not yet whole.
     pub length: usize,
-    // The records that were whole, those of them that agree, and their places.
+    /// The records that were whole.
     pub records: u64,
+    /// Those of them that agree.
     pub agreed: u64,
+    /// The places of these.
     pub words: u64,
-    // The number of the first that differs, from 1; 0 for none.
-    pub first: u64,
+    /// The number of the first that differs, from 1.
+    pub first: Option<u64>,
 }
 
-// Before the first byte.
+/// Before the first byte.
 pub fn start() -> Tally
-    ensures { result ≡ record { length = 0; records = 0; agreed = 0; words = 0; first = 0 } }
+    ensures { result ≡ record { length = 0; records = 0; agreed = 0; words = 0; first = None } }
 {
     Tally {
         length: 0,
         records: 0,
         agreed: 0,
         words: 0,
-        first: 0,
+        first: None,
     }
 }
 
-// The verdict on a record of one of 02's calls.
-fn judge_call(bytes: &[u8]) -> Verdict
+// In how many places a record of one of 02's calls agrees; None where it differs.
+fn judge_call(bytes: &[u8]) -> Option<usize>
     requires { 17 ≤ length bytes.now }
     ensures { result ≡ call_verdict (17 + number_at 13 4 bytes.now) bytes.now }
 {
     let end = CALL_FRONT + number_at(bytes, 13) as usize;
     if bytes.len() < end {
-        return Verdict::Differs;
+        return None;
     }
     let x = number_at(bytes, 5);
     let y = number_at(bytes, 9);
     if !call_agrees(bytes[0], x, y, &bytes[CALL_FRONT..end], &bytes[end..]) {
-        return Verdict::Differs;
+        return None;
     }
-    Verdict::Agrees(0)
+    Some(0)
 }
 
-// The verdict on a record.
-fn judge(bytes: &[u8]) -> Verdict
+// In how many places a record agrees; None where it differs.
+fn judge(bytes: &[u8]) -> Option<usize>
     ensures { result ≡ verdict_in bytes.now }
 {
     if bytes.len() < CALL_FRONT {
-        return Verdict::Differs;
+        return None;
     }
     if bytes[0] != ASSEMBLE {
         return judge_call(bytes);
     }
     if bytes.len() < FRONT {
-        return Verdict::Differs;
+        return None;
     }
     let end = FRONT + number_at(bytes, 5) as usize;
     if bytes.len() < end {
-        return Verdict::Differs;
+        return None;
     }
     if !agrees(&bytes[FRONT..end], &bytes[HEAD..FRONT], &bytes[end..]) {
-        return Verdict::Differs;
+        return None;
     }
-    Verdict::Agrees(count(&bytes[HEAD..FRONT]))
+    Some(count(&bytes[HEAD..FRONT]))
 }
 
 // The bytes of a record of which the first n are there: the head's until it is whole, and then as many as it says.
+#[tactic(auto, unfolding(crate::specs::Replay::size_by))]
 fn record_size(bytes: &[u8], n: usize) -> usize
     requires { 5 ≤ length bytes.now }
     ensures { result ≡ size_by n bytes.now }
@@ -290,34 +262,27 @@ fn record_size(bytes: &[u8], n: usize) -> usize
     HEAD + number_at(bytes, 1) as usize
 }
 
-// The tally with one record more.
-fn counted(tally: Tally, found: Verdict) -> Tally
+// The tally with one record more, which agrees in so many places, or differs.
+#[tactic(auto, unfolding(crate::specs::Replay::counted_by))]
+fn counted(tally: Tally, found: Option<usize>) -> Tally
     ensures { result ≡ counted_by found tally }
 {
-    let records = wrapping_add_u64(tally.records, 1);
+    let records = tally.records.wrapping_add(1);
     match found {
-        Verdict::Agrees(count) => Tally {
+        Some(count) => Tally {
             length: 0,
             records,
-            agreed: wrapping_add_u64(tally.agreed, 1),
-            words: wrapping_add_u64(tally.words, count as u64),
+            agreed: tally.agreed.wrapping_add(1),
+            words: tally.words.wrapping_add(count as u64),
             first: tally.first,
         },
-        Verdict::Differs => Tally {
+        None => Tally {
             length: 0,
             records,
-            agreed: tally.agreed,
-            words: tally.words,
-            first: first_of(tally.first, records),
+            first: tally.first.or(Some(records)),
+            ..tally
         },
     }
-}
-
-// The first of two numbers that is not 0.
-fn first_of(a: u64, b: u64) -> u64
-    ensures { result ≡ (if nat_eq a 0 then b else a) }
-{
-    if a == 0 { b } else { a }
 }
 
 // Takes a byte of the input: it is kept, and with the last one of a record that record is compared and counted. One that is too
@@ -326,20 +291,14 @@ fn take_byte(tally: Tally, byte: u8, bytes: &mut [u8]) -> Tally
     requires { length bytes.old ≡ 103030 }
     ensures { replay bytes.new result ≡ took_byte byte (replay bytes.old tally) }
 {
-    let at = at_most(tally.length, RECORD - 1);
+    let at = tally.length.min(RECORD - 1);
     bytes[at] = byte;
-    let n = wrapping_add_usize(tally.length, 1);
+    let n = tally.length.wrapping_add(1);
     if n < record_size(bytes, n) {
-        return Tally {
-            length: n,
-            records: tally.records,
-            agreed: tally.agreed,
-            words: tally.words,
-            first: tally.first,
-        };
+        return Tally { length: n, ..tally };
     }
     if RECORD < n {
-        return counted(tally, Verdict::Differs);
+        return counted(tally, None);
     }
     counted(tally, judge(&bytes[..n]))
 }
@@ -350,15 +309,13 @@ fn take_bytes(tally: Tally, chunk: &[u8], bytes: &mut [u8]) -> Tally
     ensures { replay bytes.new result ≡ fed chunk.now (replay bytes.old tally) }
 {
     let mut state = tally;
-    let mut i = 0;
-    while i < chunk.len() {
-        state = take_byte(state, chunk[i], bytes);
-        i += 1;
+    for &byte in chunk {
+        state = take_byte(state, byte, bytes);
     }
     state
 }
 
-// Takes a chunk of the input, with the record that is not yet whole.
+/// Takes a chunk of the input, with the record that is not yet whole.
 pub fn replay_chunk(tally: Tally, chunk: &[u8], bytes: &mut [u8; RECORD]) -> Tally
     ensures { replay bytes.new result ≡ fed chunk.now (replay bytes.old tally) }
 {
@@ -367,44 +324,42 @@ pub fn replay_chunk(tally: Tally, chunk: &[u8], bytes: &mut [u8; RECORD]) -> Tal
 
 // ---- What is printed.
 
-// Puts what a replay comes to at the front, and answers its length.
-fn write_counts(tally: Tally, out: &mut [u8]) -> usize
-    requires { length out.old ≡ 256 }
-    ensures written { Written (counts_text tally) result out.old out.new }
-    ensures upper_bound { result ≤ 96 }
+// Writes what a replay comes to.
+fn push_counts(tally: Tally, text: &mut Writer<'_>)
+    requires { text.old.len + 128 ≤ length text.old.out.now }
+    ensures text { Adds (counts_text tally) text.old text.new }
+    ensures short { text.new.len ≤ text.old.len + 96 }
 {
-    let a = write_decimal(out, 0, tally.agreed);
-    write_bytes(out, a, b" of ");
-    let b = write_decimal(out, a + 4, tally.records);
-    write_bytes(out, b, b" records agree, ");
-    let c = write_decimal(out, b + 16, tally.words);
-    write_bytes(out, c, b" words compared\n");
-    c + 16
+    text.push_decimal(tally.agreed);
+    text.push_bytes(b" of ");
+    text.push_decimal(tally.records);
+    text.push_bytes(b" records agree, ");
+    text.push_decimal(tally.words);
+    text.push_bytes(b" words compared\n");
 }
 
-// Puts what is printed at the front, and answers its length: nothing if the input could not be read to its end.
+/// Puts what is printed at the front, and answers its length: nothing if the input could not be read to its end.
 pub fn replay_text(tally: Tally, input: Input, out: &mut [u8; COUNTS]) -> usize
     ensures { Printed (replay_text tally input) result out.old out.new }
 {
     if input.failed {
         return 0;
     }
-    let end = write_counts(tally, out);
-    if tally.first == 0 {
-        return end;
-    }
-    write_bytes(out, end, b"the first that differs is record ");
-    let last = write_decimal(out, end + 33, tally.first);
-    out[last] = b'\n';
-    last + 1
+    let mut text = Writer::new(out);
+    push_counts(tally, &mut text);
+    let Some(first) = tally.first else {
+        return text.len;
+    };
+    text.push_bytes(b"the first that differs is record ");
+    text.push_decimal(first);
+    text.push(b'\n');
+    text.len
 }
 
-// Whether the input ended within a record.
+/// Whether the input ended within a record.
+#[tactic(auto, unfolding(crate::specs::Replay::is_cut_off))]
 pub fn is_cut_off(tally: Tally, input: Input) -> bool
     ensures { result ≡ is_cut_off tally input }
 {
-    if input.failed {
-        return false;
-    }
-    tally.length != 0
+    !input.failed && tally.length != 0
 }

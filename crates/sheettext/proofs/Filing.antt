@@ -1,4 +1,5 @@
 -- One file after another: what is added by the buffer is added by the text, and there is a script for each name. Assumes nothing.
+use Rattle.std.specs.Prelude.{Result, Ok, Err}
 use Prim.Native.Nat.{ℕ, ◌+◌, ◌-◌, ◌<◌, ◌≤◌, min}
 use mathlib.Core.Path.{◌≡◌, refl, sym, ap, ◌∙◌}
 use mathlib.Core.Bool.{Bool, true, false, false≢true, ◌&&◌, cond}
@@ -15,7 +16,6 @@ use Rattle.station.specs.Printed.{Printed}
 use Rattle.station.specs.Reads.{Reads, at_start, failed_at}
 use Rattle.station.specs.declared.input.Input.{Input}
 use Rattle.station.proofs.Kept.{take_lesser}
-use Rattle.station.proofs.Written.{written_first, written_more, written_byte, written_all}
 use Rattle.sheettext.specs.Back.{sheet_in}
 use Rattle.sheettext.specs.Steps.{Outcome, summed, stops, no_sheet, unread, outcome, outcome_of, unless_unread, script_step, sheet_answer, sheet_step}
 use Rattle.sheettext.specs.Names.{names_in, name_kept, line_length, taken_of, name_after, held_on}
@@ -23,8 +23,8 @@ use Rattle.sheettext.specs.Files.{goes_on, file_step, with_file, Asked, FileAdde
 use Rattle.sheet.specs.Totals.{said}
 use Rattle.sheet.specs.declared.Totals.{Totals}
 use Rattle.sheettext.specs.declared.names.Taken.{Taken}
-use Rattle.sheettext.specs.declared.Step.{Step}
-use Rattle.sheettext.specs.declared.Step.TheVariants.{Sum, Refused, Wrong, Unread}
+use Rattle.sheettext.specs.declared.Stop.{Stop}
+use Rattle.sheettext.specs.declared.Stop.TheVariants.{Refused, Wrong, Unread}
 use Rattle.sheettext.proofs.Lines.{names_read_on}
 
 -- ---- what is owed for a file that was read
@@ -52,33 +52,20 @@ module _ (u : Said) (i : Input) (buffer : List ℕ) {sheet : Bool} {p : Outcome}
   unfolding file_step with_file script_step
   owed_script e h = (rw e h.0, λ t r. rw e (h.0 ∙ unless i _ (outcome_of (add_source u t)) (λ f. h.1 t (r f))))
 
-module _ (sheet : Bool) (i : Input) (buffer : List ℕ) {step : Step} where
-  pub owed_sum : (t : Totals) → step ≡ Sum t → {p : Outcome} → Owed sheet i buffer (summed (said t)) p → Owed sheet i buffer (outcome step) p
+module _ (sheet : Bool) (i : Input) (buffer : List ℕ) {step : Result Totals Stop} where
+  pub owed_sum : (t : Totals) → step ≡ Ok t → {p : Outcome} → Owed sheet i buffer (summed (said t)) p → Owed sheet i buffer (outcome step) p
   owed_sum t e h = rw e h
 
-  pub owed_refused : (n k : ℕ) → step ≡ Refused n k → Owed sheet i buffer (outcome step) (stops n k)
+  pub owed_stop : (stop : Stop) → step ≡ Err stop → Owed sheet i buffer (outcome step) (outcome (Err stop))
   unfolding file_step with_file
-  owed_refused n k e = (rw e, λ t r. rw e)
+  owed_stop (Refused x) e = (rw e, λ t r. rw e)
+  owed_stop (Wrong l) e = (rw e, λ t r. rw e)
+  owed_stop Unread e = (rw e, λ t r. rw e)
 
-  pub owed_wrong : (n : ℕ) → step ≡ Wrong n → Owed sheet i buffer (outcome step) (no_sheet n)
-  unfolding file_step with_file
-  owed_wrong n e = (rw e, λ t r. rw e)
-
-  pub owed_unread : step ≡ Unread → Owed sheet i buffer (outcome step) unread
-  unfolding file_step with_file
-  owed_unread e = (rw e, λ t r. rw e)
-
--- ---- what is said of it: the words are put, the name after them, and byte 10
-pub said_unread : (name out x y : Text) (n : ℕ) → n ≡ min (length name) 4097 → x ≡ over_from 0 (bytes "plantsheet: cannot read ") out → y ≡ over_from 24 (take n name) x
-    → 24 + n < length y → Printed ((bytes "plantsheet: cannot read " ++ name_kept name) ++ (10 ∷ [])) (25 + n) out (set y (24 + n) 10)
-unfolding bytes name_kept
-said_unread name out x y n e ex ey h =
-    let front : take n name ≡ take 4097 name = take_lesser n 4097 name e in
-    let size : length (take 4097 name) ≡ n = rw (← front, length-take n name) (omega arith) in
-    let words = written_first (bytes "plantsheet: cannot read ") 24 out x refl ex in
-    let both = written_more words (take 4097 name) (24 + n) y (rw size) (rw (← front) ey) in
-    let end : 25 + n ≡ 24 + n + 1 = omega arith in
-    rw end (written_all (written_byte both 10 h))
+-- ---- what is said of it
+pub name_front : (name : Text) (n : ℕ) → n ≡ min (length name) 4097 → take n name ≡ name_kept name
+unfolding name_kept
+name_front name n e = take_lesser n 4097 name e
 
 -- ---- a file that may be due
 due_then : (x due : Bool) → (x && due) ≡ true → due ≡ true

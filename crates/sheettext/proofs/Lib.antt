@@ -1,4 +1,3 @@
-pub mod RowsPut
 pub mod ReadBack
 pub mod RoundTrip
 pub mod Stepping

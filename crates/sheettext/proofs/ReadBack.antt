@@ -1,11 +1,11 @@
 -- A sheet read back: the loops, and what the answer says; every sheet that is written is read as its totals, and nothing else is. Assumes nothing.
 use Prim.Native.Nat.{ℕ, suc, ◌+◌, ◌-◌, ◌*◌, ◌^◌, ◌<◌, ◌≤◌, min}
 use mathlib.Core.Path.{◌≡◌, refl, sym, ap, ◌∙◌}
-use mathlib.Core.Bool.{Bool, true, false, cond}
+use mathlib.Core.Bool.{Bool, true, false, ◌&&◌, cond}
 use mathlib.Core.List.{List, [], ◌∷◌}
 use native.Mathlib.Numerals.{add-one}
 use native.Mathlib.Omega.{arith}
-use borrow.Author.Tests.{eq-eqb, ne_eqb, le-leb, lt-leb, lt-ltb, le-ltb}
+use borrow.Author.Tests.{eq-eqb, eqb-true, ne_eqb, le-leb, lt-leb, lt-ltb, le-ltb}
 use lib.Dec.{eqb}
 use lib.ListN.{length, take, drop, get_or, set, drop_of_length-le}
 use lib.Seq.{drop-cons, length-take-le}
@@ -27,30 +27,9 @@ pub row_same : (row b : ℕ) → (b ≡ 10 → ⊥) → row ≡ next_row row b
 unfolding next_row
 row_same row b n = rw (ne_eqb b 10 n)
 
-pub row_last : (row b : ℕ) → b ≡ 10 → 12 ≤ row → 12 ≡ next_row row b
+pub row_next : (row b : ℕ) → b ≡ 10 → {m : ℕ} → m ≡ min row 11 → m + 1 ≡ next_row row b
 unfolding next_row
-row_last row b e h = rw (eq-eqb b 10 e) (omega arith)
-
-pub row_next : (row b : ℕ) → b ≡ 10 → row < 12 → row + 1 ≡ next_row row b
-unfolding next_row
-row_next row b e h = rw (eq-eqb b 10 e) (omega arith)
-
--- a number and a byte
-pub byte_low : (v b : ℕ) → b < 48 → v ≡ with_byte v b
-unfolding with_byte
-byte_low v b h = rw (lt-leb 48 b h)
-
-pub byte_high : (v b : ℕ) → 48 ≤ b → 57 < b → v ≡ with_byte v b
-unfolding with_byte
-byte_high v b h k = rw (le-leb 48 b h, lt-leb b 57 k)
-
-pub byte_full : (v b : ℕ) → 48 ≤ b → b ≤ 57 → 10 ^ 18 ≤ v → v ≡ with_byte v b
-unfolding with_byte
-byte_full v b h k l = rw (le-leb 48 b h, le-leb b 57 k, le-ltb v (10 ^ 18) l)
-
-pub byte_digit : (v b : ℕ) → 48 ≤ b → b ≤ 57 → v < 10 ^ 18 → 10 * v + (b - 48) ≡ with_byte v b
-unfolding with_byte
-byte_digit v b h k l = rw (le-leb 48 b h, le-leb b 57 k, lt-ltb v (10 ^ 18) l)
+row_next row b e f = rw (eq-eqb b 10 e) (omega arith)
 
 -- before byte i: what is left comes to the same
 pub record Rowed (t : Text) (first : List ℕ) (row i : ℕ) (ns : List ℕ) : Type 0 where
@@ -122,28 +101,27 @@ module _ {s t : Text} {i : ℕ} (r : Fronted s t i) where
       let f = rw (drop-cons s i 0 h, drop_of_length-le t k) at r.same in
       omega arith
 
-  pub fronted_all : length s ≤ i → i ≡ same_front s t
+  pub fronted_all : length s ≤ i → length s ≡ same_front s t
   unfolding same_front
   fronted_all h =
       let f = rw (drop_of_length-le s h) at r.same in
-      omega arith
+      omega (arith, r.left)
 
 -- ---- the answer
 module _ (t : Text) {u : Said} (e : u ≡ totals_in t) {size common : ℕ} (z : size ≡ length (sheet_text u)) (f : common ≡ same_front (sheet_text u) t) where
-  pub read_short : (common ≡ size → ⊥) → {n : ℕ} → n ≡ length (cut_at 10 (take common t)) → wrong n ≡ sheet_in t
+  pub read_wrong : (common ≡ size → common ≡ length t → ⊥) → {n : ℕ} → n ≡ length (cut_at 10 (take common t)) → wrong n ≡ sheet_in t
   unfolding sheet_in judged
-  read_short g h =
-      let k : eqb (same_front (sheet_text u) t) (length (sheet_text u)) ≡ false = ne_eqb _ _ (λ q. g (f ∙ q ∙ sym z)) in
-      let w : judged u (sheet_text u) t ≡ wrong (length (cut_at 10 (take (same_front (sheet_text u) t) t))) = rw k in
-      rw (h, f) (sym w ∙ ap (λ v. judged v (sheet_text v) t) e)
+  read_wrong g {n} h = go (eqb (same_front (sheet_text u) t) (length (sheet_text u))) refl (eqb (same_front (sheet_text u) t) (length t)) refl
+    where
+      told : (x : Bool) → (eqb (same_front (sheet_text u) t) (length (sheet_text u)) && eqb (same_front (sheet_text u) t) (length t)) ≡ x → x ≡ false → wrong n ≡ sheet_in t
+      told x k l =
+          let w : judged u (sheet_text u) t ≡ wrong (length (cut_at 10 (take (same_front (sheet_text u) t) t))) = rw (k, l) in
+          rw (h, f) (sym w ∙ ap (λ v. judged v (sheet_text v) t) e)
 
-  pub read_long : common ≡ size → (common ≡ length t → ⊥) → {n : ℕ} → n ≡ length (cut_at 10 (take common t)) → wrong n ≡ sheet_in t
-  unfolding sheet_in judged
-  read_long q g h =
-      let a : eqb (same_front (sheet_text u) t) (length (sheet_text u)) ≡ true = eq-eqb _ _ (sym f ∙ q ∙ z) in
-      let k : eqb (same_front (sheet_text u) t) (length t) ≡ false = ne_eqb _ _ (λ p. g (f ∙ p)) in
-      let w : judged u (sheet_text u) t ≡ wrong (length (cut_at 10 (take (same_front (sheet_text u) t) t))) = rw (a, k) in
-      rw (h, f) (sym w ∙ ap (λ v. judged v (sheet_text v) t) e)
+      go : (x : Bool) → eqb (same_front (sheet_text u) t) (length (sheet_text u)) ≡ x → (y : Bool) → eqb (same_front (sheet_text u) t) (length t) ≡ y → wrong n ≡ sheet_in t
+      go true p true q = absurd (g (f ∙ eqb-true _ _ p ∙ sym z) (f ∙ eqb-true _ _ q))
+      go true p false q = told _ refl (rw (p, q))
+      go false p y q = told _ refl (rw p)
 
   pub read_whole : common ≡ size → common ≡ length t → is_sheet u ≡ sheet_in t
   unfolding sheet_in judged

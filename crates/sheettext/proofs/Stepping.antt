@@ -1,4 +1,5 @@
 -- Steps by where a file's reader stands: a script's, also over the limit, and a sheet's. Assumes nothing.
+use Rattle.std.specs.Prelude.{Result, Err}
 use Prim.Native.Nat.{ℕ, ◌<◌, ◌≤◌}
 use mathlib.Core.Path.{◌≡◌, refl, sym, ap, ◌∙◌}
 use mathlib.Core.Bool.{Bool, true, false, false≢true, cond}
@@ -21,13 +22,10 @@ use Rattle.station.proofs.Printed.{printed_none}
 use Rattle.station.proofs.ScriptInput.{checks_long}
 use Rattle.sheet.specs.Totals.{said, answered}
 use Rattle.sheet.specs.declared.Totals.{Totals}
-use Rattle.sheet.specs.declared.Added.{Added}
-use Rattle.sheet.specs.declared.Added.TheVariants.{Sum as Total, Refused as Stopped}
+use Rattle.sheettext.specs.declared.Stop.{Stop}
 use Rattle.sheettext.specs.Rows.{row, sheet_text}
 use Rattle.sheettext.specs.Back.{Read, is_sheet, wrong, sheet_in}
 use Rattle.sheettext.specs.Steps.{Outcome, no_sheet, unread, outcome, outcome_of, unless_unread, over_long, script_step, sheet_answer, sheet_step, step_text}
-use Rattle.sheettext.specs.declared.Step.{Step}
-use Rattle.sheettext.specs.declared.Step.TheVariants.{Sum, Refused, Wrong, Unread}
 
 -- ---- a script over the limit
 long_sheet : (t : Text) → max_source < length t → source_sheet t ≡ answer_sheet t (refused 1 (length t))
@@ -109,32 +107,9 @@ pub sheet_added : (u v : Said) {r : Read} → is_sheet v ≡ r → {o : Outcome}
 unfolding sheet_answer
 sheet_added u v e p q = rw (← e) (q ∙ ap outcome_of p)
 
--- ---- what is printed
-module _ {step : Step} {r : ℕ} {x y : List ℕ} where
-  pub text_sum : (t : Totals) → step ≡ Sum t → Printed (sheet_text (said t)) r x y → Printed (step_text (outcome step)) r x y
-  unfolding step_text
-  text_sum t e p = rw e p
-
-  pub text_refused : (n k : ℕ) → step ≡ Refused n k → Printed (refused_text n k) r x y → Printed (step_text (outcome step)) r x y
-  unfolding step_text
-  text_refused n k e p = rw e p
-
-  pub text_wrong : (n : ℕ) → step ≡ Wrong n → Printed (row (bytes "not a sheet: line ") n) r x y → Printed (step_text (outcome step)) r x y
-  unfolding step_text
-  text_wrong n e p = rw e p
-
-pub text_unread : {step : Step} (x : List ℕ) → step ≡ Unread → Printed (step_text (outcome step)) 0 x x
-unfolding step_text
-text_unread x e = rw e (printed_none x)
-
--- ---- an answer
-pub step_sum : {a : Added} (t : Totals) → a ≡ Total t → outcome (Sum t) ≡ outcome_of (answered a)
-unfolding outcome_of
-step_sum t e = rw e
-
-pub step_refused : {a : Added} (n p : ℕ) → a ≡ Stopped n p → outcome (Refused n p) ≡ outcome_of (answered a)
-unfolding outcome_of
-step_refused n p e = rw e
+-- ---- a step by its two matches
+pub stopped_so : {step : Result Totals Stop} {x : Stop} → step ≡ Err x → (y : Stop) → x ≡ y → step ≡ Err y
+stopped_so e y f = e ∙ ap (λ (z : Stop). Err z) f
 
 -- ---- at the end of the names
 pub ended_unread : (i : Input) (o : Outcome) → i.failed ≡ true → unread ≡ unless_unread i o

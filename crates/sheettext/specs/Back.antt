@@ -1,11 +1,11 @@
 -- A sheet read back: the numbers that a text's rows show, and whether these are written as that text. Assumes nothing.
-use Rattle.std.specs.Prelude.{ℕ, ◌+◌, ◌-◌, ◌*◌, ◌^◌, min, ◌&&◌, cond, List, [], ◌∷◌, eqb, leb, ltb, length, take, get_or, set, replicate}
+use Rattle.std.specs.Prelude.{ℕ, ◌+◌, ◌-◌, ◌*◌, ◌^◌, min, ◌&&◌, cond, List, [], ◌∷◌, eqb, leb, ltb, length, take, get_or, set, replicate, Result, Ok, Err}
 use Rattle.rules.specs.Text.{Text, cut_at}
 use Rattle.requests.specs.Sheet.{Totals as Said}
 use Rattle.sheet.specs.Totals.{said, lent_totals}
 use Rattle.sheettext.specs.Rows.{sheet_text}
-use Rattle.sheettext.specs.declared.back.Sheet.{Sheet}
-use Rattle.sheettext.specs.declared.back.Sheet.TheVariants.{Totals, Wrong}
+use Rattle.listing.specs.declared.reading.BadLine.{BadLine}
+use Rattle.sheet.specs.declared.Totals.{Totals}
 
 -- a digit goes to a number's end, up to 19 digits; any other byte changes nothing
 unfoldable pub with_byte : ℕ → ℕ → ℕ
@@ -44,6 +44,6 @@ unfoldable pub sheet_in : Text → Read
 sheet_in t = judged (totals_in t) (sheet_text (totals_in t)) t
 
 -- as the code answers it
-abbrev pub read_of : Sheet → Read
-read_of (Totals t) = is_sheet (said t)
-read_of (Wrong n) = wrong n
+abbrev pub read_of : Result Totals BadLine → Read
+read_of (Ok t) = is_sheet (said t)
+read_of (Err l) = wrong l.number

@@ -1,9 +1,8 @@
 -- The text of W-214's sheet: a row for each total, then the mean "as two whole numbers". Assumes nothing.
-use Rattle.std.specs.Prelude.{ℕ, ◌+◌, ◌≤◌, ◌≡◌, List, [], ◌∷◌, ◌++◌, length}
+use Rattle.std.specs.Prelude.{ℕ, [], ◌∷◌, ◌++◌}
 use Rattle.rules.specs.Text.{Text, bytes}
 use Rattle.requests.specs.Sheet.{Totals, Mean, mean_of}
 use Rattle.listing.specs.Listing.{decimal}
-use Rattle.text.specs.Spans.{over_from}
 
 -- words, a number in decimal, and a byte
 unfoldable pub part_text : Text → ℕ → ℕ → Text
@@ -30,9 +29,3 @@ mean_text m = part_text (bytes "mean ") m.words 32 ++ row [] m.scripts
 
 unfoldable pub sheet_text : Totals → Text
 sheet_text t = ((plain_text t ++ code_text t) ++ counts_text t) ++ mean_text (mean_of t)
-
--- s is put over x from index i on, which gives y, and ends at j
-pub record PutAt (i : ℕ) (s : Text) (j : ℕ) (x y : List ℕ) : Type 0 where
-  pub ends : j ≡ i + length s
-  pub within : j ≤ length x
-  pub after : y ≡ over_from i s x

@@ -1,5 +1,5 @@
 -- What a step of `plantsheet` comes to, and what is printed for it. Assumes nothing.
-use Rattle.std.specs.Prelude.{ℕ, cond, List, [], ltb, take, replicate}
+use Rattle.std.specs.Prelude.{ℕ, cond, List, [], ltb, take, replicate, Result, Ok, Err}
 use Rattle.rules.specs.Limits.{max_source}
 use Rattle.rules.specs.Text.{Text, bytes}
 use Rattle.rules.specs.Answer.{Answer, accepted, refused}
@@ -10,8 +10,10 @@ use Rattle.station.specs.declared.input.Input.{Input}
 use Rattle.sheet.specs.Totals.{said}
 use Rattle.sheettext.specs.Rows.{row, sheet_text}
 use Rattle.sheettext.specs.Back.{Read, is_sheet, wrong, sheet_in}
-use Rattle.sheettext.specs.declared.Step.{Step}
-use Rattle.sheettext.specs.declared.Step.TheVariants.{Sum, Refused, Wrong, Unread}
+use Rattle.answer.specs.Refusal.{number_of, place_of}
+use Rattle.sheet.specs.declared.Totals.{Totals}
+use Rattle.sheettext.specs.declared.Stop.{Stop}
+use Rattle.sheettext.specs.declared.Stop.TheVariants.{Refused, Wrong, Unread}
 
 -- totals to go on with, a refusal, a text that is no sheet's, or a file that cannot be read
 pub data Outcome : Type 0 where
@@ -20,11 +22,11 @@ pub data Outcome : Type 0 where
   no_sheet : ℕ → Outcome
   unread : Outcome
 
-abbrev pub outcome : Step → Outcome
-outcome (Sum t) = summed (said t)
-outcome (Refused n p) = stops n p
-outcome (Wrong n) = no_sheet n
-outcome Unread = unread
+abbrev pub outcome : Result Totals Stop → Outcome
+outcome (Ok t) = summed (said t)
+outcome (Err (Refused x)) = stops (number_of x) (place_of x)
+outcome (Err (Wrong l)) = no_sheet l.number
+outcome (Err Unread) = unread
 
 unfoldable pub outcome_of : Answer Said → Outcome
 outcome_of (accepted t) = summed t

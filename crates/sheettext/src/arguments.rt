@@ -5,16 +5,16 @@ ghost use Rattle.sheettext.specs.Arguments.{no_argument, with_argument, is_whole
 
 use text::starts_with;
 
-// The arguments so far.
-#[derive(Clone, Copy)]
+/// The arguments so far.
+#[derive(Clone, Copy, Debug, PartialEq, Eq, Hash)]
 pub struct Given {
-    // The last one was `-t`: a sheet's name is due.
+    /// The last one was `-t`: a sheet's name is due.
     pub due: bool,
-    // One stands where `-t` is asked for, and is another.
+    /// One stands where `-t` is asked for, and is another.
     pub wrong: bool,
 }
 
-// Before the first.
+/// Before the first.
 pub fn no_argument() -> Given
     ensures { result ≡ no_argument }
 {
@@ -28,13 +28,10 @@ pub fn no_argument() -> Given
 fn is_sheet_option(t: &[u8]) -> bool
     ensures { result ≡ same t.now (bytes "-t") }
 {
-    if t.len() != 2 {
-        return false;
-    }
-    starts_with(t, b"-t")
+    t.len() == 2 && starts_with(t, b"-t")
 }
 
-// After one more argument.
+/// After one more argument.
 pub fn with_argument(given: Given, t: &[u8]) -> Given
     ensures { result ≡ with_argument given t.now }
 {
@@ -56,12 +53,10 @@ pub fn with_argument(given: Given, t: &[u8]) -> Given
     }
 }
 
-// Whether the arguments are what `plantsheet` takes.
+/// Whether the arguments are what `plantsheet` takes.
+#[tactic(auto, unfolding(crate::specs::Arguments::is_whole))]
 pub fn is_whole(given: Given) -> bool
     ensures { result ≡ is_whole given }
 {
-    if given.wrong {
-        return false;
-    }
-    !given.due
+    !given.wrong && !given.due
 }

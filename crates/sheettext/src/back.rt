@@ -5,33 +5,24 @@ ghost use Rattle.sheettext.specs.Back.{with_byte, next_row, read_from, totals_in
 
 use crate::SHEET;
 use crate::rows::write_sheet;
+use listing::reading::BadLine;
 use sheet::Totals;
-
-// What a text is.
-#[derive(Clone, Copy)]
-pub enum Sheet {
-    Totals(Totals),
-    // No sheet: its first wrong line.
-    Wrong(usize),
-}
 
 // The rows that are told apart: twelve totals, and what follows them.
 const ROWS: usize = 13;
 
+// A number of 19 digits.
+const FULL: u64 = 1_000_000_000_000_000_000;
+
 // A number of at most 19 digits with one byte more: a digit goes to its end, any other byte changes nothing.
+#[tactic(auto, unfolding(crate::specs::Back::with_byte))]
 fn with_byte(value: u64, byte: u8) -> u64
     ensures { result ≡ with_byte value byte }
 {
-    if byte < b'0' {
-        return value;
+    match byte {
+        b'0'..=b'9' if value < FULL => 10 * value + u64::from(byte - b'0'),
+        _ => value,
     }
-    if b'9' < byte {
-        return value;
-    }
-    if 1000000000000000000 <= value {
-        return value;
-    }
-    10 * value + (byte - b'0') as u64
 }
 
 // The row after a byte.
@@ -41,10 +32,7 @@ fn next_row(row: usize, byte: u8) -> usize
     if byte != b'\n' {
         return row;
     }
-    if 12 <= row {
-        return 12;
-    }
-    row + 1
+    row.min(11) + 1
 }
 
 // Reads the numbers of the rows, each from 0.
@@ -52,11 +40,9 @@ fn read_rows(t: &[u8], numbers: &mut [u64; ROWS])
     ensures { numbers.new ≡ read_from 0 numbers.old t.now }
 {
     let mut row = 0;
-    let mut i = 0;
-    while i < t.len() {
+    for i in 0..t.len() {
         numbers[row] = with_byte(numbers[row], t[i]);
         row = next_row(row, t[i]);
-        i += 1;
     }
 }
 
@@ -86,21 +72,19 @@ fn read_totals(t: &[u8]) -> Totals
 fn same_front(s: &[u8], t: &[u8]) -> usize
     ensures { result ≡ same_front s.now t.now }
 {
-    let mut i = 0;
-    while i < s.len() {
+    for i in 0..s.len() {
         if t.len() <= i {
             return i;
         }
         if s[i] != t[i] {
             return i;
         }
-        i += 1;
     }
-    i
+    s.len()
 }
 
-// The totals of a text that is a sheet's, or its first wrong line: the line of the first byte that would be written otherwise.
-pub fn read_sheet(t: &[u8]) -> Sheet
+/// The totals of a text that is a sheet's, or its first wrong line: the line of the first byte that would be written otherwise.
+pub fn read_sheet(t: &[u8]) -> Result<Totals, BadLine>
     requires { length t.now ≤ 32768 }
     ensures { read_of result ≡ sheet_in t.now }
 {
@@ -108,11 +92,10 @@ pub fn read_sheet(t: &[u8]) -> Sheet
     let mut out = [0u8; SHEET];
     let size = write_sheet(totals, &mut out);
     let common = same_front(&out[..size], t);
-    if common != size {
-        return Sheet::Wrong(source::count_lines(&t[..common]));
+    if common != size || common != t.len() {
+        return Err(BadLine {
+            number: source::count_lines(&t[..common]),
+        });
     }
-    if common != t.len() {
-        return Sheet::Wrong(source::count_lines(&t[..common]));
-    }
-    Sheet::Totals(totals)
+    Ok(totals)
 }

@@ -1,6 +1,6 @@
 #![tactic(auto)]
 
-// What `plantsheet` prints, and what a step of it comes to: a script or a sheet that was read is added to the totals (W-214).
+//! What `plantsheet` prints, and what a step of it comes to: a script or a sheet that was read is added to the totals (W-214).
 ghost use Rattle.std.specs.Prelude.{◌≡◌, ◌≤◌, length as len, take};
 ghost use Rattle.rules.specs.Text.{Text};
 ghost use Rattle.requests.specs.Sheet.{no_totals, add_source};
@@ -10,14 +10,15 @@ ghost use Rattle.sheet.specs.Totals.{said, answered};
 ghost use Rattle.sheettext.specs.Steps.{summed, outcome, outcome_of, over_long, script_step, unless_unread, sheet_answer, sheet_step, step_text};
 ghost use Rattle.sheettext.specs.Back.{sheet_in};
 
-use back::{Sheet, read_sheet};
-use listing::writing::write_refused;
-use rows::{write_part, write_sheet};
+use answer::Refusal;
+use back::read_sheet;
+use listing::reading::BadLine;
+use listing::writer::Writer;
+use rows::{push_part, write_sheet};
 use rules::MAX_SOURCE;
-use sheet::sums::no_totals;
-use sheet::{Added, Totals, add_sheet, add_source};
-use station::SCRIPT;
+use sheet::{NO_TOTALS, Totals, add_sheet, add_source};
 use station::input::Input;
+use station::{SCRIPT, write_refusal};
 
 pub mod rows; // rows.rt: a sheet's text, row by row
 pub mod back; // back.rt: a sheet read back from its text
@@ -25,35 +26,38 @@ pub mod arguments; // arguments.rt: what the arguments say
 pub mod names; // names.rt: names taken out of chunks
 pub mod files; // files.rt: one file after another
 
-// Room for a sheet's text, which has at most 377 bytes.
+/// Room for a sheet's text, which has at most 377 bytes.
 pub const SHEET: usize = 512;
 
-// What a step comes to: totals to go on with, or why there is no going on.
-#[derive(Clone, Copy)]
-pub enum Step {
-    Sum(Totals),
-    // Refused: 20 or 21, and its place.
-    Refused(u8, usize),
-    // A text that is no sheet's: its first wrong line.
-    Wrong(usize),
-    // A file that cannot be read to its end.
+/// Why there is no going on.
+#[derive(Clone, Copy, Debug, PartialEq, Eq, Hash)]
+pub enum Stop {
+    /// By 20 or 21.
+    Refused(Refusal),
+    /// A text that is no sheet's: its first wrong line.
+    Wrong(BadLine),
+    /// A file that cannot be read to its end.
     Unread,
 }
 
-// Before the first source.
+/// What a step comes to: totals to go on with, or why there is no going on.
+pub type Step = Result<Totals, Stop>;
+
+/// Before the first source.
 pub fn no_sources() -> Step
     ensures { outcome result ≡ summed no_totals }
 {
-    Step::Sum(no_totals())
+    Ok(NO_TOTALS)
 }
 
 // An answer as a step.
-fn step_of(added: Added) -> Step
+#[tactic(auto, unfolding(crate::specs::Steps::outcome_of))]
+fn step_of(added: Result<Totals, Refusal>) -> Step
     ensures { outcome result ≡ outcome_of (answered added) }
 {
     match added {
-        Added::Sum(t) => Step::Sum(t),
-        Added::Refused(n, p) => Step::Refused(n, p),
+        Ok(totals) => Ok(totals),
+        Err(refusal) => Err(Stop::Refused(refusal)),
     }
 }
 
@@ -75,13 +79,13 @@ fn add_long(totals: Totals) -> Step
     step_of(add_source(totals, &long))
 }
 
-// The totals with a script more that was read chunk by chunk.
+/// The totals with a script more that was read chunk by chunk.
 pub fn add_script(totals: Totals, script: &[u8; SCRIPT], input: Input) -> Step
     ensures result_value { outcome result ≡ script_step (said totals) input script.now }
     ensures script_value { (t : Text) → Reads t script.now input → script_step (said totals) input script.now ≡ unless_unread input (outcome_of (add_source (said totals) t)) }
 {
     if input.failed {
-        return Step::Unread;
+        return Err(Stop::Unread);
     }
     let total = input.total;
     if MAX_SOURCE < total {
@@ -98,18 +102,18 @@ fn add_text(totals: Totals, bytes: &[u8], length: usize) -> Step
     ensures { outcome result ≡ sheet_answer (said totals) (sheet_in (take length bytes.now)) }
 {
     match read_sheet(&bytes[..length]) {
-        Sheet::Totals(t) => step_of(add_sheet(totals, t)),
-        Sheet::Wrong(n) => Step::Wrong(n),
+        Ok(sheet) => step_of(add_sheet(totals, sheet)),
+        Err(line) => Err(Stop::Wrong(line)),
     }
 }
 
-// The totals with those of a sheet's text that was read chunk by chunk; it is judged by its first 32,768 bytes, for no sheet has more.
+/// The totals with those of a sheet's text that was read chunk by chunk; it is judged by its first 32,768 bytes, for no sheet has more.
 pub fn add_sheet_text(totals: Totals, script: &[u8; SCRIPT], input: Input) -> Step
     ensures result_value { outcome result ≡ sheet_step (said totals) input script.now }
     ensures script_value { (t : Text) → Reads t script.now input → sheet_step (said totals) input script.now ≡ unless_unread input (sheet_answer (said totals) (sheet_in (take 32768 t))) }
 {
     if input.failed {
-        return Step::Unread;
+        return Err(Stop::Unread);
     }
     let total = input.total;
     if SCRIPT < total {
@@ -120,25 +124,29 @@ pub fn add_sheet_text(totals: Totals, script: &[u8; SCRIPT], input: Input) -> St
 
 // ---- What is printed.
 
-// The step at the end of the names: nothing is printed if they could not be read to it.
+/// The step at the end of the names: nothing is printed if they could not be read to it.
 pub fn ended(step: Step, input: Input) -> Step
     ensures { outcome result ≡ unless_unread input (outcome step) }
 {
     if input.failed {
-        return Step::Unread;
+        return Err(Stop::Unread);
     }
     step
 }
 
-// Puts the text of a step at the front, and answers its length: a sheet, or the line of a refusal or of a wrong line; nothing for a
-// file that was not read.
+/// Puts the text of a step at the front, and answers its length: a sheet, or the line of a refusal or of a wrong line; nothing for a
+/// file that was not read.
 pub fn step_text(step: Step, out: &mut [u8; SHEET]) -> usize
     ensures { Printed (step_text (outcome step)) result out.old out.new }
 {
     match step {
-        Step::Sum(t) => write_sheet(t, out),
-        Step::Refused(number, place) => write_refused(number, place, out),
-        Step::Wrong(n) => write_part(b"not a sheet: line ", n as u64, b'\n', 0, out),
-        Step::Unread => 0,
+        Ok(totals) => write_sheet(totals, out),
+        Err(Stop::Refused(refusal)) => write_refusal(refusal, out),
+        Err(Stop::Wrong(line)) => {
+            let mut text = Writer::new(out);
+            push_part(b"not a sheet: line ", line.number as u64, b'\n', &mut text);
+            text.len
+        }
+        Err(Stop::Unread) => 0,
     }
 }

@@ -5,17 +5,17 @@ ghost use Rattle.sheettext.specs.Names.{taken_of, name_after, held_on};
 
 use station::input::keep;
 
-// As much of a name as is kept: more than any file's has, so that what is kept of a longer one is no file's name either.
+/// As much of a name as is kept: more than any file's has, so that what is kept of a longer one is no file's name either.
 pub const NAME: usize = 4097;
 
-// What is taken from the front of a chunk.
-#[derive(Clone, Copy)]
+/// What is taken from the front of a chunk.
+#[derive(Clone, Copy, Debug, PartialEq, Eq, Hash)]
 pub struct Taken {
-    // How many bytes of the chunk.
+    /// How many bytes of the chunk.
     pub used: usize,
-    // How many bytes of the name are kept.
+    /// How many bytes of the name are kept.
     pub held: usize,
-    // Byte 10 ended the name.
+    /// Byte 10 ended the name.
     pub whole: bool,
 }
 
@@ -23,40 +23,29 @@ pub struct Taken {
 fn line_end(t: &[u8]) -> usize
     ensures { result ≡ until (eqb 10) t.now }
 {
-    let mut i = 0;
-    while i < t.len() {
+    for i in 0..t.len() {
         if t[i] == b'\n' {
             return i;
         }
-        i += 1;
     }
-    i
+    t.len()
 }
 
 // How many bytes a line uses that ends before `end`: byte 10 too, where there is one.
 fn used_by(end: usize, length: usize) -> usize
     ensures { result ≡ min length (end + 1) }
 {
-    if end < length {
-        return end + 1;
-    }
-    length
+    if end < length { end + 1 } else { length }
 }
 
 // How many bytes of a name are kept after `more` bytes.
 fn held_after(held: usize, more: usize) -> usize
     ensures { result ≡ min 4097 (held + more) }
 {
-    if NAME <= held {
-        return NAME;
-    }
-    if NAME - held <= more {
-        return NAME;
-    }
-    held + more
+    NAME.min(held.saturating_add(more))
 }
 
-// Takes the bytes of a name up to byte 10 or the chunk's end, and keeps them after those that are held, as far as there is room.
+/// Takes the bytes of a name up to byte 10 or the chunk's end, and keeps them after those that are held, as far as there is room.
 pub fn take_name(chunk: &[u8], name: &mut [u8; NAME], held: usize) -> Taken
     ensures value { result ≡ taken_of held chunk.now }
     ensures name_after { name.new ≡ name_after held chunk.now name.old }
@@ -70,12 +59,10 @@ pub fn take_name(chunk: &[u8], name: &mut [u8; NAME], held: usize) -> Taken
     }
 }
 
-// How many bytes are kept of the name that goes on: none after one that is whole.
+/// How many bytes are kept of the name that goes on: none after one that is whole.
+#[tactic(auto, unfolding(crate::specs::Names::held_on))]
 pub fn held_on(taken: Taken) -> usize
     ensures { result ≡ held_on taken }
 {
-    if taken.whole {
-        return 0;
-    }
-    taken.held
+    if taken.whole { 0 } else { taken.held }
 }

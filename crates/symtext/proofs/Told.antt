@@ -11,7 +11,7 @@ use Rattle.rules.specs.Text.{Text}
 use Rattle.rules.specs.Label.{Label}
 use Rattle.rules.specs.Answer.{Answer, accepted, refused, refuse_if, and_then}
 use Rattle.rules.specs.Assemble.{pass_at_by}
-use Rattle.requests.specs.Symbols.{symbols, Rows, short_rows, room_rows, symbols_answer}
+use Rattle.requests.specs.Symbols.{symbols, Rows, short_rows, room_rows, symbols_answer, symbols_rows}
 use Rattle.promises.specs.Demand1.{source_over, of_source}
 use Rattle.promises.specs.Nearest.{In, head, tail}
 use Rattle.promises.specs.Symbols.{IsEntry, SymbolsAreListed, RowsWritten, names_length, SymbolsFit, EachListFits}
@@ -20,10 +20,6 @@ use Rattle.promises.proofs.Sorted.{entry_in}
 use Rattle.promises.proofs.Symbols.{symbols_are_listed}
 use Rattle.promises.proofs.SymbolsFit.{each_list_fits}
 use Rattle.promises.proofs.SymbolsRows.{symbols_are_written}
-use Rattle.answer.specs.declared.Answer.{Answer as Given}
-use Rattle.answer.specs.declared.Answer.TheVariants.{Accepted, Refused}
-use Rattle.answer.proofs.Answers.{told_accepted, told_refused}
-use Rattle.symbols.specs.Symbols.{ListSymbolsGives}
 use Rattle.listing.specs.Listing.{refused_text}
 use Rattle.listing.proofs.Digits.{few_places, decimal_length}
 use Rattle.station.proofs.ScriptInput.{RefusesLong, checks_long}
@@ -47,9 +43,9 @@ lines_fit (x ∷ l) h =
     rw (length-append (symbol_text x) (flat_map symbol_text l)) (omega (arith, decimal_length _ x.line refl))
 
 -- ---- the rows after a call that is accepted
-module _ {base : ℕ} {s : Text} {x y : Rows} {r : Given} (g : ListSymbolsGives base s x r y) (n : ℕ) (e : r ≡ Accepted n) where
+module _ (base : ℕ) (s : Text) (x : Rows) {y : Rows} {n : ℕ} (answered : accepted n ≡ symbols_answer base s x) (written : y ≡ symbols_rows base s x) where
   call : RowsWritten base s n x y
-  call = rw (← g.written) at (symbols_are_written.by_accepted base s x n (told_accepted (symbols_answer base s x) n (sym g.answered ∙ e)))
+  call = rw (← written) at (symbols_are_written.by_accepted base s x n (sym answered))
 
   listed : symbols base s ≡ accepted call.list
   unfolding SymbolsAreListed
@@ -121,8 +117,8 @@ module _ (x : Rows) (a : max_labels ≤ length x.starts) (b : max_labels ≤ len
       go (accepted l) f =
           let g : accepted (length l) ≡ refused n p = rw (f, room_rows, not_short (length l) (each_list_fits base s l f).count) at e in clash cc
 
-pub refusal_text : {base : ℕ} {s : Text} {x y : Rows} {r : Given} → ListSymbolsGives base s x r y → (n p : ℕ) → r ≡ Refused n p
+pub refusal_text : (base : ℕ) (s : Text) (x : Rows) {n p : ℕ} → refused n p ≡ symbols_answer base s x
     → max_labels ≤ length x.starts → max_labels ≤ length x.lengths → max_labels ≤ length x.addresses → max_labels ≤ length x.lines
     → refused_text n p ≡ symbols_text base s
 unfolding symbols_text told_text
-refusal_text {base} {s} {x} g n p e a b c d = rw (same_refusal x a b c d base s n p (told_refused (symbols_answer base s x) n p (sym g.answered ∙ e)))
+refusal_text base s x {n} {p} e a b c d = rw (same_refusal x a b c d base s n p (sym e))

@@ -1,7 +1,7 @@
 #![tactic(auto)]
 
-// What `symlist` prints for a script that was read chunk by chunk: the labels with their addresses and lines (W-202).
-ghost use Rattle.std.specs.Prelude.{◌≡◌, ◌+◌, ◌≤◌, length as len, take};
+//! What `symlist` prints for a script that was read chunk by chunk: the labels with their addresses and lines.
+ghost use Rattle.std.specs.Prelude.{◌≡◌, ◌+◌, ◌≤◌, length as len};
 ghost use Rattle.rules.specs.Text.{Text};
 ghost use Rattle.requests.specs.Symbols.{rows};
 ghost use Rattle.text.specs.Spans.{over_from};
@@ -11,11 +11,11 @@ ghost use Rattle.station.specs.Reads.{Reads};
 ghost use Rattle.symtext.specs.Symlist.{line_text, symbols_text};
 ghost use Rattle.symtext.specs.Rows.{rows_text, RowsFit};
 
-use answer::Answer;
-use listing::writing::{write_bytes, write_decimal, write_digits, write_refused};
+use answer::Refusal;
+use listing::writing::{write_bytes, write_decimal, write_digits};
 use rules::{MAX_LABELS, MAX_SOURCE};
 use station::input::Input;
-use station::{SCRIPT, TEXT};
+use station::{SCRIPT, TEXT, write_refusal};
 use symbols::list_symbols;
 
 // Puts a label's line at an index, and answers the index after it.
@@ -47,17 +47,15 @@ fn write_lines(
     ensures { Printed (rows_text source.now (rows starts.now lengths.now addresses.now lines.now) count) result out.old out.new }
 {
     let mut at = 0;
-    let mut k = 0;
-    while k < count {
+    for k in 0..count {
         let start = starts[k] as usize;
         let end = start + lengths[k] as usize;
         at = write_line(&source[start..end], addresses[k], lines[k], at, out);
-        k += 1;
     }
     at
 }
 
-// Puts the lines of a source's labels, or that of its refusal, at the front, and answers their length.
+/// Puts the lines of a source's labels, or that of its refusal, at the front, and answers their length.
 pub fn write_symbols(source: &[u8], base: u32, out: &mut [u8; TEXT]) -> usize
     ensures { Printed (symbols_text base source.now) result out.old out.new }
 {
@@ -73,22 +71,12 @@ pub fn write_symbols(source: &[u8], base: u32, out: &mut [u8; TEXT]) -> usize
         &mut addresses,
         &mut lines,
     ) {
-        Answer::Accepted(count) => write_lines(
-            source, &starts, &lengths, &addresses, &lines, count, out,
-        ),
-        Answer::Refused(number, place) => write_refused(number, place, out),
+        Ok(count) => write_lines(source, &starts, &lengths, &addresses, &lines, count, out),
+        Err(refusal) => write_refusal(refusal, out),
     }
 }
 
-// The same at base 0 for a script, the first `length` bytes.
-fn write_script(bytes: &[u8], length: usize, out: &mut [u8; TEXT]) -> usize
-    requires { length ≤ len bytes.now }
-    ensures { Printed (symbols_text 0 (take length bytes.now)) result out.old out.new }
-{
-    write_symbols(&bytes[..length], 0, out)
-}
-
-// Puts what is printed for an input that is a script at the front, and answers its length: nothing if it was not read whole.
+/// Puts what is printed for an input that is a script at the front, and answers its length: nothing if it was not read whole.
 pub fn symbols_text(script: &[u8; SCRIPT], input: Input, out: &mut [u8; TEXT]) -> usize
     ensures printed { Printed (input_text (symbols_text 0) input script.now) result out.old out.new }
     ensures script_value { (t : Text) → Reads t script.now input → input_text (symbols_text 0) input script.now ≡ unless_failed input (symbols_text 0 t) }
@@ -98,7 +86,7 @@ pub fn symbols_text(script: &[u8; SCRIPT], input: Input, out: &mut [u8; TEXT]) -
     }
     let total = input.total;
     if MAX_SOURCE < total {
-        return write_refused(1, total, out);
+        return write_refusal(Refusal::LongSource(total), out);
     }
-    write_script(script, total, out)
+    write_symbols(&script[..total], 0, out)
 }

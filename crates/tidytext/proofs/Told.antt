@@ -10,7 +10,7 @@ use lib.Dec.{ltb}
 use lib.ListN.{length, take, drop, length-append}
 use lib.Seq.{take_all, take_at}
 use Rattle.rules.specs.Text.{Text, cut_at}
-use Rattle.rules.specs.Answer.{accepted, refused, refuse_if}
+use Rattle.rules.specs.Answer.{Answer, accepted, refused, refuse_if}
 use Rattle.rules.specs.Assemble.{checks, over}
 use Rattle.requests.specs.Tidy.{tidy, room_for, tidy_answer, write_copy, tidy_slice}
 use Rattle.promises.specs.Tidy.{CopyIsShort}
@@ -19,11 +19,12 @@ use Rattle.tidylaws.proofs.Short.{copy_is_short}
 use Rattle.tidylaws.proofs.Call.{tidy_writes}
 use Rattle.text.specs.Spans.{over_from}
 use Rattle.text.proofs.Over.{put_over}
-use Rattle.answer.specs.declared.Answer.{Answer}
-use Rattle.answer.specs.declared.Answer.TheVariants.{Accepted, Refused}
-use Rattle.answer.specs.Answer.{answer_of}
-use Rattle.answer.proofs.Answers.{told_accepted, told_refused}
-use Rattle.source.proofs.Callers.{checks_clear, cleared, stopped}
+use Rattle.std.specs.Prelude.{Result, Ok, Err}
+use Rattle.std.specs.Result.{result_unwrap_or}
+use Rattle.answer.specs.declared.Refusal.{Refusal}
+use Rattle.answer.specs.Refusal.{number_of, place_of, answer_of}
+use Rattle.source.specs.Clear.{Clear}
+use Rattle.source.proofs.Callers.{checks_clear, stopped}
 use Rattle.listing.specs.Listing.{refused_text}
 use Rattle.station.specs.Station.{unless_failed}
 use Rattle.station.specs.Printed.{Printed}
@@ -34,36 +35,25 @@ use Rattle.station.proofs.ScriptInput.{RefusesLong, checks_long}
 use Rattle.tidytext.specs.Tidy.{answered_copy, answered_refusal, copy_text, refusal_text, copy_input_text, answered_text, tidied_text}
 
 -- ---- `write_copy`
-module _ (s out : Text) (l : length out ≡ 32768) {r : Answer} {last : Text}
-    (g : (r ≡ answer_of (tidy_answer (length out) s)) × (last ≡ tidy_slice s out)) where
-  pub copy_printed : (n : ℕ) → r ≡ Accepted n → Printed (copy_text s) n out last
+module _ (s out : Text) (l : length out ≡ 32768) {last : Text} (g : last ≡ tidy_slice s out) where
+  pub copy_printed : (r : Result ℕ Refusal) → answer_of r ≡ tidy_answer (length out) s → Printed (copy_text s) (result_unwrap_or r 0) out last
   unfolding copy_text answered_copy tidy_slice write_copy
-  copy_printed n e =
-      let a : tidy_answer (length out) s ≡ accepted n = told_accepted (tidy_answer (length out) s) n (sym g.0 ∙ e) in
-      let b : tidy_answer 32768 s ≡ accepted n = rw (← l) a in
-      rw b (printed (tidy s) n out last (tidy_writes.copied s out n a).0 (g.1 ∙ rw a))
-
-  pub copy_refused : (n p : ℕ) → r ≡ Refused n p → Printed (copy_text s) 0 out last
-  unfolding copy_text answered_copy
-  copy_refused n p e =
-      let a : tidy_answer (length out) s ≡ refused n p = told_refused (tidy_answer (length out) s) n p (sym g.0 ∙ e) in
-      let b : tidy_answer 32768 s ≡ refused n p = rw (← l) a in
-      let same : last ≡ out = g.1 ∙ tidy_writes.refusal s out n p a in
+  copy_printed (Ok n) e =
+      let b : tidy_answer 32768 s ≡ accepted n = rw (← l) (sym e) in
+      rw (sym (ap (λ (k : ℕ). tidy_answer k s) l) ∙ sym e) (printed (tidy s) n out last (tidy_writes.copied s out n (sym e)).0 (g ∙ rw (sym e)))
+  copy_printed (Err f) e =
+      let b : tidy_answer 32768 s ≡ refused (number_of f) (place_of f) = rw (← l) (sym e) in
+      let same : last ≡ out = g ∙ tidy_writes.refusal s out (number_of f) (place_of f) (sym e) in
       rw (b, same) (printed_none out)
 
--- ---- `write_refusal`
-abbrev counted : Text → Answer
-counted s = answer_of (checks s (accepted (length (cut_at 10 s))))
-
-pub refusal_none : (s : Text) (n : ℕ) → Accepted n ≡ counted s → refusal_text s ≡ []
+-- ---- `write_checked`
+pub refusal_none : (s : Text) → Clear s → refusal_text s ≡ []
 unfolding refusal_text answered_refusal tidy_answer room_for refuse_if CopyIsShort
-refusal_none s n e =
-    let c = (cleared s n e).0 in
-    rw (checks_clear s c (room_for 32768 (tidy s)), le-ltb 32768 (length (tidy s)) (omega (arith, c.short, copy_is_short s)))
+refusal_none s c = rw (checks_clear s c (room_for 32768 (tidy s)), le-ltb 32768 (length (tidy s)) (omega (arith, c.short, copy_is_short s)))
 
-pub refusal_told : (s : Text) (n p : ℕ) → Refused n p ≡ counted s → refused_text n p ≡ refusal_text s
+pub refusal_told : (s : Text) (n p k : ℕ) → refused n p ≡ checks s (accepted k) → refused_text n p ≡ refusal_text s
 unfolding refusal_text answered_refusal tidy_answer
-refusal_told s n p e = rw (stopped s n p e (room_for 32768 (tidy s)))
+refusal_told s n p k e = rw (← (stopped s k n p e (room_for 32768 (tidy s))))
 
 pub refusal_long : RefusesLong refusal_text
 unfolding refusal_text answered_refusal tidy_answer
@@ -124,25 +114,25 @@ capped room s = go (ltb 32768 (length s)) refl
     go false e = ap (checks s) (room_capped room s (ltb-false 32768 (length s) e))
 
 -- the part lent is y before the call and z after it
-module _ (room : ℕ) (s y z : Text) {r : Answer} (g : (r ≡ answer_of (tidy_answer (length y) s)) × (z ≡ tidy_slice s y)) (l : length y ≡ min room 32768) where
-  answer_is : r ≡ answer_of (tidy_answer room s)
-  answer_is = g.0 ∙ ap answer_of (ap (λ (n : ℕ). tidy_answer n s) l ∙ capped room s)
+module _ (room : ℕ) (s y z : Text) {r : Answer ℕ} (g : r ≡ tidy_answer (length y) s) (f : z ≡ tidy_slice s y) (l : length y ≡ min room 32768) where
+  answer_is : r ≡ tidy_answer room s
+  answer_is = g ∙ ap (λ (n : ℕ). tidy_answer n s) l ∙ capped room s
 
-  pub tidied_refused : (n p : ℕ) → r ≡ Refused n p → refused_text n p ≡ tidied_text room s
+  pub tidied_refused : (n p : ℕ) → r ≡ refused n p → refused_text n p ≡ tidied_text room s
   unfolding tidied_text answered_text
-  tidied_refused n p e = rw (told_refused (tidy_answer room s) n p (sym answer_is ∙ e))
+  tidied_refused n p e = rw (← answer_is, e)
 
   -- accepted: x is what stands after the part in the array
-  module _ (n : ℕ) (e : r ≡ Accepted n) (x : Text) where
+  module _ (n : ℕ) (e : r ≡ accepted n) (x : Text) where
     accepts : tidy_answer (length y) s ≡ accepted n
-    accepts = told_accepted (tidy_answer (length y) s) n (sym g.0 ∙ e)
+    accepts = sym g ∙ e
 
     counted_is : n ≡ length (tidy s)
     counted_is = (tidy_writes.copied s y n accepts).0
 
     after_is : z ≡ over (tidy s) y
     unfolding tidy_slice write_copy
-    after_is = g.1 ∙ rw accepts
+    after_is = f ∙ rw accepts
 
     fits : length (tidy s) ≤ 32768
     unfolding tidy_answer room_for
@@ -161,5 +151,5 @@ module _ (room : ℕ) (s y z : Text) {r : Answer} (g : (r ≡ answer_of (tidy_an
 
     pub tidied_printed : (out : Text) {last : Text} → last ≡ over_from 0 (take n (z ++ x)) out → Printed (tidied_text room s) n out last
     unfolding tidied_text answered_text
-    tidied_printed out {last} f =
-        rw (told_accepted (tidy_answer room s) n (sym answer_is ∙ e)) (printed (tidy s) n out last counted_is (f ∙ rw front_is (put_over (tidy s) out)))
+    tidied_printed out {last} h =
+        rw (sym answer_is ∙ e) (printed (tidy s) n out last counted_is (h ∙ rw front_is (put_over (tidy s) out)))

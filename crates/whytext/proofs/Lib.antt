@@ -1,3 +1,2 @@
-pub mod Numbered
-pub mod Rows
 pub mod Told
+pub mod Rows

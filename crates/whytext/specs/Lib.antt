@@ -1,2 +1,2 @@
 pub mod WhyLine
-pub mod Numbers
+pub mod Verdicts

@@ -1,18 +1,15 @@
 -- What `whyline` prints for a script (W-205), and what its arguments ask. Assumes nothing.
-use Rattle.std.specs.Prelude.{ℕ, suc, ◌^◌, cond, List, [], ◌∷◌, ◌++◌, map, eqb, leb}
+use Rattle.std.specs.Prelude.{ℕ, suc, ◌^◌, cond, List, [], ◌∷◌, ◌++◌, map, eqb, leb, Option, None, Some, Result, Ok, Err}
 use Rattle.rules.specs.Text.{Text, bytes}
 use Rattle.rules.specs.Number.{no_digits, bad_digit, out_of_range, Reading, some_digits, ranged, below}
 use Rattle.rules.specs.Answer.{Answer, accepted, refused}
 use Rattle.requests.specs.Explain.{not_instruction, unknown_mnemonic, wrong_count, wrong_kinds, bad_number, not_recorded, out_of_reach, Verdict, emitted, because, explain_all, explain}
 use Rattle.numeral.specs.Number.{number_of}
-use Rattle.numeral.specs.declared.unsigned.Number.{Number}
-use Rattle.numeral.specs.declared.unsigned.Number.TheVariants.{Value, Failed}
+use Rattle.numeral.specs.declared.Failure.{Failure}
 use Rattle.listing.specs.Listing.{decimal, refused_text}
 use Rattle.station.specs.Station.{hexadecimal_in}
-use Rattle.whytext.specs.declared.Lines.{Lines}
-use Rattle.whytext.specs.declared.Lines.TheVariants.{One, All}
-use Rattle.whytext.specs.declared.Asked.{Asked}
-use Rattle.whytext.specs.declared.Asked.TheVariants.{About, Wrong}
+use Rattle.whytext.specs.declared.LineAt.{LineAt}
+use Rattle.whytext.specs.declared.WrongArguments.{WrongArguments}
 
 -- ---- a line
 
@@ -65,23 +62,23 @@ lines_text base s = all_text (explain_all base s)
 -- ---- arguments
 
 -- what is printed for a script: all its lines at base 0, or the one line that is asked for
-unfoldable pub why_text : Lines → Text → Text
-why_text (One line base) s = line_text base line s
-why_text All s = lines_text 0 s
+unfoldable pub why_text : Option LineAt → Text → Text
+why_text None s = lines_text 0 s
+why_text (Some a) s = line_text a.base a.line s
 
 -- a number of 32 bits in decimal, without a sign
 unfoldable pub decimal_in : Text → Reading ℕ
 decimal_in t = ranged (below (2 ^ 32)) (some_digits 10 t)
 
 -- a line and a base, if both are read
-abbrev pub asked_at : Number → Number → Asked
-asked_at (Value line) (Value base) = About (One line base)
-asked_at (Value line) (Failed x) = Wrong
-asked_at (Failed x) base = Wrong
+abbrev pub asked_at : Result ℕ Failure → Result ℕ Failure → Result (Option LineAt) WrongArguments
+asked_at (Ok n) (Ok b) = Ok (Some (record { line = n; base = b }))
+asked_at (Ok n) (Err x) = Err record {}
+asked_at (Err x) b = Err record {}
 
 -- no argument besides the program's name; one, the line, and the base is 0; or two
-unfoldable pub asked_by : ℕ → Text → Text → Asked
+unfoldable pub asked_by : ℕ → Text → Text → Result (Option LineAt) WrongArguments
 asked_by count a b =
-    cond (leb count 1) (About All)
-    (cond (eqb count 2) (asked_at (number_of (decimal_in a)) (Value 0))
-    (cond (eqb count 3) (asked_at (number_of (decimal_in a)) (number_of (hexadecimal_in b))) Wrong))
+    cond (leb count 1) (Ok None)
+    (cond (eqb count 2) (asked_at (number_of (decimal_in a)) (Ok 0))
+    (cond (eqb count 3) (asked_at (number_of (decimal_in a)) (number_of (hexadecimal_in b))) (Err record {})))

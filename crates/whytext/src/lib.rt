@@ -1,192 +1,198 @@
 #![tactic(auto)]
 
-// What `whyline` prints for a script that was read chunk by chunk: why its lines have no word (W-205); and what its arguments
-// ask.
-ghost use Rattle.std.specs.Prelude.{◌≡◌, ◌+◌, ◌≤◌, length as len, take};
+//! What `whyline` prints for a script that was read chunk by chunk: why its lines have no word (W-205); and what its arguments
+//! ask.
+ghost use Rattle.std.specs.Prelude.{◌≡◌, ◌+◌, ◌*◌, ◌≤◌, Ok, length as len, take, IfOk};
 ghost use Rattle.rules.specs.Text.{Text};
-ghost use Rattle.text.specs.Spans.{over_from};
+ghost use Rattle.rules.specs.Limits.{max_lines};
+ghost use Rattle.answer.specs.Refusal.{answer_of};
+ghost use Rattle.listing.specs.Writer.{Adds};
 ghost use Rattle.station.specs.Station.{unless_failed, input_text};
 ghost use Rattle.station.specs.Printed.{Printed};
 ghost use Rattle.station.specs.Reads.{Reads};
 ghost use Rattle.whytext.specs.WhyLine.{line_text, row_text, lines_text, why_text, asked_at, asked_by};
-ghost use Rattle.whytext.specs.Numbers.{number_text, numbers_text, explained_text, counted_text, CountFits};
+ghost use Rattle.whytext.specs.Verdicts.{line_of, rows_of, explained_text, counted_text};
 
-use answer::Answer;
-use explain::{Explained, explain_line, explain_lines, verdict_number};
-use listing::writing::{write_bytes, write_decimal, write_refused};
-use numeral::unsigned::{Number, read_digits};
+use answer::Refusal;
+use explain::{Verdict, explain_line, explain_lines};
+use listing::writer::Writer;
+use numeral::Failure;
+use numeral::unsigned::read_digits;
 use rules::{MAX_LINES, MAX_SOURCE};
 use station::arguments::{are_none, hexadecimal};
 use station::input::Input;
-use station::{SCRIPT, TEXT};
+use station::{SCRIPT, TEXT, write_refusal};
 
-// The lines that are asked for.
-#[derive(Clone, Copy)]
-pub enum Lines {
-    // One, from 1, of the script at a base.
-    One(u32, u32),
-    // Every line that is read, at base 0.
-    All,
+/// One line that is asked for.
+#[derive(Clone, Copy, Debug, PartialEq, Eq, Hash)]
+pub struct LineAt {
+    /// From 1.
+    pub line: u32,
+    /// The base at which the script is assembled.
+    pub base: u32,
 }
 
-// What the arguments ask.
-#[derive(Clone, Copy)]
-pub enum Asked {
-    About(Lines),
-    // They are not a line, nor a line and a base.
-    Wrong,
-}
+/// Arguments that are not a line, nor a line and a base.
+#[derive(Clone, Copy, Debug, PartialEq, Eq, Hash)]
+pub struct WrongArguments;
 
 // ---- Arguments.
 
-// What a line and a base ask, as they are read.
-fn asked_at(line: Number, base: Number) -> Asked
+// The line that a line's number and a base ask for, as they are read.
+fn asked_at(
+    line: Result<u32, Failure>,
+    base: Result<u32, Failure>,
+) -> Result<Option<LineAt>, WrongArguments>
     ensures { result ≡ asked_at line base }
 {
-    let Number::Value(k) = line else {
-        return Asked::Wrong;
-    };
-    let Number::Value(b) = base else {
-        return Asked::Wrong;
-    };
-    Asked::About(Lines::One(k, b))
+    match (line, base) {
+        (Ok(line), Ok(base)) => Ok(Some(LineAt { line, base })),
+        _ => Err(WrongArguments),
+    }
 }
 
-// What no argument asks, a line, or a line and a base; `count` is that of the arguments with the program's own name.
-pub fn asked_by(count: usize, line: &[u8], base: &[u8]) -> Asked
+/// The line that is asked for by its number, or by its number and a base; None where no argument asks for all lines, at base 0. `count`
+/// is that of the arguments with the program's own name.
+pub fn asked_by(count: usize, line: &[u8], base: &[u8]) -> Result<Option<LineAt>, WrongArguments>
     ensures { result ≡ asked_by count line.now base.now }
 {
     if are_none(count) {
-        return Asked::About(Lines::All);
+        return Ok(None);
     }
     if count == 2 {
-        return asked_at(read_digits(line, 10, 4294967296), Number::Value(0));
+        return asked_at(read_digits(line, 10, 1 << 32), Ok(0));
     }
     if count == 3 {
-        return asked_at(read_digits(line, 10, 4294967296), hexadecimal(base));
+        return asked_at(read_digits(line, 10, 1 << 32), hexadecimal(base));
     }
-    Asked::Wrong
+    Err(WrongArguments)
 }
 
 // ---- A line.
 
-// Puts words at an index, and answers the index after them.
-pub fn write_words(words: &[u8], at: usize, out: &mut [u8]) -> usize
-    requires { at + len words.now ≤ len out.old }
-    ensures { (result ≡ at + len words.now) × (out.new ≡ over_from at words.now out.old) }
+/// Writes a verdict's line.
+#[tactic(auto, unfolding(crate::specs::Verdicts::line_of, crate::specs::WhyLine::verdict_text, rules::specs::Text::bytes))]
+pub fn push_verdict(verdict: Verdict, text: &mut Writer<'_>)
+    requires { text.old.len + 26 ≤ len text.old.out.now }
+    ensures { Adds (line_of verdict) text.old text.new }
 {
-    write_bytes(out, at, words);
-    at + words.len()
-}
-
-// Puts the line of the verdict with a number at an index, and answers the index after it.
-pub fn write_verdict(number: u8, at: usize, out: &mut [u8]) -> usize
-    requires { at + 26 ≤ len out.old }
-    ensures { (result ≡ at + len (number_text number)) × (out.new ≡ over_from at (number_text number) out.old) }
-{
-    match number {
-        0 => write_words(b"word emitted\n", at, out),
-        1 => write_words(b"not an instruction\n", at, out),
-        2 => write_words(b"unknown mnemonic\n", at, out),
-        3 => write_words(b"wrong operand count\n", at, out),
-        4 => write_words(b"operand kinds\n", at, out),
-        5 => write_words(b"number: no digits\n", at, out),
-        6 => write_words(b"number: bad digit\n", at, out),
-        7 => write_words(b"number: out of range\n", at, out),
-        8 => write_words(b"label not recorded\n", at, out),
-        _ => write_words(b"displacement out of range\n", at, out),
+    match verdict {
+        Verdict::Emitted => text.push_bytes(b"word emitted\n"),
+        Verdict::NotInstruction => text.push_bytes(b"not an instruction\n"),
+        Verdict::UnknownMnemonic => text.push_bytes(b"unknown mnemonic\n"),
+        Verdict::WrongCount => text.push_bytes(b"wrong operand count\n"),
+        Verdict::WrongKinds => text.push_bytes(b"operand kinds\n"),
+        Verdict::NoDigits => text.push_bytes(b"number: no digits\n"),
+        Verdict::BadDigit => text.push_bytes(b"number: bad digit\n"),
+        Verdict::OutOfRange => text.push_bytes(b"number: out of range\n"),
+        Verdict::NotRecorded => text.push_bytes(b"label not recorded\n"),
+        Verdict::OutOfReach => text.push_bytes(b"displacement out of range\n"),
     }
 }
 
-// Puts the line of an answer on a line, its verdict's or that of a refusal, at the front, and answers its length.
-pub fn write_explained(explained: Explained, out: &mut [u8; TEXT]) -> usize
-    ensures { Printed (explained_text explained) result out.old out.new }
+/// Puts the line of an answer on a line, its verdict's or that of a refusal, at the front, and answers its length.
+pub fn write_explained(explained: Result<Verdict, Refusal>, out: &mut [u8; TEXT]) -> usize
+    ensures { Printed (explained_text (answer_of explained)) result out.old out.new }
 {
     match explained {
-        Explained::Line(v) => write_verdict(verdict_number(v), 0, out),
-        Explained::Refused(number, place) => write_refused(number, place, out),
+        Ok(verdict) => {
+            let mut text = Writer::new(out);
+            push_verdict(verdict, &mut text);
+            text.len
+        }
+        Err(refusal) => write_refusal(refusal, out),
     }
 }
 
-// Puts the verdict's line on a line of a source, from 1, or that of a refusal, at the front, and answers its length.
+/// Puts the verdict's line on a line of a source, from 1, or that of a refusal, at the front, and answers its length.
 pub fn write_line_verdict(source: &[u8], base: u32, line: usize, out: &mut [u8; TEXT]) -> usize
     ensures { Printed (line_text base line source.now) result out.old out.new }
 {
-    let explained = explain_line(source, base, line);
-    write_explained(explained, out)
+    write_explained(explain_line(source, base, line), out)
 }
 
 // ---- Every line that is read.
 
-// Puts a line's number and its verdict's line at an index, and answers the index after them.
-fn write_row(line: usize, number: u8, at: usize, out: &mut [u8]) -> usize
-    requires { at + 47 ≤ len out.old }
-    ensures { (result ≡ at + len (row_text line (number_text number))) × (out.new ≡ over_from at (row_text line (number_text number)) out.old) }
+// Writes a line's number and its verdict's line.
+fn push_row(line: usize, verdict: Verdict, text: &mut Writer<'_>)
+    requires { text.old.len + 47 ≤ len text.old.out.now }
+    ensures { Adds (row_text line (line_of verdict)) text.old text.new }
 {
-    let end = write_decimal(out, at, line as u64);
-    out[end] = b' ';
-    write_verdict(number, end + 1, out)
+    text.push_decimal(line as u64);
+    text.push(b' ');
+    push_verdict(verdict, text);
 }
 
-// Puts the rows of the first `count` verdicts at the front, and answers their length.
-fn write_rows(verdicts: &[u8], count: usize, out: &mut [u8; TEXT]) -> usize
-    requires { (count ≤ len verdicts.now) × (count ≤ 4096) }
-    ensures { Printed (numbers_text (take count verdicts.now)) result out.old out.new }
+// Writes the rows of verdicts.
+fn push_rows(verdicts: &[Verdict], text: &mut Writer<'_>)
+    requires few { len verdicts.now ≤ max_lines }
+    requires room { text.old.len + 131072 ≤ len text.old.out.now }
+    ensures { Adds (rows_of verdicts.now) text.old text.new }
 {
-    let mut at = 0;
-    let mut k = 0;
-    while k < count {
-        at = write_row(k + 1, verdicts[k], at, out);
-        k += 1;
+    for k in 0..verdicts.len() {
+        push_row(k + 1, verdicts[k], text);
     }
-    at
 }
 
-// Puts the text of an answer on all lines, the rows of as many verdicts or the line of a refusal, at the front, and answers its
-// length.
-pub fn write_counted(answer: Answer, verdicts: &[u8], out: &mut [u8; TEXT]) -> usize
-    requires { CountFits answer verdicts.now }
-    ensures { Printed (counted_text answer verdicts.now) result out.old out.new }
+/// Puts the text of an answer on all lines, the rows of as many verdicts or the line of a refusal, at the front, and answers its
+/// length.
+pub fn write_counted(
+    answer: Result<usize, Refusal>,
+    verdicts: &[Verdict; MAX_LINES],
+    out: &mut [u8; TEXT],
+) -> usize
+    requires { IfOk answer (λ n. n ≤ max_lines) }
+    ensures { Printed (counted_text (answer_of answer) verdicts.now) result out.old out.new }
 {
     match answer {
-        Answer::Accepted(count) => write_rows(verdicts, count, out),
-        Answer::Refused(number, place) => write_refused(number, place, out),
+        Ok(count) => {
+            let mut text = Writer::new(out);
+            push_rows(&verdicts[..count], &mut text);
+            text.len
+        }
+        Err(refusal) => write_refusal(refusal, out),
     }
 }
 
-// Puts the rows of every line of a source that is read, or the line of a refusal, at the front, and answers their length.
+/// Puts the rows of every line of a source that is read, or the line of a refusal, at the front, and answers their length.
 pub fn write_line_verdicts(source: &[u8], base: u32, out: &mut [u8; TEXT]) -> usize
     ensures { Printed (lines_text base source.now) result out.old out.new }
 {
-    let mut verdicts = [0u8; MAX_LINES];
+    let mut verdicts = [Verdict::Emitted; MAX_LINES];
     let answer = explain_lines(source, base, &mut verdicts);
     write_counted(answer, &verdicts, out)
 }
 
 // ---- A script.
 
-// Puts what is printed for a script, the first `length` bytes, at the front, and answers its length.
-fn write_script(bytes: &[u8], length: usize, lines: Lines, out: &mut [u8; TEXT]) -> usize
-    requires { length ≤ len bytes.now }
-    ensures { Printed (why_text lines (take length bytes.now)) result out.old out.new }
+// Puts what is printed for a script at the front, and answers its length.
+#[tactic(auto, unfolding(crate::specs::WhyLine::why_text))]
+fn write_script(script: &[u8], asked: Option<LineAt>, out: &mut [u8; TEXT]) -> usize
+    ensures { Printed (why_text asked script.now) result out.old out.new }
 {
-    match lines {
-        Lines::One(line, base) => write_line_verdict(&bytes[..length], base, line as usize, out),
-        Lines::All => write_line_verdicts(&bytes[..length], 0, out),
+    match asked {
+        Some(LineAt { line, base }) => write_line_verdict(script, base, line as usize, out),
+        None => write_line_verdicts(script, 0, out),
     }
 }
 
-// Puts what is printed for an input that is a script at the front, and answers its length: nothing if it was not read whole.
-pub fn why_text(script: &[u8; SCRIPT], input: Input, lines: Lines, out: &mut [u8; TEXT]) -> usize
-    ensures printed { Printed (input_text (why_text lines) input script.now) result out.old out.new }
-    ensures script_value { (t : Text) → Reads t script.now input → input_text (why_text lines) input script.now ≡ unless_failed input (why_text lines t) }
+/// Puts what is printed for an input that is a script, the line that is asked for or all, at the front, and answers its length: nothing
+/// if it was not read whole.
+pub fn why_text(
+    script: &[u8; SCRIPT],
+    input: Input,
+    asked: Option<LineAt>,
+    out: &mut [u8; TEXT],
+) -> usize
+    ensures printed { Printed (input_text (why_text asked) input script.now) result out.old out.new }
+    ensures script_value { (t : Text) → Reads t script.now input → input_text (why_text asked) input script.now ≡ unless_failed input (why_text asked t) }
 {
     if input.failed {
         return 0;
     }
     let total = input.total;
     if MAX_SOURCE < total {
-        return write_refused(1, total, out);
+        return write_refusal(Refusal::LongSource(total), out);
     }
-    write_script(script, total, lines, out)
+    write_script(&script[..total], asked, out)
 }

@@ -2,8 +2,6 @@
 use Rattle.benchtext.specs.BenchText.{row_of}
 use Rattle.benchtext.proofs.list_row.Goals as goal
 
-pub returns : goal.returns
+pub returns-clause-printed : goal.returns-clause-printed
 unfolding row_of
-returns c =
-    let words = c.put_value.ensures in
-    record { words_after = words; printed = rw (← words, ← c.value_at-value.ensures) c.write_list_run.ensures }
+returns-clause-printed c = rw (← c.put_value.ensures, ← c.value_for-value.ensures) c.write_list_run.ensures

@@ -11,5 +11,5 @@ returns-then-input c = record { value = rows_failed _ _ _ c.if-input.true; list_
 pub returns : goal.returns
 returns c =
     let a = c.args in
-    let n = c.lesser-length.result in
+    let n = c.min.result in
     record { value = c.parsed_rows.ensures ∙ rows_kept a.given a.input a.list.now c.if-input.false n (omega arith); list_value = (λ t r. rows_enough _ _ _ t (λ f. omega arith) r) }

@@ -14,5 +14,5 @@ returns-then-input c =
 pub returns : goal.returns
 returns c =
     let a = c.args in
-    let n = c.lesser-length.result in
+    let n = c.min.result in
     record { printed = rw (← (row_kept a.given a.input a.list.now a.row c.if-input.false n (omega arith))) c.parsed_row.ensures; list_value = (λ t r. row_enough _ _ _ _ t (λ f. omega arith) r) }

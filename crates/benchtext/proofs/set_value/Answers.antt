@@ -1,18 +1,14 @@
 -- `benchtext::set_value` meets its contract. Assumes nothing.
-use mathlib.Core.Path.{◌∙◌}
+use mathlib.Core.Path.{refl}
 use native.Mathlib.Omega.{arith}
-use Rattle.relocate.proofs.Sweep.{sweep_starts, sweep_ends, sweep_steps}
-use Rattle.benchtext.proofs.Threshold.{all_valued}
+use native.Mathlib.Numerals.{add-one}
+use Rattle.benchtext.specs.BenchText.{with_value}
+use Rattle.benchtext.proofs.Threshold.{value_step}
 use Rattle.benchtext.proofs.set_value.Goals as goal
 
 pub loop-i-init : goal.loop-i-init
-loop-i-init c = sweep_starts _ _ _
+unfolding with_value
+loop-i-init c = refl
 
 pub loop-i-preserved : goal.loop-i-preserved
-loop-i-preserved c = sweep_steps c.loop-i.invariant (omega arith) (omega arith) _ c.word_at.ensures
-
-pub shape_of-words : goal.shape_of-words
-shape_of-words c = c.loop-i.invariant.long
-
-pub returns : goal.returns
-returns c = sweep_ends c.loop-i.invariant (omega arith) ∙ all_valued _ _ _ _ _ (omega arith)
+loop-i-preserved c = rw (add-one c.loop-i.i, value_step c.loop-i.i c.args.threshold c.args.value c.args.addresses.now c.args.words.now (omega arith) (omega arith), ← c.loop-i.invariant, c.word_at.ensures)

@@ -4,6 +4,7 @@ use borrow.Author.Tests.{not-true, not-false}
 use Rattle.branchtext.proofs.TableInput.{not_lent, table_failed, script_failed, script_long, both_read}
 use Rattle.branchtext.proofs.Under.{script_loads}
 use Rattle.std.proofs.Common.{ap, not}
+use Rattle.branchtext.specs.BranchText.{script_under_text}
 use Rattle.branchtext.proofs.tabled_script_text.Goals as goal
 
 pub returns-then-not-lent : goal.returns-then-not-lent
@@ -30,9 +31,10 @@ returns-then-total-gt-MAX_SOURCE c =
     record { printed = both.0; script_value = both.1 }
 
 pub returns : goal.returns
+unfolding script_under_text
 returns c =
     let e = not-false _ (ap not c.if-not-lent.false) in
     let b = c.if-branches.false in
     let i = c.if-input.false in
-    let both = both_read _ _ _ _ _ _ _ script_loads e b i (omega arith) _ c.kept_size-kept.ensures c.if-total-gt-MAX_SOURCE.false (omega arith) c.write_script.ensures in
+    let both = both_read _ _ _ _ _ _ _ script_loads e b i (omega arith) _ c.kept_size-kept.ensures c.if-total-gt-MAX_SOURCE.false (omega arith) c.write_list_under.ensures in
     record { printed = both.0; script_value = both.1 }

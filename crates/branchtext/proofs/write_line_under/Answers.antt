@@ -5,4 +5,4 @@ use Rattle.branchtext.proofs.write_line_under.Goals as goal
 
 pub returns : goal.returns
 unfolding line_under_text
-returns c = rw (← (explained_text_lem _ c.explain_branches-explained.ensures)) c.write_explained.ensures
+returns c = rw (← (explained_text_lem _)) (rw c.explain_branches.ensures at c.write_explained.ensures)

@@ -1,14 +1,14 @@
--- `line_number_text` goes by what the line's number said. Assumes nothing.
-use mathlib.Core.Path.{sym, ◌∙◌}
+-- What the line's number said.
+use Rattle.std.proofs.Common.{sym, ◌∙◌}
 use Rattle.rules.specs.Text.{bytes}
 use Rattle.calls.proofs.line_number_text.Goals as goal
 
-pub returns-in-Value : goal.returns-in-Value
-returns-in-Value c = rw (sym c.line_number.ensures ∙ c.in-Value.is) c.write_value.ensures
+pub returns-in-Some-Ok : goal.returns-in-Some-Ok
+returns-in-Some-Ok c = rw (sym c.line_number.ensures ∙ c.in-Some-Ok.is, c.in-Some-Ok.field-0-is) c.write_value.ensures
 
-pub returns-in-Failed : goal.returns-in-Failed
-returns-in-Failed c = rw (sym c.line_number.ensures ∙ c.in-Failed.is) c.write_failure.ensures
+pub returns-in-Some-Err : goal.returns-in-Some-Err
+returns-in-Some-Err c = rw (sym c.line_number.ensures ∙ c.in-Some-Err.is, c.in-Some-Err.field-0-is) c.write_failure.ensures
 
-pub returns-in-Nothing : goal.returns-in-Nothing
+pub returns-in-None : goal.returns-in-None
 unfolding bytes
-returns-in-Nothing c = rw (sym c.line_number.ensures ∙ c.in-Nothing.is) c.write_words.ensures
+returns-in-None c = rw (sym c.line_number.ensures ∙ c.in-None.is) c.write_words.ensures

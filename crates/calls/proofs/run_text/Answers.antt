@@ -1,10 +1,5 @@
--- `run_text` is `bench`'s row for the whole text. Assumes nothing.
-use native.Mathlib.Omega.{arith}
-use lib.ListN.{length}
-use lib.Seq.{take_all}
+-- `bench`'s row for the whole text.
 use Rattle.calls.proofs.run_text.Goals as goal
 
 pub returns : goal.returns
-returns c =
-    let list = c.args.list.now in
-    rw (← c.run_of-given.ensures, ← (take_all (length list) list (omega arith))) c.parsed_row.ensures
+returns c = rw (← c.run_of-given.ensures) c.parsed_row.ensures

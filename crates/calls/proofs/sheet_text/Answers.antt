@@ -1,17 +1,11 @@
--- `sheet_text` puts the totals, or a refusal. Assumes nothing.
-use Rattle.station.proofs.Printed.{printed}
+-- The totals, or a refusal.
 use Rattle.calls.specs.Calls.{answered_text}
 use Rattle.calls.proofs.sheet_text.Goals as goal
 
-pub returns-in-Sum : goal.returns-in-Sum
+pub returns-in-Ok : goal.returns-in-Ok
 unfolding answered_text
-returns-in-Sum c =
-    let at = c in
-    rw (← at.empty_sources.ensures, ← at.add_source.ensures, c.in-Sum.is) c.write_sheet.ensures
+returns-in-Ok c = rw (← c.empty_sources.ensures, ← c.add_source.ensures, c.in-Ok.is) c.write_sheet.ensures
 
-pub returns-in-Refused : goal.returns-in-Refused
+pub returns-in-Err : goal.returns-in-Err
 unfolding answered_text
-returns-in-Refused c =
-    let at = c in
-    let line = c.write_refused.ensures in
-    rw (← at.empty_sources.ensures, ← at.add_source.ensures, c.in-Refused.is) (printed _ _ _ _ line.0 line.2)
+returns-in-Err c = rw (← c.empty_sources.ensures, ← c.add_source.ensures, c.in-Err.is) c.write_refusal.ensures

@@ -1,12 +1,13 @@
--- `write_value` puts a word and the number behind it. Assumes nothing.
-use mathlib.Core.Path.{refl}
+-- A word, and the number behind it.
+use Rattle.std.proofs.Common.{rules}
 use Rattle.rules.specs.Text.{bytes}
-use Rattle.station.proofs.Written.{written_first, written_more, written_all}
+use Rattle.listing.proofs.Adding.{adds_both, adds_all}
+use Rattle.station.proofs.Printed.{printed}
 use Rattle.calls.specs.Calls.{read_text}
 use Rattle.calls.proofs.write_value.Goals as goal
 
 pub returns : goal.returns
 unfolding read_text bytes
 returns c =
-    let value = c.write_number.ensures in
-    written_all (written_more (written_first _ 5 _ _ refl c.write_bytes.ensures) _ _ _ value.0 value.2)
+    let h = adds_all c.new-text.ensures (adds_both c.push_bytes.ensures (rw c.from.ensures at c.push_number.ensures.text)) in
+    printed _ _ _ _ h.0 (search rules)

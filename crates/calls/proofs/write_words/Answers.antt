@@ -1,7 +1,8 @@
--- `write_words` puts the words. Assumes nothing.
-use native.Mathlib.Omega.{arith}
-use Rattle.station.proofs.Written.{written_first, written_all}
+-- The words at the front.
+use Rattle.std.proofs.Common.{refl, ◌∙◌}
+use Rattle.text.proofs.Over.{put_over}
+use Rattle.station.proofs.Printed.{printed}
 use Rattle.calls.proofs.write_words.Goals as goal
 
 pub returns : goal.returns
-returns c = written_all (written_first _ _ _ _ (omega arith) c.write_bytes.ensures)
+returns c = printed _ _ _ _ refl (c.write_bytes.ensures ∙ put_over _ _)

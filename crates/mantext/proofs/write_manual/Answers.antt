@@ -9,6 +9,5 @@ pub returns : goal.returns
 returns c =
     let call = c.assemble_manual-answer in
     let zeros = slices (replicate 12288 0) (replicate 12288 0) (replicate 12288 0) in
-    let after = slices call.new.addresses call.new.words call.new.marks in
     let a = c.args in
-    rw (← (assembled a.base a.source.now zeros (omega arith) (omega arith) (omega arith) call.result after call.ensures)) c.write_answer.ensures
+    rw (← (assembled a.base a.source.now zeros (omega arith) (omega arith) (omega arith) _ _ call.ensures.answer call.ensures.slices)) c.write_answer.ensures

@@ -5,7 +5,7 @@ pub returns-in_default : goal.returns-in_default
 returns-in_default c = rw c.in_default.is
 
 pub returns-in_default-base : goal.returns-in_default-base
-returns-in_default-base c = rw (c.in-Value.is, c.in_default-base.is)
+returns-in_default-base c = rw (c.in-Ok.is, c.in_default-base.is)
 
 pub returns : goal.returns
-returns c = rw (c.in-Value.is, c.in-Value-base.is)
+returns c = rw (c.in-Ok.is, c.in-Ok-base.is)

@@ -9,8 +9,5 @@ write_rows-at-requires c = (c.requires.0, page_needs c.requires.0 _ (omega arith
 pub write_labels-requires : goal.write_labels-requires
 write_labels-requires c = (labels_room c.requires.0 c.write_rows-at.ensures (omega arith), symbols_short c.requires.0)
 
-pub shape_of-out : goal.shape_of-out
-shape_of-out c = omega arith
-
 pub returns : goal.returns
-returns c = page_put _ _ _ _ _ c.write_rows-at.ensures c.write_labels.ensures
+returns c = page_put _ c.args.labels.now _ c.args.pass c.write_rows-at.ensures c.write_labels.ensures

@@ -1,19 +1,13 @@
 -- `write_printout_by` goes by what the first pass answered. Assumes nothing.
-use native.Mathlib.Omega.{arith}
-use Rattle.first.proofs.Callers.{enter_holds}
-use Rattle.first.proofs.Lending.{lent_full}
-use Rattle.station.proofs.Printed.{printed}
+use mathlib.Core.Path.{ap, ◌∙◌}
+use Rattle.label.specs.Labelled.{Labelled}
 use Rattle.printout.proofs.Told.{told_refusal, told_page}
 use Rattle.printout.proofs.write_printout_by.Goals as goal
 
-pub enter-requires : goal.enter-requires
-enter-requires c = lent_full _
+pub returns-in-Ok : goal.returns-in-Ok
+returns-in-Ok c =
+    let same = ap (λ (l : Labelled). l.source) c.in-Ok.ensures.labels ∙ c.new-labels.ensures.source in
+    rw (← (told_page _ _ _ c.in-Ok.ensures.holds c.in-Ok.ensures.base same)) c.write_page.ensures
 
-pub write_page-requires : goal.write_page-requires
-write_page-requires c = (enter_holds c.enter.ensures _ c.in-Done.is, omega arith)
-
-pub returns-in-Refused : goal.returns-in-Refused
-returns-in-Refused c = rw (← (told_refusal _ c.enter.ensures _ _ c.in-Refused.is)) (printed _ _ _ _ c.write_refused.ensures.0 c.write_refused.ensures.2)
-
-pub returns-in-Done : goal.returns-in-Done
-returns-in-Done c = rw (← (told_page _ c.enter.ensures _ c.in-Done.is)) c.write_page.ensures
+pub returns-in-Err : goal.returns-in-Err
+returns-in-Err c = rw (← (told_refusal _ _ _ (rw c.new-labels.ensures.source at c.in-Err.ensures.answer))) c.write_refusal.ensures

@@ -5,25 +5,16 @@ use Rattle.printout.proofs.Rowing.{rest_line_lem, rest_none, rest_needs, rest_al
 use Rattle.printout.proofs.write_rest.Goals as goal
 
 pub returns-then-source-start : goal.returns-then-source-start
-returns-then-source-start c = λ base. rest_none c.requires.1 _ _ base _ c.if-source-start.true
-
-pub outline_line-o-requires : goal.outline_line-o-requires
-outline_line-o-requires c = c.if-source-start.false
+returns-then-source-start c = λ base. rest_none c.requires.1 _ _ base _ (rw c.source-source.ensures at c.if-source-start.true)
 
 pub write_read-to-requires : goal.write_read-to-requires
-write_read-to-requires c = (c.requires.0, rest_line_lem c.requires.1 c.if-source-start.false c.outline_line-o.ensures.ends)
-
-pub overflow_add-line : goal.overflow_add-line
-overflow_add-line c = omega (arith, (rest_line_lem c.requires.1 c.if-source-start.false c.outline_line-o.ensures.ends).number)
+write_read-to-requires c = (c.requires.0, rest_line_lem c.requires.1 (rw c.source-source.ensures at c.if-source-start.false) (rw c.source-source.ensures at c.outline_line-end.ensures.ends))
 
 pub overflow_add-end : goal.overflow_add-end
-overflow_add-end c = omega (arith, line_within (rest_line_lem c.requires.1 c.if-source-start.false c.outline_line-o.ensures.ends))
+overflow_add-end c = omega (arith, line_within (rest_line_lem c.requires.1 (rw c.source-source.ensures at c.if-source-start.false) (rw c.source-source.ensures at c.outline_line-end.ensures.ends)))
 
 pub write_unread_rows-requires : goal.write_unread_rows-requires
-write_unread_rows-requires c = rest_needs c.requires.1 _ _ 0 _ c.if-source-start.false c.outline_line-o.ensures.ends c.write_read-to.ensures.puts c.write_read-to.ensures.start_bound (omega arith)
-
-pub shape_of-out : goal.shape_of-out
-shape_of-out c = omega arith
+write_unread_rows-requires c = rw c.source-source.ensures (rest_needs c.requires.1 _ _ 0 _ (rw c.source-source.ensures at c.if-source-start.false) (rw c.source-source.ensures at c.outline_line-end.ensures.ends) c.write_read-to.ensures.puts c.write_read-to.ensures.start_bound (omega arith))
 
 pub returns : goal.returns
-returns c = λ base. rest_all c.requires.1 _ _ base _ c.if-source-start.false c.outline_line-o.ensures.ends c.write_read-to.ensures.puts c.write_read-to.ensures.start_bound (omega arith) c.write_unread_rows.ensures (omega arith)
+returns c = λ base. rest_all c.requires.1 _ _ base _ (rw c.source-source.ensures at c.if-source-start.false) (rw c.source-source.ensures at c.outline_line-end.ensures.ends) c.write_read-to.ensures.puts c.write_read-to.ensures.start_bound (omega arith) (rw c.source-source.ensures at c.write_unread_rows.ensures) (omega arith)

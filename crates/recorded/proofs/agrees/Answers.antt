@@ -3,6 +3,7 @@ use Rattle.std.proofs.Common.{sym, ◌∙◌, arith}
 use mathlib.Core.Bool.{false≢true}
 use borrow.Author.Tests.{not-true, not-false}
 use Rattle.rules.specs.Assemble.{Slices, slices}
+use Rattle.answer.specs.Refusal.{answer_of}
 use Rattle.calls.proofs.Compared.{refuses}
 use Rattle.recorded.specs.Recorded.{WholeRecord}
 use Rattle.recorded.proofs.Bytes.{one_byte}
@@ -22,7 +23,7 @@ after c = slices c.assemble_lent-answer.new.a c.assemble_lent-answer.new.w c.ass
 abbrev recorded : After-read_list → Slices
 recorded c = slices c.read_list.new.a c.read_list.new.w c.read_list.new.m
 
-call : (c : After-assemble_lent-answer) → Made c.args.source.now c.args.terms.now c.assemble_lent-answer.result (after c)
+call : (c : After-assemble_lent-answer) → Made c.args.source.now c.args.terms.now (answer_of c.assemble_lent-answer.result) (after c)
 call c = made _ _ _ _ _ _ _ _ c.number_at-base.ensures c.number_at-la.ensures c.number_at-lw.ensures c.number_at-lm.ensures c.assemble_lent-answer.ensures
 
 pub returns-then-not-is_whole : goal.returns-then-not-is_whole

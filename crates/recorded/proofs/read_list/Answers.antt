@@ -6,22 +6,20 @@ use Rattle.recorded.proofs.Rows.{part_none, part_more, part_all, row_address, ro
 use Rattle.recorded.proofs.read_list.Goals as goal
 
 pub loop-i-init : goal.loop-i-init
-loop-i-init c = (omega arith, part_none _ _ _ _, part_none _ _ _ _, part_none _ _ _ _)
+loop-i-init c = (part_none _ _ _ _, part_none _ _ _ _, part_none _ _ _ _)
 
 pub loop-i-preserved : goal.loop-i-preserved
 loop-i-preserved c =
     let l = c.loop-i in
     let t = c.args.rows.now in
     let word = two_bytes t (7 * l.i + 4) (7 * l.i + 5) (omega arith) (omega arith) in (
-      omega arith,
-      part_more _ t _ l.i _ _ _ l.invariant.1 (omega arith) (omega arith) (c.number_at.ensures ∙ row_address t (7 * l.i)),
-      part_more _ t _ l.i _ _ _ l.invariant.2 (omega arith) (omega arith) (c.small_number.ensures ∙ word ∙ row_word t (7 * l.i)),
-      part_more _ t _ l.i _ _ _ l.invariant.3 (omega arith) (omega arith) (one_byte t (7 * l.i + 6) (omega arith) ∙ row_mark t (7 * l.i)),
+      part_more _ t _ l.i _ _ _ l.invariant.0 (omega arith) (omega arith) (c.number_at.ensures ∙ row_address t (7 * l.i)),
+      part_more _ t _ l.i _ _ _ l.invariant.1 (omega arith) (omega arith) (c.small_number.ensures ∙ word ∙ row_word t (7 * l.i)),
+      part_more _ t _ l.i _ _ _ l.invariant.2 (omega arith) (omega arith) (one_byte t (7 * l.i + 6) (omega arith) ∙ row_mark t (7 * l.i)),
     )
 
 pub returns : goal.returns
 unfolding holding
 returns c =
     let inv = c.loop-i.invariant in
-    let left = c.loop-i-test.false in
-    rw (part_all _ _ _ _ _ _ inv.1 left, part_all _ _ _ _ _ _ inv.2 left, part_all _ _ _ _ _ _ inv.3 left)
+    rw (part_all _ _ _ _ _ _ inv.0 (omega arith), part_all _ _ _ _ _ _ inv.1 (omega arith), part_all _ _ _ _ _ _ inv.2 (omega arith))

@@ -2,7 +2,6 @@
 use mathlib.Core.Path.{sym, ap, ◌∙◌}
 use native.Mathlib.Omega.{arith}
 use lib.Seq.{length-take-le}
-use Rattle.sheettext.specs.Back.{read_of}
 use Rattle.sheettext.proofs.Stepping.{sheet_wrong, sheet_added}
 use Rattle.sheettext.proofs.add_text.Goals as goal
 
@@ -12,8 +11,8 @@ slice_bounds-read_sheet-end c = sym (length-take-le _ _ (omega arith))
 pub read_sheet-requires : goal.read_sheet-requires
 read_sheet-requires c = rw (length-take-le _ _ c.requires.0) c.requires.1
 
-pub returns-in-Totals : goal.returns-in-Totals
-returns-in-Totals c = sheet_added _ _ (ap read_of (sym c.in-Totals.is) ∙ c.read_sheet.ensures) c.add_sheet.ensures c.step_of.ensures
+pub returns-in-Ok : goal.returns-in-Ok
+returns-in-Ok c = sheet_added _ _ c.in-Ok.ensures c.add_sheet.ensures c.step_of.ensures
 
-pub returns-in-Wrong : goal.returns-in-Wrong
-returns-in-Wrong c = sheet_wrong _ _ (ap read_of (sym c.in-Wrong.is) ∙ c.read_sheet.ensures)
+pub returns-in-Err : goal.returns-in-Err
+returns-in-Err c = sheet_wrong _ _ c.in-Err.ensures

@@ -1,19 +1,27 @@
 -- `step_text` puts the text of each outcome. Assumes nothing.
+use Rattle.std.proofs.Common.{rules}
 use Rattle.rules.specs.Text.{bytes}
-use Rattle.station.proofs.Printed.{printed}
-use Rattle.sheettext.proofs.RowsPut.{put_printed}
-use Rattle.sheettext.proofs.Stepping.{text_sum, text_refused, text_wrong, text_unread}
+use Rattle.listing.proofs.Adding.{adds_all}
+use Rattle.station.proofs.Printed.{printed, printed_none}
+use Rattle.sheettext.specs.Steps.{step_text}
+use Rattle.sheettext.specs.declared.Stop.TheVariants.{Refused, Wrong, Unread}
+use Rattle.sheettext.proofs.Stepping.{stopped_so}
 use Rattle.sheettext.proofs.step_text.Goals as goal
 
-pub returns-in-Sum : goal.returns-in-Sum
-returns-in-Sum c = text_sum _ c.in-Sum.is c.write_sheet.ensures
+pub returns-in-Ok : goal.returns-in-Ok
+unfolding step_text
+returns-in-Ok c = rw c.in-Ok.is c.write_sheet.ensures
 
-pub returns-in-Refused : goal.returns-in-Refused
-returns-in-Refused c = let e = c.write_refused.ensures in text_refused _ _ c.in-Refused.is (printed _ _ _ _ e.0 e.2)
+pub returns-in-Err-Refused : goal.returns-in-Err-Refused
+unfolding step_text
+returns-in-Err-Refused c = rw (stopped_so c.in-Err-Refused.is (Refused c.in-Err-Refused.refusal) (rw c.in-Err-Refused.is at c.in-Err-Refused.field-0-is)) c.write_refusal.ensures
 
-pub returns-in-Wrong : goal.returns-in-Wrong
-unfolding bytes
-returns-in-Wrong c = text_wrong _ c.in-Wrong.is (put_printed c.write_part.ensures.put_at)
+pub returns-in-Err-Wrong : goal.returns-in-Err-Wrong
+unfolding step_text bytes
+returns-in-Err-Wrong c =
+    let h = adds_all c.new-text.ensures c.push_part.ensures.text in
+    rw (stopped_so c.in-Err-Wrong.is (Wrong c.in-Err-Wrong.line) (rw c.in-Err-Wrong.is at c.in-Err-Wrong.field-0-is)) (printed _ _ _ _ h.0 (search rules))
 
-pub returns-in-Unread : goal.returns-in-Unread
-returns-in-Unread c = text_unread _ c.in-Unread.is
+pub returns-in-Err-Unread : goal.returns-in-Err-Unread
+unfolding step_text
+returns-in-Err-Unread c = rw (stopped_so c.in-Err-Unread.is Unread (rw c.in-Err-Unread.is at c.in-Err-Unread.field-0-is)) (printed_none _)

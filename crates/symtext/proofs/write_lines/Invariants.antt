@@ -1,11 +1,7 @@
 -- `write_lines` meets its contract: the lines of the rows that are left are still to be put. Assumes nothing.
-use Prim.Native.Nat.{◌-◌}
 use Rattle.requests.specs.Symbols.{rows}
 use Rattle.symtext.proofs.Lines.{Written}
 use Rattle.symtext.proofs.write_lines.Given as goal
 
 abbrev pub invariant-loop-k : goal.invariant-loop-k
 invariant-loop-k l = Written l.source (rows l.starts l.lengths l.addresses l.lines) l.count l.initial.out l.k l.at l.out
-
-abbrev pub decreases-loop-k : goal.decreases-loop-k
-decreases-loop-k l = l.count - l.k

@@ -1,16 +1,17 @@
 -- `write_symbols` meets its contract: the rows of the call are written as lines, or its refusal. Assumes nothing.
 use native.Mathlib.Omega.{arith}
-use Rattle.station.proofs.Printed.{printed}
+use lib.ListN.{replicate}
+use Rattle.requests.specs.Symbols.{rows}
 use Rattle.symtext.proofs.Told.{rows_fit, rows_text_lem, refusal_text}
 use Rattle.symtext.proofs.write_symbols.Goals as goal
 
 pub write_lines-requires : goal.write_lines-requires
-write_lines-requires c = rows_fit c.list_symbols.ensures _ c.in-Accepted.is
+write_lines-requires c = rows_fit _ _ _ c.in-Ok.ensures.answer c.list_symbols.ensures.rows
 
-pub returns-in-Accepted : goal.returns-in-Accepted
-returns-in-Accepted c = rw (← (rows_text_lem c.list_symbols.ensures _ c.in-Accepted.is)) c.write_lines.ensures
+pub returns-in-Ok : goal.returns-in-Ok
+returns-in-Ok c = rw (← (rows_text_lem _ _ _ c.in-Ok.ensures.answer c.list_symbols.ensures.rows)) c.write_lines.ensures
 
-pub returns-in-Refused : goal.returns-in-Refused
-returns-in-Refused c =
-    rw (← (refusal_text c.list_symbols.ensures _ _ c.in-Refused.is (omega arith) (omega arith) (omega arith) (omega arith)))
-    (printed _ _ _ _ c.write_refused.ensures.0 c.write_refused.ensures.2)
+pub returns-in-Err : goal.returns-in-Err
+returns-in-Err c =
+    let zeros = rows (replicate 256 0) (replicate 256 0) (replicate 256 0) (replicate 256 0) in
+    rw (← (refusal_text _ _ zeros c.in-Err.ensures.answer (omega arith) (omega arith) (omega arith) (omega arith))) c.write_refusal.ensures

@@ -1,7 +1,6 @@
 -- `refusal_text` meets its contract: an input not read to its end, over the limit, and one that is all there. Assumes nothing.
 use native.Mathlib.Omega.{arith}
 use Rattle.station.proofs.ScriptInput.{script_failed, script_long, script_read}
-use Rattle.station.proofs.Printed.{printed}
 use Rattle.tidytext.proofs.Told.{refusal_long}
 use Rattle.tidytext.proofs.refusal_text.Goals as goal
 
@@ -12,10 +11,10 @@ returns-then-input c =
 
 pub returns-then-total-gt-MAX_SOURCE : goal.returns-then-total-gt-MAX_SOURCE
 returns-then-total-gt-MAX_SOURCE c =
-    let both = script_long _ refusal_long _ _ c.if-input.false c.if-total-gt-MAX_SOURCE.true (printed _ _ _ _ c.write_refused.ensures.0 c.write_refused.ensures.2) in
+    let both = script_long _ refusal_long _ _ c.if-input.false c.if-total-gt-MAX_SOURCE.true c.write_refusal.ensures in
     record { printed = both.0; script_value = both.1 }
 
 pub returns : goal.returns
 returns c =
-    let both = script_read _ refusal_long _ _ c.if-input.false c.if-total-gt-MAX_SOURCE.false (omega arith) c.write_refusal.ensures in
+    let both = script_read _ refusal_long _ _ c.if-input.false c.if-total-gt-MAX_SOURCE.false (omega arith) c.write_checked.ensures in
     record { printed = both.0; script_value = both.1 }

@@ -1,14 +1,10 @@
--- `write_counted` goes by the answer: the rows of the verdicts in the slice, or its refusal. Assumes nothing.
+-- `write_counted` writes the rows of the verdicts. Assumes nothing.
+use Rattle.std.proofs.Common.{rules}
+use Rattle.listing.proofs.Adding.{adds_all}
 use Rattle.station.proofs.Printed.{printed}
 use Rattle.whytext.proofs.write_counted.Goals as goal
 
-pub write_rows-requires : goal.write_rows-requires
-write_rows-requires c = c.requires.fits _ c.in-Accepted.is
-
-pub returns-in-Accepted : goal.returns-in-Accepted
-returns-in-Accepted c = rw c.in-Accepted.is c.write_rows.ensures
-
-pub returns-in-Refused : goal.returns-in-Refused
-returns-in-Refused c =
-    let line = c.write_refused.ensures in
-    rw c.in-Refused.is (printed _ _ _ _ line.0 line.2)
+pub returns-in-Ok : goal.returns-in-Ok
+returns-in-Ok c =
+    let h = adds_all c.new-text.ensures c.push_rows.ensures in
+    rw c.in-Ok.is (printed _ _ _ _ h.0 (search rules))

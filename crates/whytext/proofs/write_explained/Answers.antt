@@ -1,14 +1,10 @@
--- `write_explained` goes by the answer. Assumes nothing.
+-- `write_explained` writes the verdict's line. Assumes nothing.
+use Rattle.std.proofs.Common.{rules}
+use Rattle.listing.proofs.Adding.{adds_all}
 use Rattle.station.proofs.Printed.{printed}
-use Rattle.station.proofs.Written.{written_first, written_all}
 use Rattle.whytext.proofs.write_explained.Goals as goal
 
-pub returns-in-Line : goal.returns-in-Line
-returns-in-Line c =
-    let line = c.write_verdict.ensures in
-    rw (c.in-Line.is, ← c.verdict_number.ensures) (written_all (written_first _ _ _ _ line.0 line.1))
-
-pub returns-in-Refused : goal.returns-in-Refused
-returns-in-Refused c =
-    let line = c.write_refused.ensures in
-    rw c.in-Refused.is (printed _ _ _ _ line.0 line.2)
+pub returns-in-Ok : goal.returns-in-Ok
+returns-in-Ok c =
+    let h = adds_all c.new-text.ensures c.push_verdict.ensures in
+    rw c.in-Ok.is (printed _ _ _ _ h.0 (search rules))

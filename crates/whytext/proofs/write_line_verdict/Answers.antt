@@ -5,4 +5,4 @@ use Rattle.whytext.proofs.write_line_verdict.Goals as goal
 
 pub returns : goal.returns
 unfolding line_text
-returns c = rw (← (explained_text_lem _ c.explain_line-explained.ensures)) c.write_explained.ensures
+returns c = rw (← (explained_text_lem _)) (rw c.explain_line.ensures at c.write_explained.ensures)

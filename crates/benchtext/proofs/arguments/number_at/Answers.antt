@@ -1,16 +1,14 @@
 -- `arguments::number_at` meets its contract. Assumes nothing.
-use borrow.Author.Tests.{eq-eqb, ne_eqb}
+use mathlib.Core.Path.{sym, ◌∙◌, ap}
+use Rattle.std.specs.Result.{result_ok}
 use Rattle.benchtext.specs.Arguments.{number_at}
+use Rattle.benchtext.proofs.Numbers.{ok_value}
 use Rattle.benchtext.proofs.arguments.number_at.Goals as goal
 
-pub returns-then-place-eq2 : goal.returns-then-place-eq2
+pub returns-then-is_decimal : goal.returns-then-is_decimal
 unfolding number_at
-returns-then-place-eq2 c = rw (eq-eqb _ _ c.if-place-eq2.true) c.read_digits.ensures
+returns-then-is_decimal c = rw (sym c.is_decimal.ensures ∙ c.if-is_decimal.true) (c.ok.ensures.value ∙ ap result_ok c.read_digits.ensures ∙ ok_value _)
 
-pub returns-then-place-eq3 : goal.returns-then-place-eq3
+pub returns-else-is_decimal : goal.returns-else-is_decimal
 unfolding number_at
-returns-then-place-eq3 c = rw (ne_eqb _ _ c.if-place-eq2.false, eq-eqb _ _ c.if-place-eq3.true) c.read_digits-then-place-eq3.ensures
-
-pub returns : goal.returns
-unfolding number_at
-returns c = rw (ne_eqb _ _ c.if-place-eq2.false, ne_eqb _ _ c.if-place-eq3.false) c.hexadecimal.ensures
+returns-else-is_decimal c = rw (sym c.is_decimal.ensures ∙ c.if-is_decimal.false) (c.ok-else-is_decimal.ensures.value ∙ ap result_ok c.hexadecimal.ensures ∙ ok_value _)

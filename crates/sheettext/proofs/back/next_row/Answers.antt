@@ -1,12 +1,9 @@
 -- `next_row` goes on at byte 10. Assumes nothing.
-use Rattle.sheettext.proofs.ReadBack.{row_same, row_last, row_next}
+use Rattle.sheettext.proofs.ReadBack.{row_same, row_next}
 use Rattle.sheettext.proofs.back.next_row.Goals as goal
 
 pub returns-then-byte-ne10 : goal.returns-then-byte-ne10
 returns-then-byte-ne10 c = row_same _ _ c.if-byte-ne10.true
 
-pub returns-then-row-ge12 : goal.returns-then-row-ge12
-returns-then-row-ge12 c = row_last _ _ c.if-byte-ne10.false c.if-row-ge12.true
-
 pub returns : goal.returns
-returns c = row_next _ _ c.if-byte-ne10.false c.if-row-ge12.false
+returns c = row_next _ _ c.if-byte-ne10.false c.min.ensures

@@ -18,11 +18,8 @@ offset_bounds-numbers-row-in-loop-i c = record { fits = omega (arith, c.loop-i.i
 pub bounds-numbers-row-in-loop-i : goal.bounds-numbers-row-in-loop-i
 bounds-numbers-row-in-loop-i c = omega (arith, c.loop-i.invariant.low)
 
-pub loop-i-smaller : goal.loop-i-smaller
-loop-i-smaller c = omega (arith, c.loop-i-test.true)
-
 pub loop-i-preserved : goal.loop-i-preserved
-loop-i-preserved c = rowed_more c.loop-i.invariant c.loop-i-test.true c.with_byte.ensures c.next_row-row.ensures
+loop-i-preserved c = rowed_more c.loop-i.invariant (omega arith) c.with_byte.ensures c.next_row-row.ensures
 
 pub returns : goal.returns
-returns c = rowed_end c.loop-i.invariant c.loop-i-test.false
+returns c = rowed_end c.loop-i.invariant (omega arith)

@@ -1,11 +1,6 @@
 -- `read_rows` has before each byte the numbers so far. Assumes nothing.
-use Prim.Native.Nat.{◌-◌}
-use lib.ListN.{length}
 use Rattle.sheettext.proofs.ReadBack.{Rowed}
 use Rattle.sheettext.proofs.back.read_rows.Given as goal
 
 abbrev pub invariant-loop-i : goal.invariant-loop-i
 invariant-loop-i l = Rowed l.t l.initial.numbers l.row l.i l.numbers
-
-abbrev pub decreases-loop-i : goal.decreases-loop-i
-decreases-loop-i l = length l.t - l.i

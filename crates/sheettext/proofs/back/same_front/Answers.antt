@@ -7,16 +7,13 @@ pub loop-i-init : goal.loop-i-init
 loop-i-init c = fronted_start _ _
 
 pub returns-then-t-i : goal.returns-then-t-i
-returns-then-t-i c = fronted_short c.loop-i.invariant c.loop-i-test.true c.if-t-i.true
+returns-then-t-i c = fronted_short c.loop-i.invariant (omega arith) c.if-t-i.true
 
 pub returns-then-s-i : goal.returns-then-s-i
-returns-then-s-i c = fronted_differ c.loop-i.invariant c.loop-i-test.true c.if-t-i.false c.if-s-i.true
-
-pub loop-i-smaller : goal.loop-i-smaller
-loop-i-smaller c = omega (arith, c.loop-i-test.true)
+returns-then-s-i c = fronted_differ c.loop-i.invariant (omega arith) c.if-t-i.false c.if-s-i.true
 
 pub loop-i-preserved : goal.loop-i-preserved
-loop-i-preserved c = fronted_more c.loop-i.invariant c.loop-i-test.true c.if-t-i.false c.if-s-i.false
+loop-i-preserved c = fronted_more c.loop-i.invariant (omega arith) c.if-t-i.false c.if-s-i.false
 
 pub returns : goal.returns
-returns c = fronted_all c.loop-i.invariant c.loop-i-test.false
+returns c = fronted_all c.loop-i.invariant (omega arith)

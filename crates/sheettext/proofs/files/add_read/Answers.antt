@@ -7,7 +7,7 @@ returns-then-sheet c =
     let both = owed_sheet _ _ _ c.if-sheet.true (c.add_sheet_text.ensures.result_value, c.add_sheet_text.ensures.script_value) in
     record { result_value = both.0; result_value_2 = both.1 }
 
-pub returns : goal.returns
-returns c =
+pub returns-else-sheet : goal.returns-else-sheet
+returns-else-sheet c =
     let both = owed_script _ _ _ c.if-sheet.false (c.add_script.ensures.result_value, c.add_script.ensures.script_value) in
     record { result_value = both.0; result_value_2 = both.1 }

@@ -1,0 +1,9 @@
+-- Row after row is written. Assumes nothing.
+use Rattle.rules.specs.Text.{bytes}
+use Rattle.listing.proofs.Adding.{adds_both}
+use Rattle.sheettext.specs.Rows.{plain_text}
+use Rattle.sheettext.proofs.rows.push_plain.Goals as goal
+
+pub returns-clause-text : goal.returns-clause-text
+unfolding plain_text bytes
+returns-clause-text c = adds_both (adds_both (adds_both c.push_part.ensures.text c.push_part-2.ensures.text) c.push_part-3.ensures.text) c.push_part-4.ensures.text
