@@ -8,10 +8,10 @@
 // If the table or the script cannot be read to its end it prints nothing. It says that on standard error, and there too if standard
 // output does not take all that it prints, or if it is given other arguments.
 use branchtext::tabled_script_text;
-use console::{ARGUMENT, CHUNK, argument, argument_count, read_chunk, read_count};
+use console::{ARGUMENT, CHUNK, argument, argument_count};
 use station::arguments::{are_none, given_table};
 use station::failure::{SAID, tabled_failure_text};
-use station::input::{after_read, keep_script, start_after};
+use station::input::read_behind;
 use station::{SCRIPT, TABLE, TEXT};
 use tablefile::read_table;
 
@@ -34,14 +34,7 @@ fn main(rt: HostRuntime) {
     let mut table = [0u8; TABLE];
     let branches = read_table(&rt, given.lent, &file[..file_size], &mut table);
     let mut script = [0u8; SCRIPT];
-    let mut stdin = rt.stdin();
-    let mut input = start_after(branches);
-    while input.more {
-        let mut chunk = [0u8; CHUNK];
-        let got = read_chunk(&mut stdin, &mut chunk);
-        keep_script(&mut script, input.total, &chunk[..read_count(got)]);
-        input = after_read(input, got);
-    }
+    let input = read_behind::<_, CHUNK>(branches, &mut rt.stdin(), &mut script);
     let mut out = [0u8; TEXT];
     let size = tabled_script_text(given.lent, &table, branches, &script, input, &mut out);
     let written = rt.stdout().write_all(&out[..size]).is_ok();

@@ -11,40 +11,31 @@
 // value from FROM to TO, with the value in front: the list's words at ADDRESS are that value then.
 // If the list cannot be read to its end it prints nothing. It says that on standard error, and there too if standard output
 // does not take all that it prints, or if its arguments are no such numbers: it reads nothing then.
-use benchtext::arguments::{is_whole, no_argument, with_argument};
+use benchtext::arguments::{Given, whole, with_argument};
 use benchtext::{row_count, row_text};
-use console::{ARGUMENT, CHUNK, argument, argument_count, read_chunk, read_count};
+use console::{ARGUMENT, CHUNK, argument, argument_count};
 use station::failure::{SAID, failure_text};
-use station::input::{after_read, keep_list, start};
+use station::input::read_whole;
 use station::{LIST, TEXT};
 
 fn main(rt: HostRuntime) {
-    let arguments = argument_count(&rt);
-    let mut given = no_argument();
-    for k in 1..arguments {
+    let mut given = Some(Given::new());
+    for k in 1..argument_count(&rt) {
         let mut text = [0u8; ARGUMENT];
         let size = argument(&rt, k, &mut text);
         given = with_argument(given, &text[..size]);
     }
-    if !is_whole(given) {
+    let Some(given) = whole(given) else {
         let _ = rt.stderr().write_all(
             b"usage: bench [-w ADDRESS FROM TO] START LIMIT [A0 [A1 ..]] < LIST, LIMIT, FROM, TO decimal, the others hexadecimal\n",
         );
         return;
-    }
+    };
     let mut list = [0u8; LIST];
-    let mut stdin = rt.stdin();
-    let mut input = start();
-    while input.more {
-        let mut chunk = [0u8; CHUNK];
-        let got = read_chunk(&mut stdin, &mut chunk);
-        keep_list(&mut list, input.total, &chunk[..read_count(got)]);
-        input = after_read(input, got);
-    }
-    let rows = row_count(&list, input, given);
+    let input = read_whole::<_, CHUNK>(&mut rt.stdin(), &mut list);
     let mut out = [0u8; TEXT];
     let mut written = true;
-    for row in 0..rows {
+    for row in 0..row_count(&list, input, given) {
         let size = row_text(&list, input, given, row, &mut out);
         if rt.stdout().write_all(&out[..size]).is_err() {
             written = false;

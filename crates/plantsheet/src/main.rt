@@ -13,15 +13,16 @@ ghost use Rattle.rules.specs.Text.{Text};
 ghost use Rattle.sheettext.specs.Steps.{Outcome, outcome};
 ghost use Rattle.sheettext.specs.Files.{FileAdded, Adding, NamesAdded};
 
-use console::{ARGUMENT, SMALL_CHUNK, argument, argument_count, read_chunk, read_count};
+use console::{ARGUMENT, SMALL_CHUNK, argument, argument_count};
 use file::read_script;
 use sheettext::arguments::{is_whole, no_argument, with_argument};
 use sheettext::files::{UNREAD, is_read, unread_text, with_file};
 use sheettext::names::{NAME, held_on, take_name};
 use sheettext::{SHEET, Step, ended, no_sources, step_text};
+use station::SCRIPT;
 use station::failure::{SAID, failure_text};
 use station::input::{Input, after_read, start};
-use station::{SCRIPT, lesser};
+use std::io::Read;
 
 // Goes on with the file whose name is in the first bytes, a sheet or a script, if it is due. One that cannot be read is said.
 fn add_file(
@@ -38,7 +39,7 @@ fn add_file(
     if !is_read(step, due) {
         return step;
     }
-    let n = lesser(size, name.len());
+    let n = size.min(name.len());
     let input = read_script(rt, &name[..n], script);
     let mut said = [0u8; UNREAD];
     let length = unread_text(&name[..n], input, &mut said);
@@ -95,8 +96,8 @@ fn add_names(rt: &HostRuntime, first: Step, script: &mut [u8; SCRIPT]) -> Named
     let mut input = start();
     while input.more {
         let mut chunk = [0u8; SMALL_CHUNK];
-        let got = read_chunk(&mut stdin, &mut chunk);
-        fed = add_chunk(rt, fed, &chunk[..read_count(got)], &mut name, script);
+        let got = stdin.read(&mut chunk).ok();
+        fed = add_chunk(rt, fed, &chunk[..got.unwrap_or(0)], &mut name, script);
         input = after_read(input, got);
     }
     let held = fed.held;

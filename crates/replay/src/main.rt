@@ -5,11 +5,12 @@
 // on standard output how many records agree, in how many words, and the number of the first that differs, if one does.
 // If the input cannot be read to its end it prints nothing. It says that on standard error, and there too if the last record is
 // cut off, if standard output does not take all that it prints, or if it is given an argument.
-use console::{CHUNK, argument_count, read_chunk, read_count};
+use console::{CHUNK, argument_count};
 use recorded::{COUNTS, RECORD, is_cut_off, replay_chunk, replay_text};
 use station::arguments::are_none;
 use station::failure::{SAID, failure_text};
 use station::input::{after_read, start};
+use std::io::Read;
 
 fn main(rt: HostRuntime) {
     if !are_none(argument_count(&rt)) {
@@ -22,8 +23,8 @@ fn main(rt: HostRuntime) {
     let mut input = start();
     while input.more {
         let mut chunk = [0u8; CHUNK];
-        let got = read_chunk(&mut stdin, &mut chunk);
-        tally = replay_chunk(tally, &chunk[..read_count(got)], &mut bytes);
+        let got = stdin.read(&mut chunk).ok();
+        tally = replay_chunk(tally, &chunk[..got.unwrap_or(0)], &mut bytes);
         input = after_read(input, got);
     }
     let mut out = [0u8; COUNTS];

@@ -8,10 +8,10 @@
 // A script over the limit of 32,768 bytes is read to its end for its length, the place of refusal 1.
 // If the script cannot be read to its end it prints nothing. It says that on standard error, and there too if standard output
 // does not take all that it prints, or if it is given an argument.
-use console::{CHUNK, argument_count, read_chunk, read_count};
+use console::{CHUNK, argument_count};
 use station::arguments::are_none;
 use station::failure::{SAID, failure_text};
-use station::input::{after_read, keep_script, start};
+use station::input::read_whole;
 use station::{SCRIPT, TEXT};
 use symtext::symbols_text;
 
@@ -21,14 +21,7 @@ fn main(rt: HostRuntime) {
         return;
     }
     let mut script = [0u8; SCRIPT];
-    let mut stdin = rt.stdin();
-    let mut input = start();
-    while input.more {
-        let mut chunk = [0u8; CHUNK];
-        let got = read_chunk(&mut stdin, &mut chunk);
-        keep_script(&mut script, input.total, &chunk[..read_count(got)]);
-        input = after_read(input, got);
-    }
+    let input = read_whole::<_, CHUNK>(&mut rt.stdin(), &mut script);
     let mut out = [0u8; TEXT];
     let size = symbols_text(&script, input, &mut out);
     let written = rt.stdout().write_all(&out[..size]).is_ok();

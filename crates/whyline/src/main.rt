@@ -11,13 +11,13 @@
 // If the table or the script cannot be read to its end it prints nothing. It says that on standard error, and there too if standard
 // output does not take all that it prints, or if its arguments are no such numbers or more than two: it reads nothing then.
 use branchtext::tabled_why_text;
-use console::{ARGUMENT, CHUNK, argument, argument_count, read_chunk, read_count};
+use console::{ARGUMENT, CHUNK, argument, argument_count};
 use station::arguments::given_table;
 use station::failure::{SAID, tabled_failure_text};
-use station::input::{after_read, keep_script, start_after};
+use station::input::read_behind;
 use station::{SCRIPT, TABLE, TEXT};
 use tablefile::read_table;
-use whytext::{Asked, asked_by};
+use whytext::asked_by;
 
 fn main(rt: HostRuntime) {
     let mut option = [0u8; ARGUMENT];
@@ -33,8 +33,7 @@ fn main(rt: HostRuntime) {
     let mut base = [0u8; ARGUMENT];
     let line_size = argument(&rt, given.first, &mut line);
     let base_size = argument(&rt, given.second, &mut base);
-    let asked = asked_by(given.count, &line[..line_size], &base[..base_size]);
-    let Asked::About(lines) = asked else {
+    let Ok(asked) = asked_by(given.count, &line[..line_size], &base[..base_size]) else {
         let _ = rt.stderr().write_all(
             b"usage: whyline [-b FILE] [LINE [BASE]] < SCRIPT, LINE decimal, BASE hexadecimal\n",
         );
@@ -44,16 +43,9 @@ fn main(rt: HostRuntime) {
     let mut table = [0u8; TABLE];
     let branches = read_table(&rt, lent, &file[..file_size], &mut table);
     let mut script = [0u8; SCRIPT];
-    let mut stdin = rt.stdin();
-    let mut input = start_after(branches);
-    while input.more {
-        let mut chunk = [0u8; CHUNK];
-        let got = read_chunk(&mut stdin, &mut chunk);
-        keep_script(&mut script, input.total, &chunk[..read_count(got)]);
-        input = after_read(input, got);
-    }
+    let input = read_behind::<_, CHUNK>(branches, &mut rt.stdin(), &mut script);
     let mut out = [0u8; TEXT];
-    let size = tabled_why_text(lent, &table, branches, &script, input, lines, &mut out);
+    let size = tabled_why_text(lent, &table, branches, &script, input, asked, &mut out);
     let written = rt.stdout().write_all(&out[..size]).is_ok();
     let mut said = [0u8; SAID];
     let length = tabled_failure_text(b"whyline", branches, input, written, &mut said);
