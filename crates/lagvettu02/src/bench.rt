@@ -1,10 +1,9 @@
-// The bench from C (W-213).
+//! The bench from C.
 ghost use Rattle.std.specs.Prelude.{◌≡◌, cond, ◌≤◌};
 ghost use Rattle.machine.specs.Bench.{bench_of};
 ghost use Rattle.lagvettu02.specs.Bench.{end_number, flags_number, Benches};
 
 use machine::{End, Flags, MEMORY};
-use stepper::Benched;
 
 // In the place of an end where there is none.
 const NO_END: u8 = 255;
@@ -25,10 +24,7 @@ fn end_number(end: End) -> u8
 fn bit(set: bool, value: u8) -> u8
     ensures { (result ≡ cond set value 0) × (result ≤ value) }
 {
-    if set {
-        return value;
-    }
-    0
+    if set { value } else { 0 }
 }
 
 // The flags as the manual's condition code register has them.
@@ -38,8 +34,8 @@ fn flags_number(f: Flags) -> u8
     bit(f.x, 16) + bit(f.n, 8) + bit(f.z, 4) + bit(f.v, 2) + bit(f.c, 1)
 }
 
-// Runs the first `count` words of a list from `start`, with the address registers `a`, for at most `limit` steps: why it ended, the
-// steps made, program counter and flags, data registers and memory; or refuses, and leaves registers and memory as they were.
+/// Runs the first `count` words of a list from `start`, with the address registers `a`, for at most `limit` steps: why it ended, the
+/// steps made, program counter and flags, data registers and memory; or refuses, and leaves registers and memory as they were.
 #[unsafe(no_mangle)]
 pub extern "C" fn lagvettu_run(
     addresses: &[u32],
@@ -59,24 +55,21 @@ pub extern "C" fn lagvettu_run(
     ensures { Benches (bench_of count addresses.now words.now a.now start limit) result end.new steps.new pc.new flags.new place.new d.old memory.old d.new memory.new }
 {
     match stepper::bench(addresses, words, count, d, a, memory, start, limit) {
-        Benched::Made(ran) => {
-            let why = ran.end;
-            let status = ran.status;
-            let marks = status.flags;
-            *end = end_number(why);
+        Ok(ran) => {
+            *end = end_number(ran.end);
             *steps = ran.steps;
-            *pc = status.pc;
-            *flags = flags_number(marks);
+            *pc = ran.status.pc;
+            *flags = flags_number(ran.status.flags);
             *place = 0;
             0
         }
-        Benched::Refused(n, p) => {
+        Err(refusal) => {
             *end = NO_END;
             *steps = 0;
             *pc = 0;
             *flags = 0;
-            *place = p;
-            n
+            *place = refusal.place();
+            refusal.number()
         }
     }
 }

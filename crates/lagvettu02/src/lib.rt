@@ -1,24 +1,25 @@
 #![tactic(auto)]
 
-// The C interface of paper 02's calls, an archive of its own: so no second caller takes from 01's calls what the compiler inlines
-// there. An answer is as in 01's interface; include/lagvettu.h declares both.
+//! The C interface of the calls that ask about a source, an archive of its own: so no second caller takes from the assembler's
+//! calls what the compiler inlines there. An answer is as in `lagvettu`'s interface; include/lagvettu.h declares both. The
+//! numbers that C lends stand for an answer's parts, and the four slices of the symbols for their rows.
 pub mod bench;
 
-ghost use Rattle.std.specs.Prelude.{◌≡◌};
+ghost use Rattle.std.specs.Prelude.{◌≡◌, length};
 ghost use Rattle.rules.specs.Directive.{line_reading};
 ghost use Rattle.requests.specs.Nearest.{nearest};
-ghost use Rattle.requests.specs.Symbols.{rows};
+ghost use Rattle.requests.specs.Symbols.{rows, symbols_answer, symbols_rows};
 ghost use Rattle.requests.specs.Explain.{explain};
+ghost use Rattle.requests.specs.Tidy.{tidy_answer, tidy_slice};
+ghost use Rattle.answer.specs.Told.{told_number, told_place};
+ghost use Rattle.directive.specs.Directive.{line_number_of};
 ghost use Rattle.explain.specs.Called.{Explains};
-ghost use Rattle.lagvettu02.specs.Called.{Nears, Lists, failure_number, SaysNumber, Tidies};
+ghost use Rattle.lagvettu02.specs.Called.{Nears, failure_number, said_number, said_value};
 
-use directive::LineNumber;
-use explain::Explained;
-use nearest::Nearest;
 use numeral::Failure;
 
-// Names the label that an address is near, in a source at a base: its start and length in the source, where it was recorded
-// last, and the distance from it; or refuses. The numbers that an answer does not have are 0.
+/// Names the label that an address is near, in a source at a base: its start and length in the source, where it was recorded
+/// last, and the distance from it; or refuses. The numbers that an answer does not have are 0.
 #[unsafe(no_mangle)]
 pub extern "C" fn lagvettu_nearest(
     source: &[u8],
@@ -32,25 +33,25 @@ pub extern "C" fn lagvettu_nearest(
     ensures { Nears (nearest base source.now address) result start.new length.new distance.new place.new }
 {
     match nearest::nearest_label(source, base, address) {
-        Nearest::Label(s, l, d) => {
-            *start = s;
-            *length = l;
-            *distance = d;
+        Ok(label) => {
+            *start = label.start;
+            *length = label.length;
+            *distance = label.distance;
             *place = 0;
             0
         }
-        Nearest::Refused(n, p) => {
+        Err(refusal) => {
             *start = 0;
             *length = 0;
             *distance = 0;
-            *place = p;
-            n
+            *place = refusal.place();
+            refusal.number()
         }
     }
 }
 
-// Lists the labels of a source at a base in the first places of the four slices, in the order of their lines: each one's start
-// and length in the source, its address and its line; or refuses, with nothing written.
+/// Lists the labels of a source at a base in the first places of the four slices, in the order of their lines: each one's start
+/// and length in the source, its address and its line; or refuses, with nothing written.
 #[unsafe(no_mangle)]
 pub extern "C" fn lagvettu_symbols(
     source: &[u8],
@@ -61,11 +62,12 @@ pub extern "C" fn lagvettu_symbols(
     lines: &mut [u32],
     place: &mut usize,
 ) -> u8
-    ensures { Lists base source.now (rows starts.old lengths.old addresses.old lines.old) result place.new (rows starts.new lengths.new addresses.new lines.new) }
+    ensures number { result ≡ told_number (symbols_answer base source.now (rows starts.old lengths.old addresses.old lines.old)) }
+    ensures place { place.new ≡ told_place (symbols_answer base source.now (rows starts.old lengths.old addresses.old lines.old)) }
+    ensures rows { rows starts.new lengths.new addresses.new lines.new ≡ symbols_rows base source.now (rows starts.old lengths.old addresses.old lines.old) }
 {
     let answer = symbols::list_symbols(source, base, starts, lengths, addresses, lines);
-    *place = answer::place(answer);
-    answer::number(answer)
+    answer::tell(answer, place)
 }
 
 // The number for what failed.
@@ -79,29 +81,30 @@ fn failure_number(failure: Failure) -> u8
     }
 }
 
-// What the number of a line said: it was read, and its value; or what failed; or that the line reads none. Where it was not read,
-// the value is 0.
+/// What the number of a line said: it was read, and its value; or what failed; or that the line reads none. Where it was not read,
+/// the value is 0.
 #[unsafe(no_mangle)]
 pub extern "C" fn lagvettu_line_number(line: &[u8], value: &mut u32) -> u8
-    ensures { SaysNumber (line_reading line.now) result value.new }
+    ensures number { result ≡ said_number (line_number_of (line_reading line.now)) }
+    ensures value { value.new ≡ said_value (line_number_of (line_reading line.now)) }
 {
     match directive::line_number(line) {
-        LineNumber::Value(v) => {
-            *value = v;
+        Some(Ok(number)) => {
+            *value = number;
             0
         }
-        LineNumber::Failed(f) => {
+        Some(Err(failure)) => {
             *value = 0;
-            failure_number(f)
+            failure_number(failure)
         }
-        LineNumber::Nothing => {
+        None => {
             *value = 0;
             4
         }
     }
 }
 
-// Why a line, from 1, of a source at a base has no word: its verdict's number, or a refusal.
+/// Why a line, from 1, of a source at a base has no word: its verdict's number, or a refusal.
 #[unsafe(no_mangle)]
 pub extern "C" fn lagvettu_explain(
     source: &[u8],
@@ -113,25 +116,26 @@ pub extern "C" fn lagvettu_explain(
     ensures { Explains (explain base source.now line) result verdict.new place.new }
 {
     match explain::explain_line(source, base, line) {
-        Explained::Line(v) => {
-            *verdict = explain::verdict_number(v);
+        Ok(found) => {
+            *verdict = explain::verdict_number(found);
             *place = 0;
             0
         }
-        Explained::Refused(n, p) => {
+        Err(refusal) => {
             *verdict = explain::NO_VERDICT;
-            *place = p;
-            n
+            *place = refusal.place();
+            refusal.number()
         }
     }
 }
 
-// Puts the tidy copy of a source at the front of `out`, its length in the number lent; or refuses, with nothing written.
+/// Puts the tidy copy of a source at the front of `out`, its length in the number lent; or refuses, with nothing written.
 #[unsafe(no_mangle)]
 pub extern "C" fn lagvettu_tidy(source: &[u8], out: &mut [u8], place: &mut usize) -> u8
-    ensures { Tidies source.now out.old result place.new out.new }
+    ensures number { result ≡ told_number (tidy_answer (length out.old) source.now) }
+    ensures place { place.new ≡ told_place (tidy_answer (length out.old) source.now) }
+    ensures slice { out.new ≡ tidy_slice source.now out.old }
 {
     let answer = tidied::tidy_copy(source, out);
-    *place = answer::place(answer);
-    answer::number(answer)
+    answer::tell(answer, place)
 }

@@ -1,16 +1,15 @@
 #![tactic(auto)]
 
-// The C interface of the calls under a branch table, W-210: 01's assembling call and W-205's, in an archive of their own: so no second
-// caller takes from the calls without one what the compiler inlines there. include/lagvettu.h declares them.
+//! The C interface of the calls under a branch table, in an archive of its own: so no second caller takes from the calls without one
+//! what the compiler inlines there. An answer is as in `lagvettu`; include/lagvettu.h declares them.
+ghost use Rattle.std.specs.Prelude.{◌≡◌};
 ghost use Rattle.rules.specs.Assemble.{slices};
-ghost use Rattle.requests.specs.Branches.{explain_under};
+ghost use Rattle.requests.specs.Branches.{assemble_under_answer, assemble_under_slices, explain_under};
+ghost use Rattle.answer.specs.Told.{told_number, told_place};
 ghost use Rattle.explain.specs.Called.{Explains};
-ghost use Rattle.lagvettu_branches.specs.Called.{AssemblesUnder};
 
-use explain::Explained;
-
-// Assembles a source at a base under a branch table, which is refused before all else: the list in the first places of the three
-// slices, or a refusal and nothing written.
+/// Assembles a source at a base under a branch table, which is refused before all else: the list in the first places of the three
+/// slices, or refused and nothing written.
 #[unsafe(no_mangle)]
 pub extern "C" fn lagvettu_assemble_branches(
     names: &[u8],
@@ -21,15 +20,17 @@ pub extern "C" fn lagvettu_assemble_branches(
     marks: &mut [u8],
     place: &mut usize,
 ) -> u8
-    ensures { AssemblesUnder names.now base source.now (slices addresses.old words.old marks.old) result place.new (slices addresses.new words.new marks.new) }
+    ensures number { result ≡ told_number (assemble_under_answer names.now base source.now (slices addresses.old words.old marks.old)) }
+    ensures place { place.new ≡ told_place (assemble_under_answer names.now base source.now (slices addresses.old words.old marks.old)) }
+    ensures slices { slices addresses.new words.new marks.new ≡ assemble_under_slices names.now base source.now (slices addresses.old words.old marks.old) }
 {
     let answer = assemble::assemble_branches(names, source, base, addresses, words, marks);
-    *place = answer::place(answer);
-    answer::number(answer)
+    answer::tell(answer, place)
 }
 
-// Says why a line has no word under a branch table, which is refused before all else.
+/// Says why a line has no word under a branch table, which is refused before all else.
 #[unsafe(no_mangle)]
+#[tactic(auto, using(explain::proofs::Called::explains_line, explain::proofs::Called::explains_not))]
 pub extern "C" fn lagvettu_explain_branches(
     names: &[u8],
     source: &[u8],
@@ -41,15 +42,15 @@ pub extern "C" fn lagvettu_explain_branches(
     ensures { Explains (explain_under names.now base source.now line) result verdict.new place.new }
 {
     match explain::explain_branches(names, source, base, line) {
-        Explained::Line(v) => {
-            *verdict = explain::verdict_number(v);
+        Ok(told) => {
+            *verdict = explain::verdict_number(told);
             *place = 0;
             0
         }
-        Explained::Refused(n, p) => {
+        Err(refusal) => {
             *verdict = explain::NO_VERDICT;
-            *place = p;
-            n
+            *place = refusal.place();
+            refusal.number()
         }
     }
 }

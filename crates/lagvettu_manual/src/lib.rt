@@ -1,12 +1,14 @@
 #![tactic(auto)]
 
-// The C interface of W-207's call, the manual's own words, in an archive of its own: so no second caller of what it stands on
-// takes from the other calls what the compiler inlines there. An answer is as in 01's interface; include/lagvettu.h declares it.
+//! The C interface of the manual's own words, in an archive of its own: so no second caller of what it stands on takes from the other
+//! calls what the compiler inlines there. An answer is as in `lagvettu`; include/lagvettu.h declares it.
+ghost use Rattle.std.specs.Prelude.{◌≡◌};
 ghost use Rattle.rules.specs.Assemble.{slices};
-ghost use Rattle.lagvettu_manual.specs.Called.{AssemblesManual};
+ghost use Rattle.requests.specs.ManualAssemble.{manual_answer, manual_slices};
+ghost use Rattle.answer.specs.Told.{told_number, told_place};
 
-// Assembles a source at a base by the manual's own words: the list in the first places of the three slices, or a refusal and nothing
-// written.
+/// Assembles a source at a base by the manual's own words: the list in the first places of the three slices, or refused and nothing
+/// written.
 #[unsafe(no_mangle)]
 pub extern "C" fn lagvettu_assemble_manual(
     source: &[u8],
@@ -16,9 +18,10 @@ pub extern "C" fn lagvettu_assemble_manual(
     marks: &mut [u8],
     place: &mut usize,
 ) -> u8
-    ensures { AssemblesManual base source.now (slices addresses.old words.old marks.old) result place.new (slices addresses.new words.new marks.new) }
+    ensures number { result ≡ told_number (manual_answer base source.now (slices addresses.old words.old marks.old)) }
+    ensures place { place.new ≡ told_place (manual_answer base source.now (slices addresses.old words.old marks.old)) }
+    ensures slices { slices addresses.new words.new marks.new ≡ manual_slices base source.now (slices addresses.old words.old marks.old) }
 {
     let answer = assemble::assemble_manual(source, base, addresses, words, marks);
-    *place = answer::place(answer);
-    answer::number(answer)
+    answer::tell(answer, place)
 }

@@ -1,33 +1,44 @@
 #![tactic(auto)]
 
-// The C interface of W-214's calls, one sheet for a plant, in an archive of its own: so no second caller of the encoder takes from the
-// other calls what the compiler inlines there. An answer is as in 01's interface; include/lagvettu.h declares it.
+//! The C interface of W-214's calls, one sheet for a plant, in an archive of its own: so no second caller of the encoder takes from the
+//! other calls what the compiler inlines there. An answer is as in 01's interface; include/lagvettu.h declares it.
 ghost use Rattle.requests.specs.Sheet.{add_source, add_sheet};
-ghost use Rattle.sheet.specs.Totals.{lent_totals};
+ghost use Rattle.sheet.specs.Totals.{lent_totals, answered};
 ghost use Rattle.lagvettu_sheet.specs.Called.{AddsTotals};
 
-use sheet::Added;
-use sheet::lent::{put_totals, totals_of};
+use answer::Refusal;
+use sheet::Totals;
 
-// Adds a source to the twelve totals, which are lent in the order of the struct; or refuses, and no total changes.
-#[unsafe(no_mangle)]
-pub extern "C" fn lagvettu_sheet_add(source: &[u8], totals: &mut [u64; 12], place: &mut usize) -> u8
-    ensures { AddsTotals (add_source (lent_totals totals.old) source.now) totals.old result place.new totals.new }
+// Puts the totals of an answer in the place of those that were lent; or refuses, and no total changes.
+fn tell(answer: Result<Totals, Refusal>, totals: &mut [u64; 12], place: &mut usize) -> u8
+    ensures { AddsTotals (answered answer) totals.old result place.new totals.new }
 {
-    match sheet::add_source(totals_of(totals), source) {
-        Added::Sum(t) => {
-            put_totals(t, totals);
+    match answer {
+        Ok(t) => {
+            *totals = <[u64; 12]>::from(t);
             *place = 0;
             0
         }
-        Added::Refused(n, p) => {
-            *place = p;
-            n
+        Err(refusal) => {
+            *place = refusal.place();
+            refusal.number()
         }
     }
 }
 
-// Adds another sheet's totals to them; or refuses, and no total changes.
+/// Adds a source to the twelve totals, which are lent in the order of the struct; or refuses, and no total changes.
+#[unsafe(no_mangle)]
+pub extern "C" fn lagvettu_sheet_add(source: &[u8], totals: &mut [u64; 12], place: &mut usize) -> u8
+    ensures { AddsTotals (add_source (lent_totals totals.old) source.now) totals.old result place.new totals.new }
+{
+    tell(
+        sheet::add_source(Totals::from(*totals), source),
+        totals,
+        place,
+    )
+}
+
+/// Adds another sheet's totals to them; or refuses, and no total changes.
 #[unsafe(no_mangle)]
 pub extern "C" fn lagvettu_sheet_join(
     other: &[u64; 12],
@@ -36,15 +47,9 @@ pub extern "C" fn lagvettu_sheet_join(
 ) -> u8
     ensures { AddsTotals (add_sheet (lent_totals totals.old) (lent_totals other.now)) totals.old result place.new totals.new }
 {
-    match sheet::add_sheet(totals_of(totals), totals_of(other)) {
-        Added::Sum(t) => {
-            put_totals(t, totals);
-            *place = 0;
-            0
-        }
-        Added::Refused(n, p) => {
-            *place = p;
-            n
-        }
-    }
+    tell(
+        sheet::add_sheet(Totals::from(*totals), Totals::from(*other)),
+        totals,
+        place,
+    )
 }

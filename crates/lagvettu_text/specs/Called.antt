@@ -1,10 +1,9 @@
 -- What a call from C owes that prints a text or reads one: the text with or without a branch table, and what reading answers. Assumes nothing.
-use Rattle.std.specs.Prelude.{ℕ, ◌≡◌, Bool, true, false, List}
+use Rattle.std.specs.Prelude.{ℕ, ◌≡◌, Bool, true, false, List, [], Result, Ok, Err}
 use Rattle.rules.specs.Text.{Text}
-use Rattle.rules.specs.Assemble.{Slices, holding}
-use Rattle.listing.specs.Reading.{read_list, places_read, room_in}
-use Rattle.listing.specs.declared.reading.Parsed.{Parsed}
-use Rattle.listing.specs.declared.reading.Parsed.TheVariants.{Count, Bad}
+use Rattle.rules.specs.Assemble.{Place, Slices, holding}
+use Rattle.listing.specs.Reading.{read_list, places_in, room_in}
+use Rattle.listing.specs.declared.reading.BadLine.{BadLine}
 use Rattle.whytext.specs.WhyLine.{line_text, lines_text}
 use Rattle.branchtext.specs.BranchText.{line_under_text, lines_under_text}
 use Rattle.printout.specs.Printout.{printout_text, printout_under}
@@ -28,13 +27,18 @@ printout_for false t base s = printout_text base s
 printout_for true t base s = printout_under t base s
 
 -- ---- a list that is read: 0 and how many places there are, or 1 and the number of the first wrong line
-abbrev pub wrong_of : Parsed → ℕ
-wrong_of (Count n) = 0
-wrong_of (Bad n) = 1
+abbrev pub wrong_of : Result ℕ BadLine → ℕ
+wrong_of (Ok n) = 0
+wrong_of (Err e) = 1
 
-abbrev pub number_of : Parsed → ℕ
-number_of (Count n) = n
-number_of (Bad n) = n
+abbrev pub number_of : Result ℕ BadLine → ℕ
+number_of (Ok n) = n
+number_of (Err e) = e.number
+
+-- the list that a text holds by an answer; none where the text is refused
+abbrev pub places_read : Result ℕ BadLine → Text → List Place
+places_read (Ok n) t = places_in n t
+places_read (Err e) t = []
 
 -- the contract of `lagvettu_read_list`, lent the slices x, which it leaves as y
 pub record ReadsList (t : Text) (x y : Slices) (r n : ℕ) : Type 0 where

@@ -1,7 +1,7 @@
 #![tactic(auto)]
 
-// The C interface of the texts that the programs print, an archive of its own for the command `lagvettu`: so no text is made twice.
-// A text is put at the front of `out`, which has room for the longest, and its length into `size`. include/lagvettu_text.h declares it.
+//! The C interface of the texts that the programs print, an archive of its own for the command `lagvettu`: so no text is made twice.
+//! A text is put at the front of `out`, which has room for the longest, and its length into `size`. include/lagvettu_text.h declares it.
 ghost use Rattle.std.specs.Prelude.{◌≡◌, take};
 ghost use Rattle.rules.specs.Assemble.{slices};
 ghost use Rattle.rules.specs.Tally.{held};
@@ -16,18 +16,16 @@ ghost use Rattle.sheettext.specs.Rows.{sheet_text};
 ghost use Rattle.sheettext.specs.Back.{sheet_in};
 ghost use Rattle.lagvettu_text.specs.Called.{line_for, lines_for, printout_for, ReadsList, ReadsSheet};
 
-use answer::Answer;
-use listing::reading::Parsed;
 use printout::PRINTOUT;
-use sheet::lent::{put_totals, totals_of};
+use sheet::Totals;
 use sheettext::SHEET;
-use sheettext::back::{Sheet, read_sheet};
+use sheettext::back::read_sheet;
 use sheettext::rows::write_sheet;
-use station::{PLACES, SCRIPT, TEXT, lesser};
+use station::{PLACES, SCRIPT, TEXT};
 
 // ---- Lists.
 
-// Prints the list in the first `count` places.
+/// Prints the list in the first `count` places.
 #[unsafe(no_mangle)]
 pub extern "C" fn lagvettu_text_list(
     addresses: &[u32; PLACES],
@@ -39,11 +37,11 @@ pub extern "C" fn lagvettu_text_list(
 )
     ensures { Printed (list_text (held count (slices addresses.now words.now marks.now))) size.new out.old out.new }
 {
-    *size = station::write_answer(Answer::Accepted(count), addresses, words, marks, out);
+    *size = station::write_answer(Ok(count), addresses, words, marks, out);
 }
 
-// Reads a list's text into the first places: 0, and how many there are; or 1, the number of the first line that is none, and nothing
-// written.
+/// Reads a list's text into the first places: 0, and how many there are; or 1, the number of the first line that is none, and nothing
+/// written.
 #[unsafe(no_mangle)]
 pub extern "C" fn lagvettu_read_list(
     text: &[u8],
@@ -55,12 +53,12 @@ pub extern "C" fn lagvettu_read_list(
     ensures { ReadsList text.now (slices addresses.old words.old marks.old) (slices addresses.new words.new marks.new) result count.new }
 {
     match listing::reading::read_list(text, addresses, words, marks) {
-        Parsed::Count(n) => {
+        Ok(n) => {
             *count = n;
             0
         }
-        Parsed::Bad(n) => {
-            *count = n;
+        Err(line) => {
+            *count = line.number;
             1
         }
     }
@@ -68,7 +66,7 @@ pub extern "C" fn lagvettu_read_list(
 
 // ---- Labels.
 
-// Prints the labels of a source at a base with their addresses and lines, or the line of a refusal.
+/// Prints the labels of a source at a base with their addresses and lines, or the line of a refusal.
 #[unsafe(no_mangle)]
 pub extern "C" fn lagvettu_text_symbols(
     source: &[u8],
@@ -81,7 +79,7 @@ pub extern "C" fn lagvettu_text_symbols(
     *size = symtext::write_symbols(source, base, out);
 }
 
-// Prints the label that an address is near, in a source at a base, and the distance from it, or the line of a refusal.
+/// Prints the label that an address is near, in a source at a base, and the distance from it, or the line of a refusal.
 #[unsafe(no_mangle)]
 pub extern "C" fn lagvettu_text_nearest(
     source: &[u8],
@@ -97,7 +95,7 @@ pub extern "C" fn lagvettu_text_nearest(
 
 // ---- Lines, under the branch table `names` where `lent` says so, which is refused before all else; else `names` is not read.
 
-// Prints the verdict on a line, from 1, of a source at a base, or the line of a refusal.
+/// Prints the verdict on a line, from 1, of a source at a base, or the line of a refusal.
 #[unsafe(no_mangle)]
 pub extern "C" fn lagvettu_text_why(
     lent: bool,
@@ -117,7 +115,7 @@ pub extern "C" fn lagvettu_text_why(
     *size = whytext::write_line_verdict(source, base, line, out);
 }
 
-// Prints the verdict on every line that is read, or the line of a refusal.
+/// Prints the verdict on every line that is read, or the line of a refusal.
 #[unsafe(no_mangle)]
 pub extern "C" fn lagvettu_text_why_all(
     lent: bool,
@@ -136,7 +134,7 @@ pub extern "C" fn lagvettu_text_why_all(
     *size = whytext::write_line_verdicts(source, base, out);
 }
 
-// Prints the printout of a source at a base, a row for each line and the labels under them, or the line of a refusal.
+/// Prints the printout of a source at a base, a row for each line and the labels under them, or the line of a refusal.
 #[unsafe(no_mangle)]
 pub extern "C" fn lagvettu_text_printout(
     lent: bool,
@@ -157,7 +155,7 @@ pub extern "C" fn lagvettu_text_printout(
 
 // ---- The bench.
 
-// Prints the line of a run of the first `count` words of a list, or of a refusal.
+/// Prints the line of a run of the first `count` words of a list, or of a refusal.
 #[unsafe(no_mangle)]
 pub extern "C" fn lagvettu_text_run(
     addresses: &[u32; PLACES],
@@ -171,11 +169,11 @@ pub extern "C" fn lagvettu_text_run(
 )
     ensures { Printed (answer_text (bench_of count addresses.now words.now a.now start limit)) size.new out.old out.new }
 {
-    *size = benchtext::write_list_run(false, 0, addresses, words, count, a, start, limit, out);
+    *size = benchtext::write_list_run(None, addresses, words, count, a, start, limit, out);
 }
 
-// The same with a value put into each of these words that stands at the threshold's address, and the value in front. The words keep it,
-// unless the list is refused.
+/// The same with a value put into each of these words that stands at the threshold's address, and the value in front. The words keep it,
+/// unless the list is refused.
 #[unsafe(no_mangle)]
 pub extern "C" fn lagvettu_text_try(
     addresses: &[u32; PLACES],
@@ -199,29 +197,29 @@ pub extern "C" fn lagvettu_text_try(
 
 // ---- Sheets.
 
-// Prints the sheet of the twelve totals.
+/// Prints the sheet of the twelve totals.
 #[unsafe(no_mangle)]
 pub extern "C" fn lagvettu_text_sheet(totals: &[u64; 12], out: &mut [u8; SHEET], size: &mut usize)
     ensures { Printed (sheet_text (lent_totals totals.now)) size.new out.old out.new }
 {
-    *size = write_sheet(totals_of(totals), out);
+    *size = write_sheet(Totals::from(*totals), out);
 }
 
-// Reads a sheet's text, by its first 32,768 bytes: 0, with the totals and line 0; or 1, with the number of the first wrong line, and
-// the totals as they were.
+/// Reads a sheet's text, by its first 32,768 bytes: 0, with the totals and line 0; or 1, with the number of the first wrong line, and
+/// the totals as they were.
 #[unsafe(no_mangle)]
 pub extern "C" fn lagvettu_read_sheet(text: &[u8], totals: &mut [u64; 12], line: &mut usize) -> u8
     ensures { ReadsSheet (sheet_in (take 32768 text.now)) totals.old result line.new totals.new }
 {
-    let length = lesser(text.len(), SCRIPT);
+    let length = text.len().min(SCRIPT);
     match read_sheet(&text[..length]) {
-        Sheet::Totals(t) => {
-            put_totals(t, totals);
+        Ok(t) => {
+            *totals = t.into();
             *line = 0;
             0
         }
-        Sheet::Wrong(n) => {
-            *line = n;
+        Err(bad) => {
+            *line = bad.number;
             1
         }
     }

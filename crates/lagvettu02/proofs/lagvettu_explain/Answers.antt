@@ -1,10 +1,9 @@
 -- `lagvettu_explain` meets its contract: it passes on the verdict's number, or the refusal's. Assumes nothing.
-use mathlib.Core.Path.{sym, ◌∙◌}
 use Rattle.explain.proofs.Called.{explains_line, explains_not}
 use Rattle.lagvettu02.proofs.lagvettu_explain.Goals as goal
 
-pub returns-in-Line : goal.returns-in-Line
-returns-in-Line c = explains_line _ (sym c.explain_line.ensures ∙ c.in-Line.is) c.verdict_number.ensures
+pub returns-in-Ok : goal.returns-in-Ok
+returns-in-Ok c = explains_line _ c.in-Ok.ensures c.verdict_number.ensures
 
-pub returns-in-Refused : goal.returns-in-Refused
-returns-in-Refused c = explains_not _ (sym c.explain_line.ensures ∙ c.in-Refused.is)
+pub returns-in-Err : goal.returns-in-Err
+returns-in-Err c = rw (c.number.ensures, c.place.ensures) (explains_not _ c.in-Err.ensures)

@@ -1,10 +1,9 @@
 -- `lagvettu_nearest` meets its contract: it passes on the numbers of the label, or the refusal's. Assumes nothing.
-use mathlib.Core.Path.{sym, ◌∙◌}
-use Rattle.lagvettu02.proofs.Called.{nears_named, nears_not}
+use Rattle.lagvettu02.specs.Called.{of_label, of_refusal}
 use Rattle.lagvettu02.proofs.lagvettu_nearest.Goals as goal
 
-pub returns-in-Label : goal.returns-in-Label
-returns-in-Label c = nears_named _ (sym c.nearest_label.ensures ∙ c.in-Label.is)
+pub returns-in-Ok : goal.returns-in-Ok
+returns-in-Ok c = rw (← c.in-Ok.ensures) (of_label _)
 
-pub returns-in-Refused : goal.returns-in-Refused
-returns-in-Refused c = nears_not _ (sym c.nearest_label.ensures ∙ c.in-Refused.is)
+pub returns-in-Err : goal.returns-in-Err
+returns-in-Err c = rw (← c.in-Err.ensures, c.number.ensures, c.place.ensures) (of_refusal _ _)

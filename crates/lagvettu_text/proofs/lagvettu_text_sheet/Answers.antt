@@ -2,4 +2,4 @@
 use Rattle.lagvettu_text.proofs.lagvettu_text_sheet.Goals as goal
 
 pub returns : goal.returns
-returns c = rw (← c.totals_of.ensures) c.write_sheet.ensures
+returns c = rw (← c.from.ensures) c.write_sheet.ensures

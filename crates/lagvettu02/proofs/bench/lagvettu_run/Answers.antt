@@ -1,11 +1,19 @@
 -- `lagvettu_run` meets its contract. Assumes nothing.
-use Rattle.lagvettu02.proofs.RunNumbers.{run_made, run_refused}
+use Rattle.lagvettu02.proofs.RunNumbers.{run_numbers, refusal_numbers}
 use Rattle.lagvettu02.proofs.bench.lagvettu_run.Goals as goal
 
-pub returns-in-Made : goal.returns-in-Made
-returns-in-Made c =
-    let told = c in
-    run_made told.bench.ensures _ told.in-Made.is c.end_number.ensures c.flags_number.ensures
+pub returns-in-Ok : goal.returns-in-Ok
+returns-in-Ok c =
+    record {
+      numbers = run_numbers _ c.in-Ok.ensures.answer c.end_number.ensures c.flags_number.ensures;
+      registers = c.bench.ensures.registers;
+      memory = c.bench.ensures.memory;
+    }
 
-pub returns-in-Refused : goal.returns-in-Refused
-returns-in-Refused c = run_refused c.bench.ensures _ _ c.in-Refused.is
+pub returns-in-Err : goal.returns-in-Err
+returns-in-Err c =
+    record {
+      numbers = rw (c.number.ensures, c.place.ensures) (refusal_numbers _ c.in-Err.ensures.answer);
+      registers = c.bench.ensures.registers;
+      memory = c.bench.ensures.memory;
+    }
