@@ -1,6 +1,8 @@
 -- Laws of branch tables in the shape of the code's needs. Assumes nothing.
 use Rattle.std.specs.Prelude.{None, Some}
-use Rattle.std.specs.List.{list_any}
+use Rattle.std.specs.Bool.{MatchBool}
+use Rattle.std.specs.List.{list_any, range_with_len, AllWithin, HoldsAt}
+use Rattle.text.proofs.Ranges.{any_range}
 use Rattle.std.proofs.Common.{take_all}
 use Prim.Native.Nat.{ℕ, zero, suc, ◌+◌, ◌*◌, ◌-◌, ◌<◌, ◌≤◌}
 use mathlib.Core.Path.{◌≡◌, refl, sym, ap, ◌∙◌}
@@ -82,9 +84,21 @@ earlier_at t four (suc k) n h e = go (ltb n k) refl (earlier_at t four k n)
     go true l ih = rw (← ih (ltb-true n k l) e) (or_true (same (four_of t k) four))
     go false l ih = let z : k ≡ n = omega (arith, ltb-false n k l) in rw (z, e)
 
-pub earlier_next : (t four : Text) (n : ℕ) → same (four_of t n) four ≡ false → earlier t four n ≡ false → earlier t four (n + 1) ≡ false
+earlier_none : (t four : Text) (k : ℕ) → ((i : ℕ) → i < k → same (four_of t i) four ≡ false) → false ≡ earlier t four k
 unfolding earlier
-earlier_next t four n e h = rw (add-one n, e, h)
+earlier_none t four zero h = refl
+earlier_none t four (suc k) h = let ih = earlier_none t four k (λ i l. h i (omega arith)) in rw (h k (omega arith)) ih
+
+-- as `any` says it over the rows before
+pub earlier_by : (r : Bool) (t four : Text) (k : ℕ)
+    → MatchBool r ((j : ℕ) × (j < length (range_with_len 0 k)) × HoldsAt (λ i. same (four_of t i) four ≡ true) (range_with_len 0 k) j)
+    (AllWithin (λ i. same (four_of t i) four ≡ false) (range_with_len 0 k) 0 (length (range_with_len 0 k)))
+    → r ≡ earlier t four k
+earlier_by r t four k h = go r (any_range r (λ i. same (four_of t i) four ≡ true) (λ i. same (four_of t i) four ≡ false) 0 k h)
+  where
+    go : (y : Bool) → MatchBool y ((i : ℕ) × (i < k) × (same (four_of t (0 + i)) four ≡ true)) ((i : ℕ) → i < k → same (four_of t (0 + i)) four ≡ false) → y ≡ earlier t four k
+    go true (i, l, d) = earlier_at t four k (0 + i) (omega arith) d
+    go false f = earlier_none t four k (λ i l. let z : 0 + i ≡ i = omega arith in rw z at (f i l))
 
 -- ---- padding: a space at the end is taken off, and nothing else
 pub unpadded_space : (s : Text) → unpadded (s ++ 32 ∷ []) ≡ unpadded s

@@ -1,6 +1,6 @@
 #![tactic(auto)]
 
-// Our own branch names, paper 02's W-210: a lent table is checked whole, and a mnemonic is looked up in its bytes, of which nothing is copied.
+//! Our own branch names, paper 02's W-210: a lent table is checked whole, and a mnemonic is looked up in its bytes, of which nothing is copied.
 ghost use Rattle.std.specs.Prelude.{◌≡◌, ◌&&◌, ◌≤◌, ◌<◌, ◌+◌, ◌*◌, leb, length};
 ghost use Rattle.std.specs.Bool.{OnFalse};
 ghost use Rattle.std.specs.List.{list_any};
@@ -42,6 +42,7 @@ fn is_broken(bytes: &[u8], k: usize) -> bool
 // ---- The name of a row.
 
 // Its four bytes.
+#[tactic(auto, using(crate::proofs::Laws::four_part))]
 fn name_of(bytes: &[u8], k: usize) -> &[u8]
     requires { Whole bytes.now k }
     ensures { result.now ≡ four_of bytes.now k }
@@ -50,9 +51,11 @@ fn name_of(bytes: &[u8], k: usize) -> &[u8]
 }
 
 // The name without the padding.
+#[tactic(auto, using(crate::proofs::Laws::last_space, crate::proofs::Laws::last_kept, crate::proofs::Laws::none_kept))]
 fn unpadded(mut name: &[u8]) -> &[u8]
     ensures { result.now ≡ unpadded name.now }
 {
+    // One space after another: std's trims take other blanks too.
     while let [rest @ .., b' '] = name {
         name = rest;
     }
@@ -63,7 +66,7 @@ fn unpadded(mut name: &[u8]) -> &[u8]
 fn is_lower(b: u8) -> bool
     ensures { result ≡ (leb 97 b && leb b 122) }
 {
-    b'a' <= b && b <= b'z'
+    b.is_ascii_lowercase()
 }
 
 // Whether one of the bytes is.
@@ -74,16 +77,13 @@ fn has_lower(name: &[u8]) -> bool
 }
 
 // Whether a row before the k-th has its four bytes.
+// By number, as all loops over rows here: the definitions name a row by its number.
 fn is_earlier(bytes: &[u8], k: usize) -> bool
     requires { Whole bytes.now k }
     ensures { result ≡ earlier bytes.now (four_of bytes.now k) k }
 {
-    for n in 0..k {
-        if name_of(bytes, n) == name_of(bytes, k) {
-            return true;
-        }
-    }
-    false
+    let name = name_of(bytes, k);
+    (0..k).any(|n| name_of(bytes, n) == name)
 }
 
 // Whether a mnemonic that names this is one other than the eleven.
@@ -112,9 +112,11 @@ fn is_misnamed(bytes: &[u8], k: usize) -> bool
 // ---- The table.
 
 /// Checks a table whole: how many rows it has, or why the first faulty command is refused.
+#[tactic(auto, using(crate::proofs::Laws::checking_start, crate::proofs::Laws::check_end, crate::proofs::Laws::check_full, crate::proofs::Laws::check_past, crate::proofs::Laws::check_broken, crate::proofs::Laws::check_misnamed, crate::proofs::Laws::check_more))]
 pub fn load_branches(bytes: &[u8]) -> Result<usize, Refusal>
     ensures { answer_of result ≡ checked bytes.now }
 {
+    // By number: a row stands at six times it, and a fault tells it; a table may end before `ROWS`.
     for k in 0..ROWS {
         if is_end(bytes, k) {
             return Ok(k);
@@ -142,9 +144,11 @@ fn is_named(bytes: &[u8], k: usize, mnemonic: &[u8]) -> bool
 }
 
 // What a mnemonic names in the table's rows; a row with a condition over 15 is none.
+#[tactic(auto, using(crate::proofs::Laws::looking_start, crate::proofs::Laws::look_past, crate::proofs::Laws::look_end, crate::proofs::Laws::look_hit, crate::proofs::Laws::look_more))]
 fn find_branch_in(bytes: &[u8], mnemonic: &[u8]) -> Option<Operation>
     ensures { result ≡ operation_of (operation_in (rows bytes.now) (uppers mnemonic.now)) }
 {
+    // By number, as in `load_branches`.
     for k in 0..ROWS {
         if is_broken(bytes, k) {
             return None;
@@ -157,6 +161,7 @@ fn find_branch_in(bytes: &[u8], mnemonic: &[u8]) -> Option<Operation>
 }
 
 // What a mnemonic names under a table: the table's rows stand in place of the eleven.
+#[tactic(auto, using(crate::proofs::Others::under_other, crate::proofs::Others::under_rows))]
 #[inline(never)]
 fn find_operation_in(bytes: &[u8], mnemonic: &[u8]) -> Option<Operation>
     ensures { result ≡ operation_of (operation_in (names_with (rows bytes.now)) (uppers mnemonic.now)) }

@@ -1,7 +1,7 @@
 #![tactic(auto)]
 
-// The lines kept between the passes: two cells a line. The first has the line's size and the kind of its task; the second a
-// number, or where the instruction's text stands. An instruction itself is not kept: its text is read again.
+//! The lines kept between the passes: two cells a line. The first has the line's size and the kind of its task; the second a
+//! number, or where the instruction's text stands. An instruction itself is not kept: its text is read again.
 ghost use Rattle.std.specs.Prelude.{◌≡◌};
 ghost use Rattle.cells.specs.Cells.{data_words, after_by, kind_of, head_cell, tail_cell, task_in, kept_at, with_line, InCells, PlaceFits, Fits};
 
@@ -32,6 +32,7 @@ pub fn data_words(task: Task) -> usize
 }
 
 /// The address after a line that is read at `address`.
+#[tactic(auto, using(crate::proofs::Cells::goes_on))]
 pub fn address_after(kept: Kept, base: u32, address: u32) -> u64
     ensures { result ≡ after_by base address kept }
 {
@@ -70,7 +71,8 @@ fn kind(task: Task) -> u32
     }
 }
 
-// A task's number or place, as it stands in the second cell.
+// A task's number or place, as it stands in the second cell. `as` narrows what is below 2^32, as `PlaceFits` proves.
+#[tactic(auto, using(crate::proofs::Cells::place_fits), unfolding(crate::specs::Cells::tail_cell))]
 fn tail_cell(task: Task) -> u32
     requires { PlaceFits task }
     ensures { result ≡ tail_cell task }
@@ -83,6 +85,7 @@ fn tail_cell(task: Task) -> u32
 }
 
 /// Keeps line k.
+#[tactic(auto, using(crate::proofs::Cells::kind_small))]
 pub fn keep_line(cells: &mut [u32], k: usize, kept: Kept)
     requires { InCells cells.old k × Fits kept }
     ensures { cells.new ≡ with_line cells.old k (head_cell kept) (tail_cell kept.task) }
@@ -93,7 +96,9 @@ pub fn keep_line(cells: &mut [u32], k: usize, kept: Kept)
 
 // ---- The second pass reads it again.
 
-// The task of a kind and a size, by the second cell. Of a `match` the compiler makes a table of values.
+// The task of a kind and a size, by the second cell. Of a `match` the compiler makes a table of values. `as` widens: there is no `From`
+// from u32 to usize.
+#[tactic(auto, unfolding(crate::specs::Cells::task_in))]
 fn task_in(kind: u32, size: u32, cell: u32) -> Task
     ensures { result ≡ task_in kind size cell }
 {

@@ -2,16 +2,19 @@
 use mathlib.Core.Path.{◌≡◌, refl, sym, ap, ◌∙◌}
 use mathlib.Core.Bool.{Bool, true, false, not, ◌&&◌, or-false, and-false, false≢true}
 use mathlib.Core.List.{List, [], ◌∷◌}
-use Prim.Native.Nat.{ℕ, suc, ◌+◌, ◌-◌, ◌≤◌, ◌<◌}
+use Prim.Native.Nat.{ℕ, zero, suc, ◌+◌, ◌-◌, ◌≤◌, ◌<◌}
 use native.Mathlib.Numerals.{add-one}
 use native.Mathlib.Omega.{arith}
-use borrow.Author.Tests.{ne_eqb, lt-leb, eqb-true, not-true, not-false}
+use borrow.Author.Tests.{ne_eqb, lt-leb, eqb-true, not-true}
 use lib.ListN.{length, take, drop, get_or, length-drop, drop_of_length-le}
 use lib.Seq.{drop-cons, drop-drop}
 use Rattle.rules.specs.Text.{Text, blank, leading, trim_start, on_first, cut_where, drop_empty, pieces, join_more, joined, other_texts}
 use Rattle.text.proofs.Until.{cut_here, cut_later, cut_first}
 use Rattle.text.proofs.Trim.{leading_le, drop_leading, leading_trim_start, first_none}
 use Rattle.text.proofs.Kept.{rest_is}
+use Rattle.text.proofs.Ranges.{over_range}
+use Rattle.std.specs.Bool.{MatchBool}
+use Rattle.std.specs.List.{range_with_len, AllWithin, HoldsAt}
 use Rattle.text.proofs.Pieces.{pieces_trim_start}
 use Rattle.instruction.specs.Joined.{is_filled, is_single, is_joined}
 
@@ -130,27 +133,32 @@ module _ (t : Text) (i : ℕ) (h : i < length t) where
     unfolding is_filled
     single_space d p = rw (space_here, drop-cons t (suc i) 0 (omega arith), p, add-one i)
 
--- ---- the loop of `is_joined`
--- what it keeps: the text is joined if what is left is
-pub record Judging (t : Text) (at i : ℕ) : Type 0 where
-  pub upto : i ≤ length t
-  pub left : is_joined (drop at t) ≡ is_joined (drop i t)
+-- ---- as `all` says it over the places
+joined_more : (t : Text) (i : ℕ) → i < length t → is_joined (drop i t) ≡ (is_single (drop i t) && is_joined (drop (suc i) t))
+unfolding is_joined
+joined_more t i h = rw (drop-cons t i 0 h)
 
-pub judging_start : (t : Text) (at : ℕ) → at ≤ length t → Judging t at at
-judging_start t at h = record { upto = h; left = refl }
+joined_at : (r : Bool) (t : Text) (n at : ℕ) → at + n ≡ length t
+    → MatchBool r ((i : ℕ) → i < n → is_single (drop (at + i) t) ≡ true) ((i : ℕ) × (i < n) × (is_single (drop (at + i) t) ≡ false))
+    → r ≡ is_joined (drop at t)
+unfolding is_joined
+joined_at true t zero at e h = let l : length t ≤ at = omega arith in rw (drop_of_length-le t l)
+joined_at false t zero at e (i, k, d) = absurd (omega arith)
+joined_at true t (suc n) at e h =
+    let z : at + 0 ≡ at = omega arith in
+    let here : is_single (drop at t) ≡ true = rw z at (h 0 (omega arith)) in
+    let ih = joined_at true t n (suc at) (omega arith) (λ i k. let m : suc at + i ≡ at + suc i = omega arith in rw m (h (suc i) (omega arith))) in
+    rw (joined_more t at (omega arith), here) ih
+joined_at false t (suc n) at e (zero, k, d) =
+    let z : at + 0 ≡ at = omega arith in
+    rw (joined_more t at (omega arith), rw z at d)
+joined_at false t (suc n) at e (suc i, k, d) =
+    let m : suc at + i ≡ at + suc i = omega arith in
+    let ih = joined_at false t n (suc at) (omega arith) (i, omega arith, rw m d) in
+    rw (joined_more t at (omega arith), ← ih, and-false)
 
-module _ {t : Text} {at i : ℕ} (inv : Judging t at i) where
-  pub judging_end : length t ≤ i → true ≡ is_joined (drop at t)
-  unfolding is_joined
-  judging_end h = sym (inv.left ∙ rw (drop_of_length-le t h))
-
-  module _ (h : i < length t) {y : Bool} (e : y ≡ is_single (drop i t)) where
-    one_more : is_joined (drop i t) ≡ (y && is_joined (drop (suc i) t))
-    unfolding is_joined
-    one_more = rw e (rw (drop-cons t i 0 h))
-
-    pub judging_stop : not y ≡ true → false ≡ is_joined (drop at t)
-    judging_stop k = sym (inv.left ∙ rw (not-true y k) at one_more)
-
-    pub judging_more : not y ≡ false → Judging t at (i + 1)
-    judging_more k = record { upto = omega arith; left = rw (add-one i) (inv.left ∙ rw (not-false y k) at one_more) }
+pub joined_by : (r : Bool) (t : Text) (at : ℕ) → at ≤ length t
+    → MatchBool r (AllWithin (λ i. is_single (drop i t) ≡ true) (range_with_len at (length t - at)) 0 (length (range_with_len at (length t - at))))
+    ((k : ℕ) × (k < length (range_with_len at (length t - at))) × HoldsAt (λ i. is_single (drop i t) ≡ false) (range_with_len at (length t - at)) k)
+    → r ≡ is_joined (drop at t)
+joined_by r t at h m = joined_at r t (length t - at) at (omega arith) (over_range r (λ i. is_single (drop i t) ≡ true) (λ i. is_single (drop i t) ≡ false) at (length t - at) m)

@@ -1,13 +1,12 @@
 #![tactic(auto)]
 
-// What an instruction's text says: its mnemonic and suffix, its operands, its size.
-// The operands are those of the joined tail: the text itself where it stands joined already, else a normalised copy.
-// The size is the same without: it goes by the first bytes of operands.
+//! What an instruction's text says: its mnemonic and suffix, its operands, its size.
+//! The operands are those of the joined tail: the text itself where it stands joined already, else a normalised copy.
+//! The size is the same without: it goes by the first bytes of operands.
 ghost use Rattle.std.specs.Prelude.{◌≡◌, Some, [], ◌∷◌, ◌+◌, ◌≤◌, ◌<◌, length, drop};
 ghost use Rattle.rules.specs.Text.{uppers, cut_at, pieces, joined, first_text};
 ghost use Rattle.rules.specs.Line.{instruction_of, is_plain, size};
 ghost use Rattle.rules.specs.Assemble.{over};
-ghost use Rattle.text.specs.Pieces.{until};
 ghost use Rattle.instruction.specs.FirstPiece.{suffix_text, suffix_of, suffix_in, ends_name, head_of};
 ghost use Rattle.text.specs.Spans.{over_from};
 ghost use Rattle.instruction.specs.Tail.{space, spaced};
@@ -15,11 +14,12 @@ ghost use Rattle.instruction.specs.Joined.{is_single, is_joined};
 ghost use Rattle.instruction.specs.Split.{operands_in, operands_at, with_span};
 ghost use Rattle.instruction.specs.Size.{sized_by, is_long_by, size_by, may_be_long};
 
-use text::Span;
+use text::{ByteTest, Span};
 
 // ---- The first piece: mnemonic and suffix.
 
 /// What stands after the mnemonic's dot, up to the next dot.
+// Five kinds told apart in one place: an Option around four of them would be no plainer.
 #[derive(Clone, Copy, Debug, PartialEq, Eq, Hash)]
 pub enum Suffix {
     /// There is no dot.
@@ -42,31 +42,31 @@ pub struct Head {
 }
 
 // A dot or a blank: a letter is neither, by the first test.
+#[tactic(auto, using(crate::proofs::FirstPiece::ends_high, crate::proofs::FirstPiece::ends_dot, crate::proofs::FirstPiece::ends_rest))]
 fn ends_name(b: u8) -> bool
     ensures { result ≡ ends_name b }
 {
     b <= b'.' && (b == b'.' || text::is_blank(b))
 }
 
-// The first position from `at` on that has a dot or a blank, or the text's end.
-fn mnemonic_end(t: &[u8], at: usize) -> usize
-    requires { at ≤ length t.now }
-    ensures { result ≡ at + until ends_name (drop at t.now) }
-{
-    for i in at..t.len() {
-        if ends_name(t[i]) {
-            return i;
-        }
+// The bytes that end a mnemonic; a type's name, and no value.
+struct NameEnd;
+
+impl ByteTest for NameEnd {
+    ghost test = { ends_name };
+
+    fn passes(b: u8) -> bool {
+        ends_name(b)
     }
-    t.len()
 }
 
 /// The first piece, cut at its first dot; what stands after it is stepped over only where there is one.
+#[tactic(auto, using(text::proofs::Kept::from_leading, crate::proofs::FirstPiece::head_end, crate::proofs::FirstPiece::head_plain, crate::proofs::FirstPiece::head_dotted))]
 pub fn read_head(t: &[u8]) -> Head
     ensures { result ≡ head_of t.now }
 {
     let start = text::leading_blanks(t);
-    let end = mnemonic_end(t, start);
+    let end = text::skip_to::<NameEnd>(t, start);
     if end < t.len() && t[end] == b'.' {
         let tail = text::skip_piece(t, end + 1);
         return Head { start, end, tail };
@@ -78,27 +78,22 @@ pub fn read_head(t: &[u8]) -> Head
     }
 }
 
-// The text up to the first dot, as a suffix. Slice patterns were tried: their arms do not name the bytes for a proof.
+// The text up to the first dot, as a suffix.
+#[tactic(auto, using(crate::proofs::FirstPiece::suffix_alone, crate::proofs::FirstPiece::suffix_none, crate::proofs::FirstPiece::suffix_dot, crate::proofs::FirstPiece::suffix_dotted, crate::proofs::FirstPiece::suffix_more))]
 fn read_suffix(t: &[u8]) -> Suffix
     ensures { result ≡ suffix_in t.now }
 {
-    if t.len() == 1 {
-        return byte_suffix(t[0]);
+    match t {
+        [] => Suffix::Empty,
+        [b] => byte_suffix(*b),
+        [b'.', ..] => Suffix::Empty,
+        [b, b'.', ..] => byte_suffix(*b),
+        _ => Suffix::Other,
     }
-    if t.len() == 0 {
-        return Suffix::Empty;
-    }
-    let b = t[0];
-    if b == b'.' {
-        return Suffix::Empty;
-    }
-    if t[1] == b'.' {
-        return byte_suffix(b);
-    }
-    Suffix::Other
 }
 
 // The same where the text is one byte. Of a `match` the compiler makes a table of values.
+#[tactic(auto, using(crate::proofs::FirstPiece::byte_long, crate::proofs::FirstPiece::byte_word, crate::proofs::FirstPiece::byte_dot, crate::proofs::FirstPiece::byte_other))]
 fn byte_suffix(b: u8) -> Suffix
     ensures { result ≡ suffix_in (b ∷ []) }
 {
@@ -115,6 +110,7 @@ fn byte_suffix(b: u8) -> Suffix
 }
 
 /// The suffix of an instruction whose head was read: it stands after the mnemonic, where there is a dot.
+#[tactic(auto, using(crate::proofs::FirstPiece::suffix_absent, crate::proofs::FirstPiece::head_of_lem, crate::proofs::FirstPiece::suffix_there))]
 pub fn suffix_of(t: &[u8], head: Head) -> Suffix
     requires { head ≡ head_of t.now }
     ensures { result ≡ suffix_of (suffix_text t.now) }
@@ -128,6 +124,7 @@ pub fn suffix_of(t: &[u8], head: Head) -> Suffix
 // ---- The tail: the other pieces, joined by one space.
 
 // A piece copied after the first n bytes of `out`.
+#[tactic(auto, using(crate::proofs::Tail::piece_put))]
 fn copy_piece(p: &[u8], out: &mut [u8], n: usize)
     requires { n + length p.now ≤ length out.old }
     ensures { out.new ≡ over_from n p.now out.old }
@@ -135,7 +132,8 @@ fn copy_piece(p: &[u8], out: &mut [u8], n: usize)
     out[n..n + p.len()].copy_from_slice(p);
 }
 
-// A space after the first n bytes of `out`, unless there are none; the length with it.
+// A space after the first n bytes of `out`, unless there are none; the length with it. The listing's writer stands above this crate.
+#[tactic(auto, using(crate::proofs::Tail::space_zero, crate::proofs::Tail::space_none, crate::proofs::Tail::space_length, crate::proofs::Tail::space_put))]
 fn put_space(out: &mut [u8], n: usize) -> usize
     requires { n < length out.old }
     ensures value { result ≡ n + length (space n) }
@@ -149,6 +147,7 @@ fn put_space(out: &mut [u8], n: usize) -> usize
 }
 
 // A piece joined to the first n bytes of `out`; the length with it.
+#[tactic(auto, using(crate::proofs::Tail::adding_starts, crate::proofs::Tail::adding_asks, crate::proofs::Tail::adding_length, crate::proofs::Tail::adding_whole))]
 fn add_piece(p: &[u8], out: &mut [u8], n: usize) -> usize
     requires { (0 < length p.now) × (n + length (spaced n p.now) ≤ length out.old) }
     ensures value { result ≡ n + length (spaced n p.now) }
@@ -160,6 +159,8 @@ fn add_piece(p: &[u8], out: &mut [u8], n: usize) -> usize
 }
 
 /// The pieces from `at` on, joined by one space, at the front of `out`; their length.
+// A `loop` over a place in the text: an iterator of our own over pieces, with its laws, would be longer.
+#[tactic(auto, using(crate::proofs::Tail::joining_start, crate::proofs::Tail::joining_length, crate::proofs::Tail::joining_whole, crate::proofs::Tail::joining_within, crate::proofs::Tail::joining_asks, crate::proofs::Tail::joining_less, crate::proofs::Tail::joining_more))]
 pub fn join_pieces(t: &[u8], at: usize, out: &mut [u8]) -> usize
     requires { (at ≤ length t.now) × (length t.now ≤ length out.old) }
     ensures value { result ≡ length (joined (pieces (drop at t.now))) }
@@ -179,7 +180,8 @@ pub fn join_pieces(t: &[u8], at: usize, out: &mut [u8]) -> usize
     }
 }
 
-// No blank stands at i, or a single space before a byte that is none.
+// No blank stands at i, or a single space before a byte that is none. One expression costs 4 in 1000 of a script's instructions.
+#[tactic(auto, using(crate::proofs::Joined::single_high, crate::proofs::Joined::single_other, crate::proofs::Joined::single_last, crate::proofs::Joined::single_space))]
 fn is_single(t: &[u8], i: usize) -> bool
     requires { i < length t.now }
     ensures { result ≡ is_single (drop i t.now) }
@@ -195,21 +197,18 @@ fn is_single(t: &[u8], i: usize) -> bool
 }
 
 /// From `at` on each blank is a single space between pieces: with none in front, the text is its own joined tail.
+// By place: a blank looks at the byte after it.
 pub fn is_joined(t: &[u8], at: usize) -> bool
     requires { at ≤ length t.now }
     ensures { result ≡ is_joined (drop at t.now) }
 {
-    for i in at..t.len() {
-        if !is_single(t, i) {
-            return false;
-        }
-    }
-    true
+    (at..t.len()).all(|i| is_single(t, i))
 }
 
 // ---- The operands of a joined tail.
 
 /// How many, and where the first, the second and the last stand; of one operand all three are that one's place.
+// Of none all three are 0 to 0, an empty part of any text, and no Option: so a reader takes a part before it looks at the count.
 #[derive(Clone, Copy, Debug, PartialEq, Eq, Hash)]
 pub struct Operands {
     pub count: usize,
@@ -219,6 +218,7 @@ pub struct Operands {
 }
 
 // One operand more, unless it is empty.
+#[tactic(auto, using(crate::proofs::Split::with_empty, crate::proofs::Split::with_first, crate::proofs::Split::with_second, crate::proofs::Split::with_more))]
 fn with_operand(o: Operands, span: Span) -> Operands
     requires { (o.count ≤ span.start) × (span.start ≤ span.end) }
     ensures { result ≡ with_span o span }
@@ -249,6 +249,7 @@ fn with_operand(o: Operands, span: Span) -> Operands
 }
 
 // Where the part from `at` on ends: at the next comma, or with the text.
+#[tactic(auto, using(crate::proofs::Split::end_found))]
 fn part_end(t: &[u8], at: usize) -> usize
     requires { at ≤ length t.now }
     ensures { result ≡ at + length (first_text (cut_at 44 (drop at t.now))) }
@@ -257,6 +258,8 @@ fn part_end(t: &[u8], at: usize) -> usize
 }
 
 /// The text cut at commas, trimmed, empties removed.
+// A `loop` over a place in the text: a fold over `split` would keep the same four places, with a law for the split.
+#[tactic(auto, using(crate::proofs::Split::splitting_start, crate::proofs::Split::end_within, crate::proofs::Split::splitting_asks, crate::proofs::Split::splitting_end, crate::proofs::Split::splitting_more))]
 pub fn split_operands(t: &[u8]) -> Operands
     ensures { result ≡ operands_at t.now }
 {
@@ -285,10 +288,7 @@ pub fn split_operands(t: &[u8]) -> Operands
 fn is_plain(t: &[u8]) -> bool
     ensures { result ≡ is_plain t.now }
 {
-    let Some(&b) = t.first() else {
-        return false;
-    };
-    b == b'D' || b == b'A' || b == b'('
+    matches!(t, [b'D' | b'A' | b'(', ..])
 }
 
 // Which operands decide the size.
@@ -296,11 +296,12 @@ fn is_plain(t: &[u8]) -> bool
 enum SizeRule {
     // 4 where the first starts with #.
     Immediate,
-    // 4 where the first or the last is no register.
+    // 4 where the first or the last does not start with D, A or (.
     Move,
 }
 
-// Which operands decide, by the mnemonic and the suffix; without any it is 2.
+// Which operands decide, by the mnemonic and the suffix; without any it is 2. The else takes a kind of an enum apart, which `?` cannot.
+#[tactic(auto, using(crate::proofs::Size::sized_muls, crate::proofs::Size::sized_short, crate::proofs::Size::sized_cmp, crate::proofs::Size::sized_move, crate::proofs::Size::sized_rest), unfolding(rules::specs::Text::bytes))]
 fn sized(mnemonic: &[u8], suffix: Suffix) -> Option<SizeRule>
     ensures { result ≡ sized_by (uppers mnemonic.now) suffix }
 {
@@ -320,6 +321,7 @@ fn sized(mnemonic: &[u8], suffix: Suffix) -> Option<SizeRule>
 }
 
 // The first and the last operand ask for 4 bytes.
+#[tactic(auto, using(crate::proofs::Size::four_immediate, crate::proofs::Size::four_first, crate::proofs::Size::four_last), unfolding(rules::specs::Text::bytes))]
 fn takes_four(rule: SizeRule, first: &[u8], last: &[u8]) -> bool
     ensures { result ≡ is_long_by rule first.now last.now }
 {
@@ -330,6 +332,7 @@ fn takes_four(rule: SizeRule, first: &[u8], last: &[u8]) -> bool
 }
 
 // The size of an instruction whose operands stand in `tail`.
+#[tactic(auto, using(crate::proofs::Places::operands_within, crate::proofs::Size::size_few, crate::proofs::Size::size_four, crate::proofs::Size::size_two))]
 fn size_of(rule: SizeRule, o: Operands, tail: &[u8]) -> u32
     requires { o ≡ operands_at tail.now }
     ensures { result ≡ size_by (Some rule) (operands_in tail.now) }
@@ -347,14 +350,14 @@ fn size_of(rule: SizeRule, o: Operands, tail: &[u8]) -> u32
 fn may_be_long(t: &[u8]) -> bool
     ensures { result ≡ may_be_long t.now }
 {
-    let Some(&b) = t.first() else {
-        return false;
-    };
-    let u = text::upper_case(b);
-    u == b'M' || u == b'C' || text::is_blank(b)
+    t.first().is_some_and(|&b| {
+        let u = text::upper_case(b);
+        u == b'M' || u == b'C' || text::is_blank(b)
+    })
 }
 
 /// How many bytes an instruction takes; no copy is needed, for blanks do not change an operand's first byte.
+#[tactic(auto, using(crate::proofs::FirstPiece::head_of_lem, crate::proofs::Size::answer_short, crate::proofs::Size::answer_fixed, crate::proofs::Size::answer_standing))]
 pub fn instruction_size(t: &[u8]) -> u32
     ensures { result ≡ size (instruction_of t.now) }
 {
@@ -363,6 +366,7 @@ pub fn instruction_size(t: &[u8]) -> u32
     }
     let head = read_head(t);
     let suffix = suffix_of(t, head);
+    // Without a rule it is 2, and no None that `?` could hand on.
     let Some(rule) = sized(&t[head.start..head.end], suffix) else {
         return 2;
     };

@@ -1,6 +1,6 @@
 #![tactic(auto)]
 
-// What a line says: paper 01's six steps, answered by value: the labels that it records and its task, with places in the source.
+//! What a line says: paper 01's six steps, answered by value: the labels that it records and its task, with places in the source.
 ghost use Rattle.std.specs.Prelude.{◌≡◌, true, ◌||◌, ◌≤◌, length, take, drop, IfSome, None};
 ghost use Rattle.rules.specs.Text.{Text, uppers, leading, trim, pieces, uncut, first_cut, contains, nth};
 ghost use Rattle.rules.specs.Line.{reading_in, value_reading_in, data_size, is_directive, data_line, is_data, rest_line, label_line};
@@ -51,6 +51,7 @@ pub struct Line {
 }
 
 /// Whether a task ends the passes.
+#[tactic(auto, using(crate::proofs::Clauses::end_alone), unfolding(rules::specs::Assemble::is_end))]
 pub fn is_end(task: Task) -> bool
     ensures { (source : Text) → result ≡ is_end (task_at source task) }
 {
@@ -68,6 +69,7 @@ fn label_length(t: &[u8], colon: usize) -> usize
 }
 
 // The second piece from `at` on; empty where there is none.
+#[tactic(auto, using(crate::proofs::Next::next_part, crate::proofs::Next::second_part, crate::proofs::Next::second_is))]
 fn second_piece(t: &[u8], at: usize) -> &[u8]
     requires { at ≤ length t.now }
     ensures { nth 1 (pieces (drop at t.now)) ≡ piece_in result.now }
@@ -78,6 +80,7 @@ fn second_piece(t: &[u8], at: usize) -> &[u8]
 }
 
 /// ORG's number, the second piece from `at` on; without such a piece it has no digits.
+#[tactic(auto, using(crate::proofs::Next::number_in))]
 pub fn second_number(t: &[u8], at: usize) -> Result<u32, Failure>
     requires { at ≤ length t.now }
     ensures { result ≡ number_of (reading_in (nth 1 (pieces (drop at t.now)))) }
@@ -86,6 +89,7 @@ pub fn second_number(t: &[u8], at: usize) -> Result<u32, Failure>
 }
 
 /// DC's value, the second piece from `at` on; without such a piece it has no digits.
+#[tactic(auto, using(crate::proofs::Next::value_in))]
 pub fn second_value(t: &[u8], at: usize) -> Result<u32, Failure>
     requires { at ≤ length t.now }
     ensures { result ≡ number_of (value_reading_in (nth 1 (pieces (drop at t.now)))) }
@@ -127,6 +131,7 @@ fn data_size(t: &[u8]) -> u32
 }
 
 // The data of a text: its size, and the value by its directive, from `at` on.
+#[tactic(auto, using(crate::proofs::Data::task_none, crate::proofs::Data::task_some), unfolding(rules::specs::Text::bytes))]
 fn data_task(t: &[u8], at: usize) -> Task
     requires { at ≤ length t.now }
     ensures { result ≡ data_of t.now (drop at t.now) }
@@ -142,6 +147,7 @@ fn data_task(t: &[u8], at: usize) -> Task
 }
 
 /// Step 5 on a text: the length of the label in front, 0 without one, and where the directive starts.
+// A length and no Option: the rules know an empty label and none alike (`nonempty`).
 #[derive(Clone, Copy, Debug, PartialEq, Eq, Hash)]
 pub struct DataHead {
     pub label: usize,
@@ -149,6 +155,7 @@ pub struct DataHead {
 }
 
 // The label and the directive of a text without a colon.
+#[tactic(auto, using(crate::proofs::Directive::head_single, crate::proofs::Directive::head_directive, crate::proofs::Directive::head_piece, crate::proofs::Next::next_part))]
 fn piece_head(t: &[u8]) -> DataHead
     requires { (leading t.now ≡ 0) × (first_cut 58 t.now ≡ uncut) }
     ensures { PieceHeadGives t.now result }
@@ -173,10 +180,12 @@ fn piece_head(t: &[u8]) -> DataHead
 }
 
 /// The label and the directive of any text.
+#[tactic(auto, using(text::proofs::Find::indexed, text::proofs::Find::unindexed, crate::proofs::Directive::head_colon))]
 pub fn data_head(t: &[u8]) -> DataHead
     requires { leading t.now ≡ 0 }
     ensures { PieceHeadGives t.now result }
 {
+    // Without a colon another head is due, and no None that `?` could hand on.
     let Some(colon) = text::find_byte(t, b':') else {
         return piece_head(t);
     };
@@ -188,6 +197,7 @@ pub fn data_head(t: &[u8]) -> DataHead
 }
 
 // Step 5 on `rest`, after the label of step 4.
+#[tactic(auto, using(crate::proofs::Data::data_bare, crate::proofs::Data::data_named, crate::proofs::Data::label_end))]
 fn data_line(source: &[u8], label: Option<Span>, rest: Span) -> Line
     requires { Trimmed source.now rest × IfSome label (SpanIn source.now) }
     ensures { Says source.now (data_line (names_of source.now label) rest.start (span_text source.now rest)) result }
@@ -197,6 +207,7 @@ fn data_line(source: &[u8], label: Option<Span>, rest: Span) -> Line
     let head = data_head(t);
     let length = head.label;
     let task = data_task(t, head.directive);
+    // No `then_some`: the end is summed only where there is a label.
     let second = if 0 < length {
         Some(Span {
             start,
@@ -230,6 +241,7 @@ fn line_with(label: Option<Span>, task: Task) -> Line
 }
 
 // Steps 5 and 6 on `rest`, after the label of step 4; without DC. or DS. in the line there is none in its rest.
+#[tactic(auto, using(crate::proofs::Answers::says_data, crate::proofs::Answers::says_instruction, crate::proofs::Answers::says_undefined), unfolding(rules::specs::Line::is_data, rules::specs::Text::bytes))]
 fn rest_line(source: &[u8], label: Option<Span>, rest: Span, defines: bool) -> Line
     requires { Trimmed source.now rest × IfSome label (SpanIn source.now) × (is_data (span_text source.now rest) ≡ true → defines ≡ true) }
     ensures { Says source.now (rest_line (names_of source.now label) rest.start (span_text source.now rest)) result }
@@ -250,6 +262,7 @@ struct Split {
 }
 
 // Step 4's cut at the colon, of a line's text from `start` to before `end`.
+#[tactic(auto, using(crate::proofs::Answers::split_whole, crate::proofs::Answers::Labelled, crate::proofs::Answers::label_in, crate::proofs::Answers::after_in, crate::proofs::Answers::split_label))]
 fn split_label(source: &[u8], start: usize, end: usize, colon: usize) -> Split
     requires { Whole source.now start end colon }
     ensures { SplitLabelGives source.now start end result }
@@ -272,6 +285,7 @@ fn split_label(source: &[u8], start: usize, end: usize, colon: usize) -> Split
 }
 
 // Step 4, then the others; `rest_line` is called at one place, so that it is inlined.
+#[tactic(auto, using(crate::proofs::Answers::says_label, crate::proofs::Answers::says_labelled, crate::proofs::Answers::rest_told))]
 fn label_line(source: &[u8], start: usize, end: usize, colon: usize, defines: bool) -> Line
     requires { Whole source.now start end colon × (is_data (part source.now start end) ≡ true → defines ≡ true) }
     ensures { Says source.now (label_line start (part source.now start end)) result }
@@ -295,6 +309,7 @@ fn org_task(number: Result<u32, Failure>) -> Task
 }
 
 /// The line that starts at `at`, whose outline is `o`: steps 1 to 3, then the others.
+#[tactic(auto, using(crate::proofs::Answers::text_in, crate::proofs::Answers::Outlined, crate::proofs::Answers::inner_trimmed, crate::proofs::Answers::line_told, crate::proofs::Answers::line_whole, crate::proofs::Answers::says_empty, crate::proofs::Answers::says_note, crate::proofs::Answers::says_end, crate::proofs::Answers::says_org, crate::proofs::Answers::says_rest), unfolding(rules::specs::Text::bytes))]
 pub fn read_line(source: &[u8], at: usize, o: Outline) -> Line
     requires { OutlineLineGives source.now at o × (at ≤ length source.now) }
     ensures { ReadLineGives source.now at result }

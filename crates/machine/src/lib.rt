@@ -1,7 +1,7 @@
 #![tactic(auto)]
 
-// The machine of W-213 as definitions: its forms with their words, its state, what a step does, and a run stand in specs/. Here
-// are the types that its code shares with them.
+//! The machine of W-213 as definitions: its forms with their words, its state, what a step does, and a run stand in specs/. Here
+//! are the types that its code shares with them.
 
 /// The bytes of memory.
 pub const MEMORY: usize = 16384;
@@ -70,6 +70,7 @@ pub struct Status {
 }
 
 /// The step that is next.
+// Four ends of one judgement: only one has a form, and none is the lack of it.
 #[derive(Clone, Copy, Debug, PartialEq, Eq, Hash)]
 pub enum Judged {
     /// A form's, which may be made.

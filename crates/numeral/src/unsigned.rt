@@ -1,4 +1,4 @@
-// Unsigned numbers: digits below a bound, with a plus sign, after a prefix, as an immediate.
+//! Unsigned numbers: digits below a bound, with a plus sign, after a prefix, as an immediate.
 ghost use Rattle.std.specs.Prelude.{◌≡◌, ◌^◌, ◌≤◌, ◌||◌, [], ◌∷◌};
 ghost use Rattle.rules.specs.Number.{some_digits, ranged, below, unsigned_reading, hex_tail, by_prefix, reading32, reading16, immediate};
 ghost use Rattle.std.specs.Option.{option_map};
@@ -9,9 +9,10 @@ ghost use Rattle.numeral.specs.Number.{failure_of, number_of, immediate_of, digi
 use crate::Failure;
 use crate::digit::digit_value;
 
-/// One or more digits of the radix, their value below the bound.
+/// One or more digits of the radix, their value below the bound; or what failed: no digits, a bad digit, or a value not below the bound.
 // Their value is taken up to the first that is not below the bound, so that no number of digits overflows; the bytes after it are only
-// looked at.
+// looked at: so the loop is by place. `as` narrows a value below the bound.
+#[tactic(auto, using(crate::proofs::Reading::empty, crate::proofs::Reading::begin, crate::proofs::Reading::end, crate::proofs::Reading::bad_digit_lem, crate::proofs::Reading::past, crate::proofs::Reading::step))]
 pub fn read_digits(t: &[u8], radix: u32, bound: u64) -> Result<u32, Failure>
     requires { (radix ≤ 16) × (bound ≤ 2 ^ 32) }
     ensures { result ≡ number_of (ranged (below bound) (some_digits radix t.now)) }
@@ -65,7 +66,8 @@ pub fn after_byte(t: &[u8], b: u8) -> Option<&[u8]>
     }
 }
 
-/// Digits after an optional plus sign.
+/// Digits after an optional plus sign; or what failed: no digits, a bad digit, or a value not below the bound.
+#[tactic(auto, using(crate::proofs::Lead::digits_after), unfolding(rules::specs::Number::unsigned_reading))]
 pub fn read_number(t: &[u8], radix: u32, bound: u64) -> Result<u32, Failure>
     requires { (radix ≤ 16) × (bound ≤ 2 ^ 32) }
     ensures { result ≡ number_of (unsigned_reading radix bound t.now) }
@@ -74,6 +76,7 @@ pub fn read_number(t: &[u8], radix: u32, bound: u64) -> Result<u32, Failure>
 }
 
 /// How many bytes a hexadecimal prefix takes: 1 for `$`, 2 for `0x`, 0 where there is none.
+// No Option: it is a length, and that of no prefix is 0.
 #[tactic(auto, using(crate::proofs::Prefix::one, crate::proofs::Prefix::two, crate::proofs::Prefix::neither, crate::proofs::Prefix::no_byte, crate::proofs::Prefix::one_byte))]
 pub fn prefix_length(t: &[u8]) -> usize
     ensures { result ≡ prefix_length t.now }
@@ -97,6 +100,8 @@ pub fn hex_tail(t: &[u8]) -> Option<&[u8]>
 }
 
 // Hexadecimal after a prefix, else decimal. Two calls, so that each loop over digits has its radix as a constant.
+// `read_signed_prefixed` and `plain_number` of `sum` have these two arms too, with readers of their own: one function for the three would
+// take the reader as a trait with its law, which is longer.
 #[tactic(auto, unfolding(rules::specs::Number::by_prefix))]
 fn read_prefixed(t: &[u8], bound: u64) -> Result<u32, Failure>
     requires { bound ≤ 2 ^ 32 }
@@ -117,6 +122,7 @@ pub fn parse_u32(t: &[u8]) -> Result<u32, Failure>
 }
 
 /// A number of 16 bits, as JMP has it.
+// One reader's answer for all widths: who wants 16 bits narrows what is proved to fit.
 #[tactic(auto, unfolding(rules::specs::Number::reading16))]
 pub fn parse_u16(t: &[u8]) -> Result<u32, Failure>
     ensures { result ≡ number_of (reading16 t.now) }
@@ -125,6 +131,7 @@ pub fn parse_u16(t: &[u8]) -> Result<u32, Failure>
 }
 
 /// An immediate of 16 bits; None where the operand is no immediate.
+// A u32, as `parse_u16` answers.
 #[tactic(auto, unfolding(rules::specs::Number::immediate, rules::specs::Text::bytes))]
 pub fn parse_immediate_u16(t: &[u8]) -> Option<Result<u32, Failure>>
     ensures { result ≡ immediate_of (immediate reading16 t.now) }
@@ -141,6 +148,7 @@ pub fn parse_immediate_u32(t: &[u8]) -> Option<Result<u32, Failure>>
 }
 
 /// Whether JMP takes its operand for a number, and not for a label.
+#[tactic(auto, using(crate::proofs::Prefix::unprefixed, crate::proofs::Prefix::prefixed, crate::proofs::Reading::decimal_digits), unfolding(rules::specs::Encode::is_some))]
 pub fn looks_numeric(t: &[u8]) -> bool
     ensures { result ≡ (is_some (hex_tail t.now) || all_digits t.now) }
 {

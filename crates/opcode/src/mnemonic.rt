@@ -1,4 +1,4 @@
-// Mnemonics, "compared as fixed byte strings": the length picks a chain of literals, each compared with the piece in upper case.
+//! Mnemonics, "compared as fixed byte strings": the length picks a chain of literals, each compared with the piece in upper case.
 ghost use Rattle.std.specs.Prelude.{◌≡◌};
 ghost use Rattle.rules.specs.Text.{uppers};
 ghost use Rattle.rules.specs.Encode.{branches, mnemonics, operation_in};
@@ -21,11 +21,13 @@ pub enum Operation {
     Sub,
     Cmp,
     Jmp,
+    // A number below 16 and no enum: a branch table lends any of the 16.
     Branch(u8),
 }
 
 /// The operation of a mnemonic as written, in either case; None where it names none.
 // Inlined with its chains: else assembling a script takes 5 in 100 more instructions.
+#[tactic(auto, using(crate::proofs::Mnemonics::by_length, crate::proofs::Mnemonics::is_branch_lem, crate::proofs::Mnemonics::other_three_lem, crate::proofs::Mnemonics::among, crate::proofs::Mnemonics::among_branches, crate::proofs::Mnemonics::none_fits))]
 #[inline(always)]
 pub fn find_operation(mnemonic: &[u8]) -> Option<Operation>
     ensures { result ≡ operation_of (operation_in mnemonics (uppers mnemonic.now)) }

@@ -1,4 +1,4 @@
-// Registers as operands: "Dn or An is two bytes, upper case, digit 0 to 7", and (An).
+//! Registers as operands: "Dn or An is two bytes, upper case, digit 0 to 7", and (An).
 ghost use Rattle.std.specs.Prelude.{◌≡◌, [], ◌∷◌, Some};
 ghost use Rattle.rules.specs.Text.{after};
 ghost use Rattle.rules.specs.Encode.{register_digit, data_register, address_register, indirect};
@@ -23,7 +23,7 @@ fn from_digit(b: u8) -> Option<u16>
     ensures { result ≡ register_digit (Some (b ∷ [])) }
 {
     let d = digit_value(b);
-    if d < 8 { Some(u16::from(d)) } else { None }
+    (d < 8).then_some(u16::from(d))
 }
 
 // The letter, then a digit.

@@ -1,4 +1,4 @@
-// Words: fields put into an opcode by shifts and masks, each word equal to the sum of its parts.
+//! Words: fields put into an opcode by shifts and masks, each word equal to the sum of its parts.
 ghost use Rattle.std.specs.Prelude.{◌≡◌, ◌+◌, ◌*◌, ◌/◌, ◌%◌, ◌<◌};
 ghost use Rattle.rules.specs.Encode.{R};
 
@@ -50,14 +50,14 @@ pub fn branch_word(condition: u8, byte: u8) -> u16
     0x6000 | (u16::from(condition) << 8) | u16::from(byte)
 }
 
-/// The high word of a value.
+/// The high word of a value; `as` narrows what is below 65,536.
 pub fn high_word(value: u32) -> u16
     ensures { result ≡ value / 65536 }
 {
     (value >> 16) as u16
 }
 
-/// The low word of a value.
+/// The low word of a value, likewise.
 pub fn low_word(value: u32) -> u16
     ensures { result ≡ value % 65536 }
 {

@@ -1,3 +1,4 @@
 pub mod Lines
 pub mod Defines
+pub mod Starts
 pub mod Looking

@@ -1,39 +1,45 @@
 #![tactic(auto)]
 
-// One look at each byte of a line, before its steps are tried: where its text starts, its first colon, whether DC. or DS.
-// is in it, and where it ends. All are places in the source.
+//! One look at each byte of a line, before its steps are tried: where its text starts, its first colon, whether DC. or DS.
+//! is in it, and where it ends. All are places in the source.
 ghost use Rattle.std.specs.Prelude.{◌≡◌, ◌||◌, ◌+◌, ◌≤◌, length};
 ghost use Rattle.rules.specs.Text.{leading};
-ghost use Rattle.outline.specs.Lines.{line_from};
+ghost use Rattle.outline.specs.Lines.{line_from, starts_text, unspaced};
 ghost use Rattle.outline.specs.Outline.{is_define, back, next_colon, outline_by, OutlineLineGives};
 
-// Where the text of the line that starts at `at` begins, after its leading blanks.
-fn after_blanks(source: &[u8], at: usize) -> usize
-    requires { at ≤ length source.now }
-    ensures { result ≡ at + leading (line_from source.now at) }
-{
-    for i in at..source.len() {
-        if source[i] == 10 {
-            return i;
-        }
-        if !text::is_blank(source[i]) {
-            return i;
-        }
+use text::ByteTest;
+
+// The bytes that end a line's leading blanks: what is no blank, and the line's end. This and the type below are names and
+// have no values.
+struct TextStart;
+
+impl ByteTest for TextStart {
+    ghost test = { starts_text };
+
+    fn passes(b: u8) -> bool {
+        b == b'\n' || !text::is_blank(b)
     }
-    source.len()
 }
 
-// The same, the usual blank first.
+// The bytes that are no spaces.
+struct Unspaced;
+
+impl ByteTest for Unspaced {
+    ghost test = { unspaced };
+
+    fn passes(b: u8) -> bool {
+        b != b' '
+    }
+}
+
+// Where the text of the line that starts at `at` begins, after its leading blanks: the usual blank first.
+#[tactic(auto, using(crate::proofs::Starts::text_starts))]
 fn text_start(source: &[u8], at: usize) -> usize
     requires { at ≤ length source.now }
     ensures { result ≡ at + leading (line_from source.now at) }
 {
-    for i in at..source.len() {
-        if source[i] != b' ' {
-            return after_blanks(source, i);
-        }
-    }
-    source.len()
+    let spaces = text::skip_to::<Unspaced>(source, at);
+    text::skip_to::<TextStart>(source, spaces)
 }
 
 // The two bytes are DC or DS, in either case.
@@ -46,6 +52,7 @@ fn is_define(p: u8, q: u8) -> bool
 }
 
 // DC or DS stands before i, from `start` on.
+#[tactic(auto, unfolding(crate::specs::Outline::is_define, rules::specs::Text::upper))]
 fn has_define(source: &[u8], start: usize, i: usize) -> bool
     requires { (start ≤ i) × (i ≤ length source.now) }
     ensures { result ≡ is_define (back source.now start i 2) (back source.now start i 1) }
@@ -75,6 +82,7 @@ pub struct Outline {
     /// Where its text starts, after the blanks that lead.
     pub start: usize,
     /// Its first colon; its end where there is none.
+    // No Option: one comparison with the end says both that there is one and that it stands in the line.
     pub colon: usize,
     /// Whether DC. or DS. is in it.
     pub defines: bool,
@@ -95,6 +103,7 @@ fn outline_by(start: usize, none: usize, colon: usize, defines: bool, end: usize
 }
 
 /// The outline of the line that starts at `at`. No byte over the colon's matters.
+#[tactic(auto, using(crate::proofs::Looking::looked_first, crate::proofs::Looking::colon_found, crate::proofs::Looking::colon_kept, crate::proofs::Looking::defines_found, crate::proofs::Looking::defines_kept, crate::proofs::Looking::looked_byte, crate::proofs::Looking::looked_letter, crate::proofs::Looking::ended, crate::proofs::Looking::over))]
 pub fn outline_line(source: &[u8], at: usize) -> Outline
     requires { at ≤ length source.now }
     ensures { OutlineLineGives source.now at result }
@@ -103,6 +112,7 @@ pub fn outline_line(source: &[u8], at: usize) -> Outline
     let start = text_start(source, at);
     let mut colon = none;
     let mut defines = false;
+    // By place: a colon's and the end's are told.
     for i in start..source.len() {
         let b = source[i];
         if b <= b':' {

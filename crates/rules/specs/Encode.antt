@@ -77,7 +77,7 @@ closed (Some (b ∷ c ∷ d ∷ s)) = None
 unfoldable pub indirect : Text → Option ℕ
 indirect s = closed (after (bytes "(A") s)
 
--- one after the other, and the first that is there: the library's `bind` and `or_else`
+-- one after the other, and the first that is there: Option's `bind` and `or_else`, as operators
 infixr 20 ◌>>=◌
 abbrev pub ◌>>=◌ : {A B : Type 0} → Option A → (A → Option B) → Option B
 ◌>>=◌ o f = bind o f

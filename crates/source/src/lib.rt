@@ -32,7 +32,7 @@ fn first_high(s: &[u8]) -> Option<usize>
     if highest(s) < 128 { None } else { find_high(s) }
 }
 
-// The count is small, so that many bytes are looked at at a time.
+// The count is small, so that many bytes are looked at at a time; `symbols` counts in texts of any length, where a u16 is too small.
 fn newlines(s: &[u8]) -> u16
     requires { length s.now ≤ max_source }
     ensures { result ≡ count_by (λ b. nat_eq b 10) s.now }

@@ -1,16 +1,16 @@
 #![tactic(auto)]
 
-// Sums in square brackets (W-211): the readers of sums, products and atoms, which call each other, and what a text says as a number of DC.
+//! Sums in square brackets (W-211): the readers of sums, products and atoms, which call each other, and what a text says as a number of DC.
 ghost use Rattle.std.specs.Prelude.{◌≡◌, ℕ, ◌≤◌, ◌+◌, ◌^◌, length, drop, Some};
 ghost use Rattle.std.specs.Option.{option_map};
 ghost use Rattle.rules.specs.Number.{ranged, below};
 ghost use Rattle.rules.specs.Line.{value_reading};
 ghost use Rattle.rules.specs.Sum.{Parse, stepped, is_times, is_sign, is_operator, plain_number, number_first, paren_closed, atom_of, product_of, sum_of, exact_value, bracketed, sum_reading};
-ghost use Rattle.text.specs.Pieces.{until};
 ghost use Rattle.numeral.specs.Number.{number_of};
 ghost use Rattle.sum.specs.Sum.{step_of, Says};
 
 use numeral::Failure;
+use text::ByteTest;
 
 // How deep parentheses nest at most.
 const MAX_NESTING: usize = 16;
@@ -73,20 +73,18 @@ fn is_operator(b: u8) -> bool
 
 // ---- Numbers.
 
-// Where the number that starts at `at` ends.
-fn number_end(t: &[u8], at: usize) -> usize
-    requires { at ≤ length t.now }
-    ensures { result ≡ at + until is_operator (drop at t.now) }
-{
-    for i in at..t.len() {
-        if is_operator(t[i]) {
-            return i;
-        }
+// The bytes that end a number; a type's name, and no value.
+struct NumberEnd;
+
+impl ByteTest for NumberEnd {
+    ghost test = { is_operator };
+
+    fn passes(b: u8) -> bool {
+        is_operator(b)
     }
-    t.len()
 }
 
-// A number without a sign.
+// A number without a sign. The arms of numeral's `read_prefixed` with another reader: why they are not one stands there.
 #[tactic(auto, unfolding(rules::specs::Sum::plain_number, rules::specs::Number::by_prefix))]
 fn plain_number(t: &[u8]) -> Result<u32, Failure>
     ensures { result ≡ number_of (ranged (below (2 ^ 32)) (plain_number t.now)) }
@@ -102,13 +100,14 @@ fn read_number(t: &[u8], at: usize) -> Option<Front>
     requires { at ≤ length t.now }
     ensures { Says t.now at (number_first (drop at t.now)) result }
 {
-    let end = number_end(t, at);
+    let end = text::skip_to::<NumberEnd>(t, at);
     match plain_number(&t[at..end]) {
         Ok(v) => Some(Front {
             worth: Some(v),
             end,
         }),
         Err(Failure::OutOfRange) => Some(Front { worth: None, end }),
+        // No one arm for both: the proof did not close.
         Err(Failure::NoDigits) => None,
         Err(Failure::BadDigit) => None,
     }
@@ -117,6 +116,7 @@ fn read_number(t: &[u8], at: usize) -> Option<Front>
 // ---- The readers of atoms, products and sums.
 
 // What was read in parentheses, and the one that closes it.
+#[tactic(auto, using(crate::proofs::Readers::unclosed, crate::proofs::Readers::other_byte, crate::proofs::Readers::shut))]
 fn close_paren(t: &[u8], inner: Front) -> Option<Front>
     requires { inner.end ≤ length t.now }
     ensures { (at : ℕ) → (x : Parse) → Says t.now (at + 1) x (Some inner) → Says t.now at (paren_closed x) result }
@@ -156,6 +156,7 @@ fn read_product(t: &[u8], at: usize, depth: usize) -> Option<Front>
     ensures { Says t.now at (product_of depth (drop at t.now)) result }
 {
     let Front { mut worth, mut end } = read_atom(t, at, depth)?;
+    // Each item says where the next operator stands.
     while end < t.len() {
         let op = t[end];
         if !is_times(op) {
@@ -175,6 +176,7 @@ fn read_sum(t: &[u8], at: usize, depth: usize) -> Option<Front>
     ensures { Says t.now at (sum_of depth (drop at t.now)) result }
 {
     let Front { mut worth, mut end } = read_product(t, at, depth)?;
+    // Each item says where the next operator stands.
     while end < t.len() {
         let op = t[end];
         if !is_sign(op) {
@@ -190,9 +192,11 @@ fn read_sum(t: &[u8], at: usize, depth: usize) -> Option<Front>
 // ---- The whole text.
 
 // The worth of a whole text in brackets; None where it is malformed.
+#[tactic(auto, using(crate::proofs::Readers::no_text, crate::proofs::Readers::no_bracket, crate::proofs::Readers::unread_sum, crate::proofs::Readers::not_last, crate::proofs::Readers::no_end, crate::proofs::Readers::all_read))]
 fn read_bracketed(t: &[u8]) -> Option<Option<u32>>
     ensures { result ≡ option_map exact_value (bracketed t.now) }
 {
+    // A slice pattern, and no Option that `?` could take.
     let [b'[', ..] = t else {
         return None;
     };
@@ -204,6 +208,7 @@ fn read_bracketed(t: &[u8]) -> Option<Option<u32>>
 }
 
 /// What a text says that starts with `[`: never that it has no digits.
+#[tactic(auto, using(crate::proofs::Readers::sum_none, crate::proofs::Readers::sum_some), unfolding(rules::specs::Sum::sum_reading))]
 pub fn parse_sum(t: &[u8]) -> Result<u32, Failure>
     ensures { result ≡ number_of (sum_reading t.now) }
 {

@@ -3,13 +3,14 @@ use mathlib.Core.Path.{◌≡◌, refl, sym, ap, ◌∙◌}
 use mathlib.Core.Bool.{Bool, true, false}
 use mathlib.Core.List.{[], ◌∷◌}
 use Prim.Native.Nat.{ℕ, zero, suc, ◌+◌, ◌≤◌, ◌<◌}
-use native.Mathlib.Numerals.{add-one}
 use native.Mathlib.Omega.{arith}
 use borrow.Author.Tests.{eq-eqb, ne_eqb, eqb-true, eqb-false}
 use lib.Dec.{eqb}
-use lib.ListN.{length, drop, get_or, drop_of_length-le}
-use lib.Seq.{drop-cons}
+use lib.ListN.{length, drop, get_or}
+use Rattle.std.specs.List.{starts_with, range_with_len, AllWithin, HoldsAt}
+use Rattle.std.specs.Bool.{MatchBool}
 use Rattle.rules.specs.Text.{Text, upper, uppers, same, starts}
+use Rattle.text.proofs.Ranges.{over_range}
 
 pub eqb_sym : (a b : ℕ) → eqb a b ≡ eqb b a
 eqb_sym a b = go (eqb a b) refl
@@ -64,6 +65,17 @@ starts_short (a ∷ p) (b ∷ t) h = go (eqb a b) refl (starts_short p t (omega 
     go true e ih = starts_equal a p b t e ∙ ih
     go false e ih = starts_unequal a p b t e
 
+-- as `starts_with` of a slice says it
+pub starts_slice : (p t : Text) → starts_with eqb t p ≡ starts p t
+unfolding starts
+starts_slice [] t = refl
+starts_slice (a ∷ p) [] = refl
+starts_slice (a ∷ p) (b ∷ t) = go (eqb a b) refl (starts_slice p t)
+  where
+    go : (y : Bool) → eqb a b ≡ y → starts_with eqb t p ≡ starts p t → starts_with eqb (b ∷ t) (a ∷ p) ≡ starts (a ∷ p) (b ∷ t)
+    go true e ih = rw e (ih ∙ sym (starts_equal a p b t e))
+    go false e ih = rw e (sym (starts_unequal a p b t e))
+
 pub same_longer : (s t : Text) → (length s ≡ length t → ⊥) → same s t ≡ false
 unfolding same
 same_longer [] [] d = absurd (d refl)
@@ -104,40 +116,37 @@ unfolding same
 same_self [] = refl
 same_self (b ∷ t) = same_equal b t b t (eq-eqb b b refl) ∙ same_self t
 
--- ---- the loops of `starts_with` and `starts_upper`: m is the text as it is compared
--- what they keep: so far the bytes were p's
-pub record Matched (p m : Text) (i : ℕ) : Type 0 where
-  pub long : length p ≤ length m
-  pub upto : i ≤ length p
-  pub so_far : starts (drop i p) (drop i m) ≡ starts p m
-
-module _ {p m : Text} where
-  pub matched_start : length p ≤ length m → Matched p m 0
-  matched_start l = record { long = l; upto = omega arith; so_far = refl }
-
-  module _ {i : ℕ} (inv : Matched p m i) where
-    pub matched_all : length p ≤ i → true ≡ starts p m
-    unfolding starts
-    matched_all h = rw (drop_of_length-le p h) at inv.so_far
-
-    module _ (h : i < length p) {u : ℕ} (q : u ≡ get_or m i 0) where
-      matched_here : starts (get_or p i 0 ∷ drop (suc i) p) (u ∷ drop (suc i) m) ≡ starts p m
-      matched_here = let g : i < length m = omega arith in rw q (rw (drop-cons p i 0 h, drop-cons m i 0 g) at inv.so_far)
-
-      pub matched_not : (u ≡ get_or p i 0 → ⊥) → false ≡ starts p m
-      matched_not d = sym (starts_unequal (get_or p i 0) (drop (suc i) p) u (drop (suc i) m) (ne_eqb (get_or p i 0) u (λ e. d (sym e)))) ∙ matched_here
-
-      pub matched_more : u ≡ get_or p i 0 → Matched p m (i + 1)
-      matched_more d =
-          let same : starts (drop (suc i) p) (drop (suc i) m) ≡ starts p m = sym (starts_equal (get_or p i 0) (drop (suc i) p) u (drop (suc i) m) (eq-eqb (get_or p i 0) u (sym d))) ∙ matched_here in
-          record { long = inv.long; upto = omega arith; so_far = rw (add-one i) same }
-
--- a text in upper case, by the text: its length, and the byte that is compared
+-- a text in upper case, by the text
 pub uppers_short : (p t : Text) → length t < length p → starts p (uppers t) ≡ false
 uppers_short p t h = starts_short p (uppers t) (rw (length_uppers t) h)
 
-pub uppers_start : (p t : Text) → length p ≤ length t → Matched p (uppers t) 0
-uppers_start p t l = matched_start (rw (length_uppers t) l)
+-- ---- as `all` says it over the places
+starts_by : (r : Bool) (p m : Text) → length p ≤ length m
+    → MatchBool r ((i : ℕ) → i < length p → get_or m i 0 ≡ get_or p i 0) ((i : ℕ) × (i < length p) × (get_or m i 0 ≡ get_or p i 0 → ⊥))
+    → r ≡ starts p m
+unfolding starts
+starts_by true [] m l h = refl
+starts_by false [] m l (i, k, d) = absurd (omega arith)
+starts_by r (a ∷ p) [] l h = absurd (omega arith)
+starts_by true (a ∷ p) (b ∷ m) l h =
+    let e : b ≡ a = h 0 (omega arith) in
+    starts_by true p m (omega arith) (λ i k. h (suc i) (omega arith)) ∙ sym (starts_equal a p b m (eq-eqb a b (sym e)))
+starts_by false (a ∷ p) (b ∷ m) l (zero, k, d) = sym (starts_unequal a p b m (ne_eqb a b (λ e. d (sym e))))
+starts_by false (a ∷ p) (b ∷ m) l (suc i, k, d) = go (eqb a b) refl (starts_by false p m (omega arith) (i, omega arith, d))
+  where
+    go : (y : Bool) → eqb a b ≡ y → false ≡ starts p m → false ≡ starts (a ∷ p) (b ∷ m)
+    go true e ih = ih ∙ sym (starts_equal a p b m e)
+    go false e ih = sym (starts_unequal a p b m e)
 
-pub upper_here : (t : Text) (i : ℕ) {u : ℕ} → u ≡ upper (get_or t i 0) → u ≡ get_or (uppers t) i 0
-upper_here t i q = q ∙ sym (get_d_uppers t i)
+pub starts_upper_by : (r : Bool) (p t : Text) → length p ≤ length t
+    → MatchBool r (AllWithin (λ i. upper (get_or t i 0) ≡ get_or p i 0) (range_with_len 0 (length p)) 0 (length (range_with_len 0 (length p))))
+    ((k : ℕ) × (k < length (range_with_len 0 (length p))) × HoldsAt (λ i. upper (get_or t i 0) ≡ get_or p i 0 → ⊥) (range_with_len 0 (length p)) k)
+    → r ≡ starts p (uppers t)
+starts_upper_by r p t l h =
+    starts_by r p (uppers t) (rw (length_uppers t) l)
+    (go r (over_range r (λ i. upper (get_or t i 0) ≡ get_or p i 0) (λ i. upper (get_or t i 0) ≡ get_or p i 0 → ⊥) 0 (length p) h))
+  where
+    go : (y : Bool) → MatchBool y ((i : ℕ) → i < length p → upper (get_or t (0 + i) 0) ≡ get_or p (0 + i) 0) ((i : ℕ) × (i < length p) × (upper (get_or t (0 + i) 0) ≡ get_or p (0 + i) 0 → ⊥))
+        → MatchBool y ((i : ℕ) → i < length p → get_or (uppers t) i 0 ≡ get_or p i 0) ((i : ℕ) × (i < length p) × (get_or (uppers t) i 0 ≡ get_or p i 0 → ⊥))
+    go true f = λ i k. let z : 0 + i ≡ i = omega arith in get_d_uppers t i ∙ rw z at (f i k)
+    go false (i, k, d) = let z : 0 + i ≡ i = omega arith in (i, k, λ e. (rw z at d) (sym (get_d_uppers t i) ∙ e))

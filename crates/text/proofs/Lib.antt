@@ -1,6 +1,7 @@
 pub mod Until
 pub mod Trim
 pub mod Kept
+pub mod Ranges
 pub mod Compare
 pub mod Contains
 pub mod Find

@@ -6,7 +6,7 @@ use Prim.Native.Nat.{ℕ, suc, ◌+◌, ◌≤◌}
 use native.Mathlib.Omega.{arith}
 use lib.ListN.{length, take, drop, length-take, length-drop}
 use Rattle.rules.specs.Text.{Text, blank, leading, trim_start, keep_end, trim_end, trim}
-use Rattle.text.specs.Pieces.{until}
+use Rattle.text.specs.Pieces.{until, filled}
 use Rattle.text.proofs.Until.{until_here, until_later, until_le}
 
 -- ---- the clauses, by the test
@@ -79,9 +79,6 @@ pub trim_end_le : (t : Text) → length (trim_end t) ≤ length t
 trim_end_le t = omega (arith, rw length-take at (ap length (take_trim_end t)))
 
 -- ---- the blanks in front, counted as the bytes before the first that is none
-abbrev pub filled : ℕ → Bool
-filled b = not (blank b)
-
 pub leading_until : (t : Text) → until filled t ≡ leading t
 unfolding leading until
 leading_until [] = refl
@@ -90,10 +87,6 @@ leading_until (b ∷ s) = go (blank b) refl (leading_until s)
     go : (y : Bool) → blank b ≡ y → until filled s ≡ leading s → until filled (b ∷ s) ≡ leading (b ∷ s)
     go true e ih = until_later filled b s (ap not e) ∙ ap suc ih ∙ sym (leading_blank b s e)
     go false e ih = until_here filled b s (ap not e) ∙ sym (leading_none b s e)
-
--- as `skip_blanks` answers it
-pub skipped : (t : Text) (at r : ℕ) → r ≡ at + until filled (drop at t) → r ≡ at + leading (drop at t)
-skipped t at r e = rw (leading_until (drop at t)) at e
 
 pub leading_le : (t : Text) → leading t ≤ length t
 leading_le t = rw (leading_until t) at (until_le filled t)

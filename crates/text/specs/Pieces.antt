@@ -1,5 +1,5 @@
 -- The next of a text's blank-separated pieces, by position. Assumes nothing.
-use Rattle.std.specs.Prelude.{ℕ, suc, ◌+◌, Bool, true, false, [], ◌∷◌, drop}
+use Rattle.std.specs.Prelude.{ℕ, suc, ◌+◌, Bool, true, false, not, [], ◌∷◌, drop}
 use Rattle.rules.specs.Text.{Text, blank, leading}
 use Rattle.text.specs.declared.Span.{Span}
 
@@ -7,6 +7,10 @@ use Rattle.text.specs.declared.Span.{Span}
 unfoldable pub until : (ℕ → Bool) → Text → ℕ
 until f [] = 0
 until f (b ∷ s) = elim (f b) [ true ↦ 0 | false ↦ suc (until f s) ]
+
+-- no blank
+abbrev pub filled : ℕ → Bool
+filled b = not (blank b)
 
 -- how many bytes lead that are no blanks
 abbrev pub run : Text → ℕ

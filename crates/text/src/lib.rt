@@ -1,11 +1,11 @@
 #![tactic(auto)]
 
-// Bytes of text by paper 01: blanks and trimming, comparing, finding a byte, blank-separated pieces.
+//! Bytes of text by paper 01: blanks and trimming, comparing, finding a byte, blank-separated pieces.
 
-ghost use Rattle.std.specs.Prelude.{◌≡◌, ◌+◌, ◌≤◌, length, drop};
+ghost use Rattle.std.specs.Prelude.{◌≡◌, ℕ, ◌+◌, ◌≤◌, ◌<◌, Bool, length, drop, position};
 ghost use Rattle.rules.specs.Text.{blank, leading, trim_end, trim, upper, uppers, same, starts, contains};
 ghost use Rattle.text.specs.Find.{index_of, further};
-ghost use Rattle.text.specs.Pieces.{run, next_piece};
+ghost use Rattle.text.specs.Pieces.{until, filled, run, next_piece};
 ghost use Rattle.text.specs.Spans.{PartIn, trimmed_span};
 
 // ---- Blanks, and the text between the outer ones.
@@ -18,17 +18,64 @@ pub fn is_blank(b: u8) -> bool
     b == b' ' || 9 <= b && b <= 13 // the usual blank first
 }
 
+// ---- The first byte that passes a test.
+
+/// A test of a byte, as a type: what a search looks for.
+pub trait ByteTest {
+    ghost test: { ℕ → Bool };
+
+    /// Whether the byte passes.
+    fn passes(b: u8) -> bool
+        ensures { result ≡ test b };
+}
+
+// The blanks. This and the type below are names and have no values.
+struct Blank;
+
+impl ByteTest for Blank {
+    ghost test = { blank };
+
+    fn passes(b: u8) -> bool {
+        is_blank(b)
+    }
+}
+
+// The bytes that are no blanks.
+struct Filled;
+
+impl ByteTest for Filled {
+    ghost test = { filled };
+
+    fn passes(b: u8) -> bool {
+        !is_blank(b)
+    }
+}
+
+// The index of the first byte that passes.
+fn find_passing<T: ByteTest>(t: &[u8]) -> Option<usize>
+    ensures { result ≡ position T.test t.now }
+{
+    t.iter().position(|&b| T::passes(b))
+}
+
+/// The first position from `at` on whose byte passes, or the text's end.
+pub fn skip_to<T: ByteTest>(t: &[u8], at: usize) -> usize
+    requires { at ≤ length t.now }
+    ensures { result ≡ at + until T.test (drop at t.now) }
+{
+    match find_passing::<T>(&t[at..]) {
+        Some(n) => at + n,
+        None => t.len(),
+    }
+}
+
 /// The first position from `at` on that has no blank.
+#[tactic(auto, using(crate::proofs::Trim::leading_until))]
 pub fn skip_blanks(t: &[u8], at: usize) -> usize
     requires { at ≤ length t.now }
     ensures { result ≡ at + leading (drop at t.now) }
 {
-    for i in at..t.len() {
-        if !is_blank(t[i]) {
-            return i;
-        }
-    }
-    t.len()
+    skip_to::<Filled>(t, at)
 }
 
 /// How many blanks stand in front.
@@ -42,6 +89,7 @@ pub fn leading_blanks(t: &[u8]) -> usize
 pub fn kept_length(t: &[u8]) -> usize
     ensures { result ≡ length (trim_end t.now) }
 {
+    // No `rposition`: std says its answer by calls, not as a function of the list, and the proof did not close.
     for i in (0..t.len()).rev() {
         if !is_blank(t[i]) {
             return i + 1;
@@ -51,6 +99,7 @@ pub fn kept_length(t: &[u8]) -> usize
 }
 
 /// The text without the blanks at either end.
+#[tactic(auto, using(crate::proofs::Kept::from_leading, crate::proofs::Kept::to_kept, crate::proofs::Kept::trimmed_is))]
 pub fn trimmed(t: &[u8]) -> &[u8]
     ensures { result.now ≡ trim t.now }
 {
@@ -72,30 +121,15 @@ pub fn upper_case(b: u8) -> u8
 pub fn starts_with(t: &[u8], p: &[u8]) -> bool
     ensures { result ≡ starts p.now t.now }
 {
-    if t.len() < p.len() {
-        return false;
-    }
-    for i in 0..p.len() {
-        if t[i] != p[i] {
-            return false;
-        }
-    }
-    true
+    t.starts_with(p)
 }
 
 /// The text in upper case starts with `p`.
+// By place: a byte of each at the same place; a zip of the two is no shorter.
 pub fn starts_upper(t: &[u8], p: &[u8]) -> bool
     ensures { result ≡ starts p.now (uppers t.now) }
 {
-    if t.len() < p.len() {
-        return false;
-    }
-    for i in 0..p.len() {
-        if upper_case(t[i]) != p[i] {
-            return false;
-        }
-    }
-    true
+    p.len() <= t.len() && (0..p.len()).all(|i| upper_case(t[i]) == p[i])
 }
 
 /// The piece in upper case is `name`.
@@ -105,7 +139,17 @@ pub fn same_upper(piece: &[u8], name: &[u8]) -> bool
     piece.len() == name.len() && starts_upper(piece, name)
 }
 
-/// The text in upper case contains `p`: compared only where the first byte is `p`'s.
+// `p` stands at `at` in the text in upper case: compared only where the first byte is `p`'s.
+fn stands_at(t: &[u8], p: &[u8], at: usize) -> bool
+    requires { (0 < length p.now) × (at < length t.now) }
+    ensures { result ≡ starts p.now (uppers (drop at t.now)) }
+{
+    upper_case(t[at]) == p[0] && starts_upper(&t[at..], p)
+}
+
+/// The text in upper case contains `p`.
+// What is too short for a first byte or a last place is answered before these are looked at, early, and not by `p.is_empty() || ..`: so
+// `last` has its name. By place: `contains` is said of the rests of the text, and a window is no rest.
 pub fn contains_upper(t: &[u8], p: &[u8]) -> bool
     ensures { result ≡ contains p.now (uppers t.now) }
 {
@@ -115,19 +159,15 @@ pub fn contains_upper(t: &[u8], p: &[u8]) -> bool
     if t.len() < p.len() {
         return false;
     }
-    let first = p[0];
     let last = t.len() - p.len();
-    for at in 0..last + 1 {
-        if upper_case(t[at]) == first && starts_upper(&t[at..], p) {
-            return true;
-        }
-    }
-    false
+    (0..last + 1).any(|at| stands_at(t, p, at))
 }
 
 // ---- The first place of a byte.
 
 /// The index in `t` of the first byte `b` from `at` on.
+// No `position`: with it lines with operands take 7 in 1000 more instructions.
+#[tactic(auto, using(crate::proofs::Find::looked_all, crate::proofs::Find::looked_found, crate::proofs::Find::looked_more))]
 pub fn find_byte_from(t: &[u8], at: usize, b: u8) -> Option<usize>
     requires { at ≤ length t.now }
     ensures { result ≡ further at (index_of b (drop at t.now)) }
@@ -157,6 +197,7 @@ pub struct Span {
 }
 
 /// The part from `start` to before `end`, without its outer blanks.
+#[tactic(auto, using(crate::proofs::Kept::from_leading, crate::proofs::Kept::trimmed_within, crate::proofs::Kept::span_trimmed))]
 pub fn trimmed_span(t: &[u8], start: usize, end: usize) -> Span
     requires { PartIn t.now start end }
     ensures { result ≡ trimmed_span t.now start end }
@@ -176,12 +217,7 @@ pub fn skip_piece(t: &[u8], at: usize) -> usize
     requires { at ≤ length t.now }
     ensures { result ≡ at + run (drop at t.now) }
 {
-    for i in at..t.len() {
-        if is_blank(t[i]) {
-            return i;
-        }
-    }
-    t.len()
+    skip_to::<Blank>(t, at)
 }
 
 /// The next piece from `at` on; it starts at the text's end where there is none.

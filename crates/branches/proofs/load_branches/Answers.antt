@@ -1,10 +1,7 @@
 -- `load_branches`: command by command, to the end or the first fault. Assumes nothing.
 use Rattle.std.proofs.Common.{sym, ◌∙◌, arith}
-use Rattle.branches.proofs.Laws.{checking_start, check_end, check_full, check_past, check_broken, check_misnamed, check_more}
+use Rattle.branches.proofs.Laws.{check_end, check_broken, check_misnamed}
 use Rattle.branches.proofs.load_branches.Goals as goal
-
-pub loop-k-init : goal.loop-k-init
-loop-k-init c = checking_start
 
 pub returns-then-is_end : goal.returns-then-is_end
 returns-then-is_end c = check_end _ _ c.loop-k.invariant (sym c.is_end.ensures ∙ c.if-is_end.true)
@@ -17,14 +14,3 @@ pub returns-then-is_misnamed : goal.returns-then-is_misnamed
 returns-then-is_misnamed c =
     check_misnamed _ _ c.loop-k.invariant (omega arith) (sym c.is_end.ensures ∙ c.if-is_end.false) (sym c.is_broken.ensures.broken ∙ c.if-is_broken.false)
     (sym c.is_misnamed.ensures ∙ c.if-is_misnamed.true)
-
-pub loop-k-preserved : goal.loop-k-preserved
-loop-k-preserved c =
-    check_more _ _ c.loop-k.invariant (omega arith) (sym c.is_end.ensures ∙ c.if-is_end.false) (sym c.is_broken.ensures.broken ∙ c.if-is_broken.false)
-    (sym c.is_misnamed.ensures ∙ c.if-is_misnamed.false)
-
-pub returns-then-is_end-2 : goal.returns-then-is_end-2
-returns-then-is_end-2 c = check_full _ _ c.loop-k.invariant (omega arith) (sym c.is_end-2.ensures ∙ c.if-is_end-2.true)
-
-pub returns-else-is_end-2 : goal.returns-else-is_end-2
-returns-else-is_end-2 c = check_past _ _ c.loop-k.invariant (omega arith) (sym c.is_end-2.ensures ∙ c.if-is_end-2.false)

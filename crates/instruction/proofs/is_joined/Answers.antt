@@ -1,18 +1,13 @@
 -- `is_joined` tests one byte after the other. Assumes nothing.
-use borrow.Author.Rules.{rules}
-use Rattle.instruction.proofs.Joined.{judging_start, judging_end, judging_stop, judging_more}
-use Rattle.std.proofs.Common.{ap, not}
-use Rattle.std.proofs.Common.{arith}
+use Rattle.std.proofs.Common.{◌≡◌, ◌-◌, true, false, arith, rules, length, drop}
+use borrow.Author.Tests.{tests}
+use Rattle.std.proofs.lemmas.Iterator.{cases_from_all, YieldsList-from_range}
+use Rattle.instruction.specs.Joined.{is_single}
+use Rattle.instruction.proofs.Joined.{joined_by}
 use Rattle.instruction.proofs.is_joined.Goals as goal
 
-pub loop-i-init : goal.loop-i-init
-loop-i-init c = judging_start _ _ c.requires
-
-pub returns-then-not-is_single : goal.returns-then-not-is_single
-returns-then-not-is_single c = judging_stop c.loop-i.invariant (search rules) c.is_single.ensures (ap not c.if-not-is_single.true)
-
-pub loop-i-preserved : goal.loop-i-preserved
-loop-i-preserved c = judging_more c.loop-i.invariant (search rules) c.is_single.ensures (ap not c.if-not-is_single.false)
-
 pub returns : goal.returns
-returns c = judging_end c.loop-i.invariant (omega arith)
+returns c =
+    joined_by _ _ _ c.requires
+    (cases_from_all _ _ _ (λ i. is_single (drop i c.args.t.now) ≡ true) (λ i. is_single (drop i c.args.t.now) ≡ false) c.all.ensures.ran
+    (YieldsList-from_range c.args.at (length c.args.t.now) (length c.args.t.now - c.args.at) (cc) (omega arith)) (λ x q k. search (rules, tests)) (λ x q k. search (rules, tests)))

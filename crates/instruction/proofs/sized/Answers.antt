@@ -1,21 +1,9 @@
 -- `sized` tries the mnemonics one after the other. Assumes nothing.
 use mathlib.Core.Path.{sym, ◌∙◌}
 use Rattle.rules.specs.Text.{bytes}
-use Rattle.instruction.proofs.Size.{sized_muls, sized_short, sized_cmp, sized_move, sized_rest}
+use Rattle.instruction.proofs.Size.{sized_move, sized_rest}
 use Rattle.instruction.proofs.sized.Goals.{then-same_upper-3-via-then-same_upper-3, then-same_upper-3-via-else-same_upper-3+then-same_upper-4}
 use Rattle.instruction.proofs.sized.Goals as goal
-
-pub returns-then-same_upper : goal.returns-then-same_upper
-unfolding bytes
-returns-then-same_upper c = sized_muls _ _ (sym c.same_upper.ensures ∙ c.if-same_upper.true)
-
-pub returns-in_default : goal.returns-in_default
-unfolding bytes
-returns-in_default c = sized_short _ _ (sym c.same_upper.ensures ∙ c.if-same_upper.false) c.in_default.not-Long
-
-pub returns-then-same_upper-2 : goal.returns-then-same_upper-2
-unfolding bytes
-returns-then-same_upper-2 c = sized_cmp _ _ (sym c.same_upper.ensures ∙ c.if-same_upper.false) c.in-Long.is (sym c.same_upper-2.ensures ∙ c.if-same_upper-2.true)
 
 pub returns-then-same_upper-3 : goal.returns-then-same_upper-3
 unfolding bytes

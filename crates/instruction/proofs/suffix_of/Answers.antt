@@ -1,10 +1,7 @@
 -- `suffix_of` reads what stands between the mnemonic's dot and the tail. Assumes nothing.
 use native.Mathlib.Omega.{arith}
-use Rattle.instruction.proofs.FirstPiece.{head_of_lem, suffix_absent, suffix_there}
+use Rattle.instruction.proofs.FirstPiece.{head_of_lem}
 use Rattle.instruction.proofs.suffix_of.Goals as goal
-
-pub returns-then-head : goal.returns-then-head
-returns-then-head c = suffix_absent _ _ c.requires c.if-head.true
 
 pub overflow_add-head : goal.overflow_add-head
 overflow_add-head c = omega (arith, head_of_lem _ _ c.requires)
@@ -17,6 +14,3 @@ slice_bounds-read_suffix-start c = omega (arith, head_of_lem _ _ c.requires)
 
 pub slice_bounds-read_suffix-end : goal.slice_bounds-read_suffix-end
 slice_bounds-read_suffix-end c = omega (arith, head_of_lem _ _ c.requires)
-
-pub returns : goal.returns
-returns c = suffix_there _ _ c.requires c.if-head.false c.read_suffix.ensures

@@ -1,12 +1,9 @@
 -- `data_head` parts label and directive at a colon, else by the pieces. Assumes nothing.
 use mathlib.Core.Path.{sym, refl, ◌∙◌}
 use native.Mathlib.Omega.{arith}
-use Rattle.text.proofs.Find.{indexed, unindexed}
+use Rattle.text.proofs.Find.{indexed}
 use Rattle.line.proofs.Directive.{head_colon}
 use Rattle.line.proofs.data_head.Goals as goal
-
-pub piece_head-requires : goal.piece_head-requires
-piece_head-requires c = (c.requires, (unindexed _ _ (sym c.find_byte.ensures ∙ c.in_default.is)).cut)
 
 pub label_length-label-requires : goal.label_length-label-requires
 label_length-label-requires c = omega (arith, indexed _ _ _ (sym c.find_byte.ensures ∙ c.in-Some.is))

@@ -1,10 +1,6 @@
 -- `data_line` records a label of step 5 that is not empty. Assumes nothing.
-use Rattle.std.proofs.Common.{arith}
-use Rattle.line.proofs.Data.{data_bare, data_named, label_end}
+use Rattle.line.proofs.Data.{data_bare, data_named}
 use Rattle.line.proofs.data_line.Goals as goal
-
-pub overflow_add-second : goal.overflow_add-second
-overflow_add-second c = omega (arith, label_end _ c.requires.0 c.requires.1 c.data_head-head.ensures c.data_task-task.ensures)
 
 pub returns-then-length-gt0 : goal.returns-then-length-gt0
 returns-then-length-gt0 c = data_named _ c.requires.0 c.requires.1 c.data_head-head.ensures c.data_task-task.ensures c.if-length-gt0.true

