@@ -1,7 +1,7 @@
 #![tactic(auto)]
 
-// The machine's sums and flags, in unsigned numbers of 64 bits. `h` is half of what an operation's size holds; a signed
-// number is the difference of two that are not, since the prover reads sums of those alone.
+//! The machine's sums and flags, in unsigned numbers of 64 bits. `h` is half of what an operation's size holds; a signed
+//! number is the difference of two that are not, since the prover reads sums of those alone.
 ghost use Rattle.std.specs.Prelude.{◌≡◌, not, ◌+◌, ◌*◌, ◌/◌, ◌≤◌, ◌<◌, ◌^◌, pos, ◌+ℤ◌};
 ghost use Rattle.std.proofs.Math.IntN.{sub_ℕ};
 ghost use Rattle.rules.specs.Number.{modulo};
@@ -9,6 +9,7 @@ ghost use Rattle.manual.specs.Manual.{sign_by};
 ghost use Rattle.machine.specs.Flags.{fits_in, marks, added, compared, shifted, holds};
 ghost use Rattle.machine.specs.Machine.{product};
 
+// Each `as` narrows what is proved to fit, or goes to or from `usize`, for which there is no `From`.
 use machine::Flags;
 
 /// Half of what a word holds.
@@ -104,6 +105,7 @@ pub fn power(k: usize) -> u64
 }
 
 /// A product within 2^40.
+// `times` differs in its bounds alone: a product without bounds would have each bound proved again where it is called.
 pub fn scaled(a: u64, t: u64) -> u64
     requires { (a ≤ 4294967296) × (t ≤ 256) }
     ensures { (result ≡ a * t) × (result ≤ 1099511627776) }

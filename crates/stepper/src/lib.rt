@@ -1,6 +1,6 @@
 #![tactic(auto)]
 
-// The bench (W-213): a list is filled into the memory and run, with a limit of steps, or refused before any step.
+//! The bench (W-213): a list is filled into the memory and run, with a limit of steps, or refused before any step.
 ghost use Rattle.std.specs.Prelude.{◌≡◌, ◌+◌, ◌≤◌, length, take, replicate, position, None, IfOk, OnOk, OnErr};
 ghost use Rattle.std.specs.Bool.{OnFalse};
 ghost use Rattle.answer.specs.Refusal.{answer_of};
@@ -60,8 +60,10 @@ fn put_word(mem: &mut [u8; MEMORY], p: usize, w: u16)
     mem[p + 1] = low;
 }
 
-#[tactic(auto, using(crate::proofs::Checks::room_at), unfolding(machine::specs::Bench::fill_of))]
 // Clears the memory and puts the first `count` words of a list into it, each at its address.
+// By place: `fill_of` takes a pair by its number. `as`: no `From` goes from u32 to `usize`.
+// Here and below the slices and `count` stand side by side, as C lends them; refusal 9 is of that count.
+#[tactic(auto, using(crate::proofs::Checks::room_at), unfolding(machine::specs::Bench::fill_of))]
 fn fill(addresses: &[u32], words: &[u16], count: usize, mem: &mut [u8; MEMORY])
     requires addresses { count ≤ length addresses.now }
     requires words { count ≤ length words.now }
@@ -101,9 +103,9 @@ fn is_short(addresses: &[u32], words: &[u16], count: usize) -> bool
     addresses.len() < count || words.len() < count
 }
 
-#[tactic(auto, using(crate::proofs::Checks::refuses_9, crate::proofs::Checks::refuses_19, crate::proofs::Checks::accepts))]
 /// The list's count; or refusal 9, with the count, if a slice is shorter than that, or 19, with its index, for the first address that
 /// is odd or above 16,382.
+#[tactic(auto, using(crate::proofs::Checks::refuses_9, crate::proofs::Checks::refuses_19, crate::proofs::Checks::accepts))]
 pub fn check(addresses: &[u32], words: &[u16], count: usize) -> Result<usize, Refusal>
     ensures answer { answer_of result ≡ bench_answer count addresses.now words.now count }
     ensures count { IfOk result (λ n. n ≡ count) }
