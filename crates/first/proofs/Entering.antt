@@ -12,17 +12,19 @@ use Rattle.rules.specs.Answer.{accepted, refused, refuse_if}
 use Rattle.rules.specs.Assemble.{Sizes, first_pass_by, pass_at_by, checks}
 use Rattle.source.specs.Clear.{Clear}
 use Rattle.source.proofs.Callers.{checks_clear, stopped}
+use Rattle.label.specs.Table.{cell_of}
 use Rattle.label.specs.Labelled.{Labelled}
 use Rattle.cells.specs.Puts.{puts_of}
 use Rattle.first.specs.Stopped.{stopped as stops_at, only, or_nothing, stopped_at}
-use Rattle.first.specs.Pass.{with_table, HoldsLines}
+use Rattle.first.specs.Pass.{with_table, Unchanged, HoldsLines}
 use Rattle.first.proofs.Callers.{pass_clear, stop_clear}
 
 module _ (z : Sizes) (labels : Labelled) (base : ℕ) (cells : List ℕ) where
   -- what a refusal before the first line leaves
   pub record Untouched (n k : ℕ) : Type 0 where
     pub answer : refused n k ≡ pass_at_by z base labels.source
-    pub labels_now : labels ≡ with_table (stopped_at z base labels.source).labels labels
+    pub labels_now : labels ≡ with_table (stopped_at z base labels.source).labels labels.cells labels
+    pub rows : Unchanged (cell_of (length labels.table)) labels.cells labels.cells
     pub lines : HoldsLines z labels.source base (stopped_at z base labels.source).puts cells cells
 
   module _ (empty : labels.table ≡ []) where
@@ -32,6 +34,7 @@ module _ (z : Sizes) (labels : Labelled) (base : ℕ) (cells : List ℕ) where
         record {
           answer = d;
           labels_now = rw (f, ← empty);
+          rows = record { long = refl; past = refl };
           lines = rw f (record { puts = refl; kept = record { room = omega arith; line = λ k l. absurd (omega arith) }; long = refl; past = refl });
         }
 

@@ -3,21 +3,24 @@ use Rattle.std.specs.Prelude.{Option, None, Some, Result, Ok, Err, IfErr}
 use mathlib.Core.Path.{◌≡◌, refl, sym, ap, ◌∙◌}
 use mathlib.Core.Bool.{Bool, true, false, false≢true}
 use mathlib.Core.List.{List, [], ◌∷◌, ◌++◌, map}
-use Prim.Native.Nat.{ℕ, suc, ◌+◌, ◌≤◌}
+use Prim.Native.Nat.{ℕ, suc, ◌+◌, ◌-◌, ◌≤◌}
 use native.Mathlib.Nat.{zero-add}
 use native.Mathlib.Omega.{arith}
-use lib.ListN.{length}
+use lib.ListN.{length, drop}
+use lib.Seq.{drop-drop}
 use Rattle.rules.specs.Text.{Text, same}
 use Rattle.rules.specs.Line.{SourceLine, Name}
 use Rattle.rules.specs.Label.{Label, Table, find, recorded, has_room, label_of, record_all}
 use Rattle.text.specs.declared.Span.{Span}
 use Rattle.text.specs.Breaks.{line_number}
-use Rattle.label.specs.Record.{span_label, span_name}
+use Rattle.label.specs.Table.{cell_of}
+use Rattle.label.specs.Record.{span_label, span_name, cells_with}
 use Rattle.label.specs.Labelled.{Labelled}
+use Rattle.label.proofs.Record.{past_with}
 use Rattle.line.specs.Line.{name_at, name_from}
 use Rattle.first.specs.Stopped.{record_some}
-use Rattle.first.specs.Pass.{with_table}
-use Rattle.first.specs.Names.{at_start, OnLine, no_name, and_name, all_recorded, some_recorded}
+use Rattle.first.specs.Pass.{with_table, Unchanged}
+use Rattle.first.specs.Names.{Grown, at_start, OnLine, no_name, and_name, all_recorded, some_recorded}
 
 -- ---- recording by the rules
 -- by whether there is room
@@ -97,6 +100,16 @@ recorded_most x (l ∷ t) = go (same x.name l.name) refl (recorded_most x t)
     go true e ih = rw (e, recorded) (omega arith)
     go false e ih = rw (e, recorded) (omega arith)
 
+-- and takes none away
+recorded_more : (x : Label) (t : Table) → length t ≤ length (recorded x t)
+unfolding recorded
+recorded_more x [] = omega arith
+recorded_more x (l ∷ t) = go (same x.name l.name) refl (recorded_more x t)
+  where
+    go : (y : Bool) → same x.name l.name ≡ y → length t ≤ length (recorded x t) → length (l ∷ t) ≤ length (recorded x (l ∷ t))
+    go true e ih = rw (e, recorded) (omega arith)
+    go false e ih = rw (e, recorded) (omega arith)
+
 pub some_most : (l : SourceLine) (a : ℕ) (ns : List Name) (t : Table) → length (record_some l a ns t) ≤ length t + length ns
 unfolding record_some
 some_most l a [] t = omega arith
@@ -108,8 +121,34 @@ some_most l a (n ∷ ns) t = go (has_room (find n.text t) t) refl (some_most l a
     go false e ih = rw (some_full l a n ns t e) (omega arith)
 
 -- labels of the same source, with the same room
-pub same_labels : (labels labels' : Labelled) {t : Table} → labels'.source ≡ labels.source → labels'.room ≡ labels.room → labels'.table ≡ t → labels' ≡ with_table t labels
+pub same_labels : (labels labels' : Labelled) {t : Table} → labels'.source ≡ labels.source → labels'.room ≡ labels.room → labels'.table ≡ t → labels' ≡ with_table t labels'.cells labels
 same_labels labels labels' s r t = rw (← s, ← r, ← t) refl
+
+-- ---- the cells past the rows
+-- a slice unchanged after m places is so after more
+past_more : (m n : ℕ) (xs ys : List ℕ) → m ≤ n → drop m xs ≡ drop m ys → drop n xs ≡ drop n ys
+past_more m n xs ys h e =
+    let k : m + (n - m) ≡ n = omega arith in
+    rw (← k, ← drop-drop (n - m) m xs, ← drop-drop (n - m) m ys, e)
+
+pub unchanged_more : (m n : ℕ) (xs ys zs : List ℕ) → m ≤ n → Unchanged m xs ys → Unchanged n ys zs → Unchanged n xs zs
+unchanged_more m n xs ys zs h u v = record { long = v.long ∙ u.long; past = v.past ∙ past_more m n ys xs h u.past }
+
+pub grown_same : (labels : Labelled) → Grown labels labels
+grown_same labels = record { more = omega arith; cells = record { long = refl; past = refl } }
+
+pub grown_then : {a b c : Labelled} → Grown a b → Grown b c → Grown a c
+grown_then {a} {b} {c} g h =
+    record {
+      more = omega (arith, g.more, h.more);
+      cells = unchanged_more (cell_of (length b.table)) (cell_of (length c.table)) a.cells b.cells c.cells (omega (arith, h.more)) g.cells h.cells;
+    }
+
+pub grown_by : (a b : Labelled) (start end address : ℕ) → b.table ≡ recorded (span_label a.source start end address) a.table
+    → b.cells ≡ cells_with a.source a.table a.cells start end address → Grown a b
+grown_by a b start end address t c =
+    let p = past_with a.source a.table a.cells start end address in
+    record { more = rw t (recorded_more (span_label a.source start end address) a.table); cells = rw (t, c) (record { long = p.long; past = p.past }) }
 
 -- what is not accepted is refused
 pub not_ok : {A B P : Type 0} (r : Result A B) → ((x : A) → r ≡ Ok x → ⊥) → IfErr r (λ _. P) → P

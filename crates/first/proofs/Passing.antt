@@ -37,11 +37,11 @@ use Rattle.cells.proofs.Puts.{address_more, puts_more, lines_more, puts_length}
 use Rattle.cells.proofs.Tasks.{data_places_lem, after_kept, task_fits}
 use Rattle.first.specs.Stopped.{record_some, only, before, stopped}
 use Rattle.first.specs.Pass.{with_table}
-use Rattle.first.specs.Names.{RoomFor, RecordNamesNeeds, OnLine, no_name, and_name, all_recorded, some_recorded}
-use Rattle.first.specs.Progress.{after_puts, answer_after, line_here, lines_left, pass_so_far, Stands, Going, Stopping, PassLineNeeds, Readable}
+use Rattle.first.specs.Names.{RoomFor, Grown, RecordNamesNeeds, OnLine, no_name, and_name, all_recorded, some_recorded}
+use Rattle.first.specs.Progress.{after_puts, answer_after, line_here, lines_left, pass_so_far, Stands, Going, Stopping, Ahead, Readable}
 use Rattle.first.specs.declared.Progress.{Progress}
 use Rattle.first.proofs.Turns.{asked, labelled, pass_halts, stop_halts, pass_full, stop_full, pass_out, stop_out, pass_more, stop_more}
-use Rattle.first.proofs.Naming.{record_some_lem, record_from, some_from, some_most, same_labels}
+use Rattle.first.proofs.Naming.{record_some_lem, record_from, some_from, some_most, same_labels, grown_same}
 
 -- ---- lines taken before
 module _ (ps : List Put) where
@@ -116,16 +116,16 @@ module _ (z : Sizes) (labels : Labelled) (base : ℕ) (cells : List ℕ) (p : Pr
   puts = puts_of source base cells p.lines
 
   stopping : (x : Answer Ruled) (t : Table) {labels' : Labelled} → first_pass_by z base p.address labels.table (lines_left source p) ≡ x
-      → stopped z base p.address labels.table (lines_left source p) ≡ only t → labels' ≡ with_table t labels
+      → stopped z base p.address labels.table (lines_left source p) ≡ only t → labels' ≡ with_table t labels'.cells labels → Grown labels labels'
       → Stopping z labels base cells p (answer_after puts x) labels' cells
   unfolding after_puts
-  stopping x t e f h = record { answer = ap (answer_after puts) e; labels_now = rw f h; puts = rw f (append-nil puts); same = refl }
+  stopping x t e f h g = record { answer = ap (answer_after puts) e; labels_now = rw f h; grown = g; puts = rw f (append-nil puts); same = refl }
 
   -- at its end
   ending : first_pass_by z base p.address labels.table (lines_left source p) ≡ accepted (only labels.table)
       → stopped z base p.address labels.table (lines_left source p) ≡ only labels.table → Stopping z labels base cells p (accepted (pass_so_far labels base cells p)) labels cells
   unfolding answer_after
-  ending e f = rw (ap accepted (after_only puts labels.table)) at (stopping (accepted (only labels.table)) labels.table e f refl)
+  ending e f = rw (ap accepted (after_only puts labels.table)) at (stopping (accepted (only labels.table)) labels.table e f refl (grown_same labels))
 
   pub ends_last : length source < p.at → Stopping z labels base cells p (accepted (pass_so_far labels base cells p)) labels cells
   unfolding first_pass_by stopped
@@ -135,7 +135,7 @@ module _ (z : Sizes) (labels : Labelled) (base : ℕ) (cells : List ℕ) (p : Pr
   values_most s = omega (arith, s.values, flat_most puts, puts_length source base cells p.lines, s.few)
 
   -- ---- the line, and the rest
-  module _ (needs : PassLineNeeds z labels base cells p) (l : Line) (r : ReadLineGives source p.at l) where
+  module _ (needs : Ahead z labels base cells p) (l : Line) (r : ReadLineGives source p.at l) where
     abbrev this : SourceLine
     this = line_here source p
 
@@ -170,15 +170,12 @@ module _ (z : Sizes) (labels : Labelled) (base : ℕ) (cells : List ℕ) (p : Pr
     pub naming : RecordNamesNeeds labels l.names
     naming = record { short = needs.stands.short; room = record { room = omega (arith, ap length left, needs.stands.rows) }; within = r.names_in }
 
-    pub readable : Readable source l.task
-    readable = record { within = r.task_in; short = needs.stands.short }
-
     -- its labels stand on it
     standing : OnLine source (suc p.lines) (names_at source l.names)
     standing = rw names_said (on_line source p.at (suc p.lines) number (names_rise this.text))
 
     module _ (ne : is_end (task_at source l.task) ≡ false) {labels' : Labelled}
-        (s : labels'.source ≡ labels.source) (m : labels'.room ≡ labels.room)
+        (s : labels'.source ≡ labels.source) (m : labels'.room ≡ labels.room) (g : Grown labels labels')
         (d : (k : ℕ) → OnLine source k (names_at source l.names) → labels'.table ≡ some_recorded labels.table (names_at source l.names) p.address k) where
       goes : is_end (asked this) ≡ false
       goes = rw task_said at ne
@@ -187,7 +184,10 @@ module _ (z : Sizes) (labels : Labelled) (base : ℕ) (cells : List ℕ) (p : Pr
       abbrev now : Table
       now = record_some this p.address (line_of this.text).names labels.table
 
-      stored : labels' ≡ with_table now labels
+      abbrev with_now : Labelled
+      with_now = with_table now labels'.cells labels
+
+      stored : labels' ≡ with_now
       stored = same_labels labels labels' s m (rw (names_said, some_from this p.address (line_of this.text).names labels.table) at (d (suc p.lines) standing))
 
       -- no room for a label
@@ -198,7 +198,7 @@ module _ (z : Sizes) (labels : Labelled) (base : ℕ) (cells : List ℕ) (p : Pr
           let o = rw (names_said, record_from this p.address (line_of this.text).names labels.table) at (f (suc p.lines) standing) in
           rw (add-one p.lines)
           (stopping (refused 6 (suc p.lines)) now
-          (rw left (pass_full z base p.address labels.table this rest goes o)) (rw left (stop_full z base p.address labels.table this rest goes o)) stored)
+          (rw left (pass_full z base p.address labels.table this rest goes o)) (rw left (stop_full z base p.address labels.table this rest goes o)) stored g)
 
       module _ (f : (k : ℕ) → OnLine source k (names_at source l.names) → all_recorded labels.table (names_at source l.names) p.address k ≡ Some labels'.table) where
         all_now : labelled p.address labels.table this ≡ Some now
@@ -222,7 +222,7 @@ module _ (z : Sizes) (labels : Labelled) (base : ℕ) (cells : List ℕ) (p : Pr
               (stopping (refused 5 (suc p.lines)) now
               (rw left (pass_out z base p.address labels.table this rest goes now all_now f))
               (rw left (stop_out z base p.address labels.table this rest goes now all_now f))
-              stored)
+              stored g)
 
           -- the line is taken
           module _ (w : Small z) (h : later < address_limit) where
@@ -245,7 +245,7 @@ module _ (z : Sizes) (labels : Labelled) (base : ℕ) (cells : List ℕ) (p : Pr
             abbrev there : Progress
             there = record { at = suc (line_end source p.at); address = later; values = p.values + data_words l.task; lines = suc p.lines }
 
-            rows_now : RoomFor (2 * length rest) (with_table now labels)
+            rows_now : RoomFor (2 * length rest) with_now
             rows_now =
                 let c = rw (names_said, length-map) at (names_most source l) in
                 record { room = omega (arith, ap length left, some_most this p.address (line_of this.text).names labels.table, c, needs.stands.rows) }
@@ -255,7 +255,7 @@ module _ (z : Sizes) (labels : Labelled) (base : ℕ) (cells : List ℕ) (p : Pr
                 let w = rw task_said at (data_places_lem source p.address l.task) in
                 rw (puts_now, flat_more data_places puts put) (omega (arith, needs.stands.values, w))
 
-            stands_there : Stands z (with_table now labels) base cells' there
+            stands_there : Stands z with_now base cells' there
             stands_there =
                 record {
                   short = needs.stands.short;
@@ -268,15 +268,17 @@ module _ (z : Sizes) (labels : Labelled) (base : ℕ) (cells : List ℕ) (p : Pr
                   room = omega (arith, ap length left, needs.stands.room, with_length cells p.lines (head_cell keeps) (tail_cell l.task));
                 }
 
-            going : Going z labels base cells p there (with_table now labels) cells'
+            going : Going z labels base cells p there with_now cells'
             going =
                 record {
                   stands = stands_there;
                   answer = rw (left, pass_more z base p.address labels.table this rest goes now all_now in_limit, answer_more puts put, ← later_is, ← puts_now);
                   stop = rw (left, stop_more z base p.address labels.table this rest goes now all_now in_limit, after_before puts put, ← later_is, ← puts_now);
+                  inside = needs.inside;
                   starts = refl;
                   lines = refl;
                   labels_now = refl;
+                  grown = rw stored at g;
                   cells_past = record { long = with_length cells p.lines (head_cell keeps) (tail_cell l.task); past = with_past cells p.lines (head_cell keeps) (tail_cell l.task) };
                 }
 

@@ -2,25 +2,26 @@
 use Rattle.std.specs.Prelude.{min}
 use mathlib.Core.Path.{◌≡◌, refl, sym, ap, ◌∙◌}
 use mathlib.Core.List.{List, [], flat_map}
-use Prim.Native.Nat.{ℕ, ◌+◌, ◌*◌, ◌-◌, ◌≤◌, ◌<◌}
+use Prim.Native.Nat.{ℕ, ◌*◌, ◌≤◌}
 use native.Mathlib.Omega.{arith}
-use lib.ListN.{length, drop}
-use lib.Seq.{drop-drop}
+use lib.ListN.{length}
 use Rattle.rules.specs.Limits.{max_source, max_lines, max_labels}
-use Rattle.rules.specs.Text.{Text, cut_at}
+use Rattle.rules.specs.Text.{cut_at}
 use Rattle.rules.specs.Line.{lines_of}
 use Rattle.rules.specs.Answer.{Answer, accepted, refused}
 use Rattle.rules.specs.Assemble.{Sizes, Pass as Ruled, first_pass_by}
 use Rattle.text.specs.Breaks.{breaks}
 use Rattle.outline.proofs.Lines.{lines_all, lines_count}
+use Rattle.label.specs.Table.{cell_of}
 use Rattle.label.specs.Labelled.{Labelled}
 use Rattle.cells.specs.Puts.{address_at, puts_of}
 use Rattle.cells.proofs.Puts.{puts_length}
 use Rattle.first.specs.Stopped.{stopped}
-use Rattle.first.specs.Pass.{with_table, HoldsLines}
-use Rattle.first.specs.Progress.{after_puts, answer_after, pass_so_far, answer_from, stop_from, Stands, Unchanged, Going, Stopping}
+use Rattle.first.specs.Pass.{Unchanged, HoldsLines}
+use Rattle.first.specs.Names.{Grown}
+use Rattle.first.specs.Progress.{after_puts, answer_after, answer_from, stop_from, Stands, Going, Stopping}
 use Rattle.first.specs.declared.Progress.{Progress}
-use Rattle.first.proofs.Passing.{ends_last}
+use Rattle.first.proofs.Naming.{unchanged_more, grown_same, grown_then}
 
 -- what is done and what is left come to the whole pass, and after what is done the cells are as they were lent
 pub record Underway (z : Sizes) (labels₀ : Labelled) (base : ℕ) (cells₀ : List ℕ) (labels : Labelled) (cells : List ℕ) (p : Progress) : Type 0 where
@@ -29,16 +30,8 @@ pub record Underway (z : Sizes) (labels₀ : Labelled) (base : ℕ) (cells₀ : 
   pub stop : stopped z base base [] (lines_of labels₀.source) ≡ stop_from z labels base cells p
   pub source : labels.source ≡ labels₀.source
   pub room : labels.room ≡ labels₀.room
+  pub grown : Grown labels₀ labels
   pub cells_past : Unchanged (2 * p.lines) cells₀ cells
-
--- a slice unchanged after m places is so after more
-past_more : (m n : ℕ) (xs ys : List ℕ) → m ≤ n → drop m xs ≡ drop m ys → drop n xs ≡ drop n ys
-past_more m n xs ys h e =
-    let k : m + (n - m) ≡ n = omega arith in
-    rw (← k, ← drop-drop (n - m) m xs, ← drop-drop (n - m) m ys, e)
-
-unchanged_more : (m n : ℕ) (xs ys zs : List ℕ) → m ≤ n → Unchanged m xs ys → Unchanged n ys zs → Unchanged n xs zs
-unchanged_more m n xs ys zs h u v = record { long = v.long ∙ u.long; past = v.past ∙ past_more m n ys xs h u.past }
 
 answer_whole : (x : Answer Ruled) → x ≡ answer_after [] x
 unfolding answer_after after_puts
@@ -68,6 +61,7 @@ module _ (z : Sizes) (labels₀ : Labelled) (base : ℕ) (cells₀ : List ℕ) w
         stop = rw (empty, all);
         source = refl;
         room = refl;
+        grown = grown_same labels₀;
         cells_past = record { long = refl; past = refl };
       }
 
@@ -80,12 +74,9 @@ module _ (z : Sizes) (labels₀ : Labelled) (base : ℕ) (cells₀ : List ℕ) w
           stop = u.stop ∙ g.stop;
           source = ap (λ (x : Labelled). x.source) g.labels_now ∙ u.source;
           room = ap (λ (x : Labelled). x.room) g.labels_now ∙ u.room;
+          grown = grown_then u.grown g.grown;
           cells_past = unchanged_more (2 * p.lines) (2 * q.lines) cells₀ cells cells' (omega (arith, g.lines)) u.cells_past g.cells_past;
         }
-
-    -- no line is left
-    pub at_last : {s : Text} → s ≡ labels₀.source → length s < p.at → Stopping z labels base cells p (accepted (pass_so_far labels base cells p)) labels cells
-    at_last e h = ends_last z labels base cells p (rw (u.source, ← e) h)
 
     lines_held : HoldsLines z labels.source base (puts_of labels.source base cells p.lines) cells₀ cells
     lines_held =
@@ -97,8 +88,8 @@ module _ (z : Sizes) (labels₀ : Labelled) (base : ℕ) (cells₀ : List ℕ) w
       pub answer_is : x ≡ first_pass_by z base base [] (lines_of labels₀.source)
       answer_is = sym (u.answer ∙ k.answer)
 
-      pub labels_are : labels' ≡ with_table (stopped z base base [] (lines_of labels₀.source)).labels labels₀
-      labels_are = rw (u.stop, ← u.source, ← u.room) k.labels_now
+      pub rows_are : Unchanged (cell_of (length labels'.table)) labels₀.cells labels'.cells
+      rows_are = (grown_then u.grown k.grown).cells
 
       pub lines_are : HoldsLines z labels₀.source base (stopped z base base [] (lines_of labels₀.source)).puts cells₀ cells'
       lines_are = rw (u.stop, k.puts, k.same, ← u.source) lines_held

@@ -5,14 +5,21 @@ use Rattle.rules.specs.Text.{Text}
 use Rattle.rules.specs.Line.{SourceLine, Name}
 use Rattle.rules.specs.Label.{Table, record_all}
 use Rattle.text.specs.Breaks.{line_number}
+use Rattle.label.specs.Table.{cell_of}
 use Rattle.label.specs.Labelled.{Labelled}
 use Rattle.line.specs.declared.Names.{Names}
 use Rattle.line.specs.Line.{NamesIn}
 use Rattle.first.specs.Stopped.{record_some}
+use Rattle.first.specs.Pass.{Unchanged}
 
 -- there is room for n labels more, or for as many as there may be
 pub record RoomFor (n : ℕ) (labels : Labelled) : Type 0 where
   pub room : min (length labels.table + n) max_labels ≤ labels.room
+
+-- no label is lost, and the cells past the rows are unchanged
+pub record Grown (old new : Labelled) : Type 0 where
+  pub more : length old.table ≤ length new.table
+  pub cells : Unchanged (cell_of (length new.table)) old.cells new.cells
 
 -- room for two more, and labels that lie in the source
 pub record RecordNamesNeeds (labels : Labelled) (ns : Names) : Type 0 where

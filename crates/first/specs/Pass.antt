@@ -13,9 +13,14 @@ use Rattle.label.specs.Labelled.{Labelled}
 use Rattle.cells.specs.Puts.{puts_of, LinesIn}
 use Rattle.first.specs.declared.Pass.{Pass}
 
--- the labels t of the same source, with the same room
-abbrev pub with_table : Table → Labelled → Labelled
-with_table t labels = record { source = labels.source; table = t; room = labels.room }
+-- the labels t of the same source, in these cells, with the same room
+abbrev pub with_table : Table → List ℕ → Labelled → Labelled
+with_table t cells labels = record { source = labels.source; table = t; cells = cells; room = labels.room }
+
+-- a slice is unchanged after n places
+pub record Unchanged (n : ℕ) (xs ys : List ℕ) : Type 0 where
+  pub long : length ys ≡ length xs
+  pub past : drop n ys ≡ drop n xs
 
 -- the pass that the labels and the cells hold
 abbrev pub pass_in : Labelled → List ℕ → Pass → Ruled

@@ -1,5 +1,5 @@
 -- The first pass underway, by the sizes z: where it stands, what is left of it, and what one line leaves. Assumes nothing.
-use Rattle.std.specs.Prelude.{◌≡◌, ℕ, suc, ◌+◌, ◌*◌, ◌≤◌, false, List, length, drop, Option, None, Some, Result, Ok, Err}
+use Rattle.std.specs.Prelude.{◌≡◌, ℕ, suc, ◌+◌, ◌*◌, ◌≤◌, false, List, length, Option, None, Some, Result, Ok, Err}
 use mathlib.Core.List.{◌++◌, flat_map}
 use Rattle.rules.specs.Limits.{max_source, max_lines}
 use Rattle.rules.specs.Text.{Text}
@@ -16,9 +16,8 @@ use Rattle.line.specs.Line.{task_at, TaskIn, ReadLineGives}
 use Rattle.line.specs.declared.Task.{Task}
 use Rattle.cells.specs.Puts.{address_at, puts_of, LinesIn}
 use Rattle.first.specs.Stopped.{stopped}
-use Rattle.first.specs.Pass.{with_table}
-use Rattle.first.specs.Names.{RoomFor}
-use Rattle.first.specs.declared.Pass.{Pass}
+use Rattle.first.specs.Pass.{with_table, Unchanged}
+use Rattle.first.specs.Names.{RoomFor, Grown}
 use Rattle.first.specs.declared.Progress.{Progress}
 
 -- a pass, and an answer, with lines that were taken before it
@@ -61,25 +60,23 @@ pub record Stands (z : Sizes) (labels : Labelled) (base : ℕ) (cells : List ℕ
   pub few : p.lines + length (lines_left labels.source p) ≤ max_lines
   pub room : 2 * (p.lines + length (lines_left labels.source p)) ≤ length cells
 
--- a slice is unchanged after n places
-pub record Unchanged (n : ℕ) (xs ys : List ℕ) : Type 0 where
-  pub long : length ys ≡ length xs
-  pub past : drop n ys ≡ drop n xs
-
 -- one line on: the whole comes to the same
 pub record Going (z : Sizes) (labels : Labelled) (base : ℕ) (cells : List ℕ) (p q : Progress) (labels' : Labelled) (cells' : List ℕ) : Type 0 where
   pub stands : Stands z labels' base cells' q
   pub answer : answer_from z labels base cells p ≡ answer_from z labels' base cells' q
   pub stop : stop_from z labels base cells p ≡ stop_from z labels' base cells' q
+  pub inside : p.at ≤ length labels.source
   pub starts : q.at ≡ suc (line_end labels.source p.at)
   pub lines : q.lines ≡ suc p.lines
-  pub labels_now : labels' ≡ with_table labels'.table labels
+  pub labels_now : labels' ≡ with_table labels'.table labels'.cells labels
+  pub grown : Grown labels labels'
   pub cells_past : Unchanged (2 * q.lines) cells cells'
 
 -- the pass stops: the whole comes to x, and no further line is kept
 pub record Stopping (z : Sizes) (labels : Labelled) (base : ℕ) (cells : List ℕ) (p : Progress) (x : Answer Ruled) (labels' : Labelled) (cells' : List ℕ) : Type 0 where
   pub answer : answer_from z labels base cells p ≡ x
-  pub labels_now : labels' ≡ with_table (stop_from z labels base cells p).labels labels
+  pub labels_now : labels' ≡ with_table (stop_from z labels base cells p).labels labels'.cells labels
+  pub grown : Grown labels labels'
   pub puts : (stop_from z labels base cells p).puts ≡ puts_of labels.source base cells p.lines
   pub same : cells' ≡ cells
 
@@ -89,13 +86,13 @@ Paced z labels base cells p (Ok None) labels' cells' = (labels' ≡ labels) × S
 Paced z labels base cells p (Err e) labels' cells' = Stopping z labels base cells p (refused (number_of e) (place_of e)) labels' cells'
 
 -- a line is left
-pub record PassLineNeeds (z : Sizes) (labels : Labelled) (base : ℕ) (cells : List ℕ) (p : Progress) : Type 0 where
+pub record Ahead (z : Sizes) (labels : Labelled) (base : ℕ) (cells : List ℕ) (p : Progress) : Type 0 where
   pub stands : Stands z labels base cells p
   pub inside : p.at ≤ length labels.source
 
 -- it is this line, with the next one at `next`, and does not end the pass
 pub record TakeLineNeeds (z : Sizes) (labels : Labelled) (base : ℕ) (cells : List ℕ) (p : Progress) (l : Line) (next : ℕ) : Type 0 where
-  pub needs : PassLineNeeds z labels base cells p
+  pub needs : Ahead z labels base cells p
   pub reads : ReadLineGives labels.source p.at l
   pub goes_on : is_end (task_at labels.source l.task) ≡ false
   pub ends : next ≡ suc (line_end labels.source p.at)
@@ -104,7 +101,3 @@ pub record TakeLineNeeds (z : Sizes) (labels : Labelled) (base : ℕ) (cells : L
 pub record Readable (source : Text) (task : Task) : Type 0 where
   pub within : TaskIn source task
   pub short : length source ≤ max_source
-
--- a pass that is done
-abbrev pub done_at : ℕ → Progress → Pass
-done_at base p = record { base = base; values = p.values; lines = p.lines }

@@ -10,9 +10,10 @@ ghost use Rattle.cells.specs.Sizes.{size_of, Small};
 ghost use Rattle.line.specs.Line.{names_of, names_at};
 ghost use Rattle.text.specs.Spans.{SpanIn};
 ghost use Rattle.first.specs.Stopped.{stopped, stopped_at};
-ghost use Rattle.first.specs.Pass.{with_table, entered, IsDone, HoldsBy, HoldsLines};
-ghost use Rattle.first.specs.Names.{RoomFor, RecordNamesNeeds, OnLine, all_recorded, some_recorded};
-ghost use Rattle.first.specs.Progress.{Paced, PassLineNeeds, Readable, TakeLineNeeds, done_at};
+ghost use Rattle.label.specs.Table.{cell_of};
+ghost use Rattle.first.specs.Pass.{with_table, Unchanged, entered, IsDone, HoldsBy, HoldsLines};
+ghost use Rattle.first.specs.Names.{RoomFor, Grown, RecordNamesNeeds, OnLine, all_recorded, some_recorded};
+ghost use Rattle.first.specs.Progress.{Stands, Paced, Readable, TakeLineNeeds};
 ghost use Rattle.cells.proofs.Tasks.{rules_small};
 
 use answer::Refusal;
@@ -23,6 +24,8 @@ use text::Span;
 
 /// What the pass leaves, with the labels recorded and the lines in the cells: the base, how many data words there are, and
 /// how many lines are read.
+// No struct of labels, cells and pass for what comes after: with `HoldsBy` as its invariant it would have the sizes in a ghost field, as
+// `emit_words` goes by those of its `Encoding`, and each clause that names `HoldsBy` would name that field.
 #[derive(Clone, Copy, Debug, PartialEq, Eq, Hash)]
 pub struct Pass {
     pub base: u32,
@@ -35,7 +38,7 @@ pub trait Sizing {
     ghost sizes: { Sizes };
 
     /// The size of the instruction whose text is `t`.
-    fn text_size(labels: &Labels<'_>, t: &[u8]) -> u32
+    fn text_size(t: &[u8]) -> u32
         requires { length t.now ≤ max_source }
         ensures { result ≡ sizes (instruction_of t.now) };
 
@@ -43,13 +46,13 @@ pub trait Sizing {
     ghost small: { Small sizes };
 }
 
-/// The sizes of the instructions of `assemble`.
+/// The sizes of the instructions of `assemble`: a type's name, and no value.
 pub struct ScriptSizes;
 
 impl Sizing for ScriptSizes {
     ghost sizes = { size };
 
-    fn text_size(_labels: &Labels<'_>, t: &[u8]) -> u32 {
+    fn text_size(t: &[u8]) -> u32 {
         instruction::instruction_size(t)
     }
 
@@ -59,19 +62,20 @@ impl Sizing for ScriptSizes {
 // ---- One line.
 
 // By how much a task advances the address.
-fn size_of<S: Sizing>(labels: &Labels<'_>, task: Task) -> u32
-    requires { Readable labels.now.source task }
-    ensures { result ≡ size_of S.sizes labels.now.source task }
+fn size_of<S: Sizing>(source: &[u8], task: Task) -> u32
+    requires { Readable source.now task }
+    ensures { result ≡ size_of S.sizes source.now task }
 {
     match task {
-        Task::Instruction(span) => S::text_size(labels, &labels.source()[span.start..span.end]),
+        Task::Instruction(span) => S::text_size(&source[span.start..span.end]),
         Task::Value(n, _) => n,
         Task::Space(n) => n,
         Task::Skipped | Task::End | Task::Org(_) | Task::NoOrg | Task::LabelOnly => 0,
     }
 }
 
-// A label that a line may have, recorded at `address`.
+// A label that a line may have, recorded at `address`. As a call it takes 15 in 1,000 of a script of labels.
+#[inline]
 fn record_name(labels: &mut Labels<'_>, name: Option<Span>, address: u32) -> Result<(), Full>
     requires short { length labels.old.source ≤ max_source }
     requires room { RoomFor 1 labels.old }
@@ -79,10 +83,12 @@ fn record_name(labels: &mut Labels<'_>, name: Option<Span>, address: u32) -> Res
     ensures source { labels.new.source ≡ labels.old.source }
     ensures room { labels.new.room ≡ labels.old.room }
     ensures most { length labels.new.table ≤ length labels.old.table + 1 }
+    ensures grown { Grown labels.old labels.new }
     ensures recorded { IfOk result (λ _. (k : ℕ) → OnLine labels.old.source k (names_of labels.old.source name) → all_recorded labels.old.table (names_of labels.old.source name) address k ≡ Some labels.new.table) }
     ensures full { IfErr result (λ _. (k : ℕ) → OnLine labels.old.source k (names_of labels.old.source name) → all_recorded labels.old.table (names_of labels.old.source name) address k ≡ None) }
     ensures some { (k : ℕ) → OnLine labels.old.source k (names_of labels.old.source name) → labels.new.table ≡ some_recorded labels.old.table (names_of labels.old.source name) address k }
 {
+    // Without a name nothing is recorded: no None that `?` could hand on.
     let Some(span) = name else {
         return Ok(());
     };
@@ -95,6 +101,7 @@ fn record_names(labels: &mut Labels<'_>, names: Names, address: u32) -> Result<(
     requires { RecordNamesNeeds labels.old names }
     ensures source { labels.new.source ≡ labels.old.source }
     ensures room { labels.new.room ≡ labels.old.room }
+    ensures grown { Grown labels.old labels.new }
     ensures recorded { IfOk result (λ _. (k : ℕ) → OnLine labels.old.source k (names_at labels.old.source names) → all_recorded labels.old.table (names_at labels.old.source names) address k ≡ Some labels.new.table) }
     ensures full { IfErr result (λ _. (k : ℕ) → OnLine labels.old.source k (names_at labels.old.source names) → all_recorded labels.old.table (names_at labels.old.source names) address k ≡ None) }
     ensures some { (k : ℕ) → OnLine labels.old.source k (names_at labels.old.source names) → labels.new.table ≡ some_recorded labels.old.table (names_at labels.old.source names) address k }
@@ -104,7 +111,7 @@ fn record_names(labels: &mut Labels<'_>, names: Names, address: u32) -> Result<(
     Ok(())
 }
 
-// Where the pass stands: before the line that starts at `at`, after `lines` lines.
+// Where the pass stands: before the line that starts at `at`, after `lines` lines. It is handed on, and never compared.
 #[derive(Clone, Copy)]
 struct Progress {
     at: usize,
@@ -113,7 +120,8 @@ struct Progress {
     lines: usize,
 }
 
-// A line that is not END, with the next one at `next`: 6 before 5.
+// A line that is not END, with the next one at `next`: 6 before 5. Labels and cells are each lent by the caller, with a base: a struct of
+// the three would be one more loan.
 fn take_line<S: Sizing>(
     labels: &mut Labels<'_>,
     base: u32,
@@ -127,37 +135,42 @@ fn take_line<S: Sizing>(
 {
     let task = line.task;
     let number = p.lines + 1;
+    // The refusal has the line's number. A `map_err` would take a closure that drops what it is given, to say the same.
     let Ok(()) = record_names(labels, line.names, p.address) else {
         return Err(Refusal::ManyLabels(number));
     };
     let kept = Kept {
         task,
-        size: size_of::<S>(labels, task),
+        size: size_of::<S>(labels.source(), task),
     };
     let after = cells::address_after(kept, base, p.address);
-    if rules::ADDRESS_LIMIT as u64 <= after {
+    if u64::from(rules::ADDRESS_LIMIT) <= after {
         return Err(Refusal::HighAddress(number));
     }
     cells::keep_line(cells, p.lines, kept);
     Ok(Some(Progress {
         at: next,
+        // Below the limit, which is far below 2^32.
         address: after as u32,
         values: p.values + cells::data_words(task),
         lines: number,
     }))
 }
 
-// The line that the pass stands before: on to the next one, or the pass ends before this one.
+// The line that the pass stands before: on to the next one; or the pass ends before this one, or no line is left.
 fn pass_line<S: Sizing>(
     labels: &mut Labels<'_>,
     base: u32,
     cells: &mut [u32],
     p: Progress,
 ) -> Result<Option<Progress>, Refusal>
-    requires { PassLineNeeds S.sizes labels.old base cells.old p }
+    requires { Stands S.sizes labels.old base cells.old p }
     ensures { Paced S.sizes labels.old base cells.old p result labels.new cells.new }
 {
     let source = labels.source();
+    if source.len() < p.at {
+        return Ok(None);
+    }
     let outline = outline::outline_line(source, p.at);
     let line = line::read_line(source, p.at, outline);
     if line::is_end(line.task) {
@@ -167,17 +180,6 @@ fn pass_line<S: Sizing>(
 }
 
 // ---- All lines.
-
-// The pass, done where it stands.
-fn pass_of(base: u32, p: Progress) -> Pass
-    ensures { result ≡ done_at base p }
-{
-    Pass {
-        base,
-        values: p.values,
-        lines: p.lines,
-    }
-}
 
 /// The first pass over a source that refusals 1 to 4 let pass; refusals 6 and 5 come by line.
 pub fn first_pass<S: Sizing>(
@@ -193,23 +195,25 @@ pub fn first_pass<S: Sizing>(
     requires lines { 2 * length (cut_at 10 labels.old.source) ≤ length cells.old }
     ensures answer { entered labels.new cells.new result ≡ first_pass_by S.sizes base base [] (lines_of labels.old.source) }
     ensures done { IfOk result (IsDone S.sizes labels.new base cells.new) }
-    ensures labels { labels.new ≡ with_table (stopped S.sizes base base [] (lines_of labels.old.source)).labels labels.old }
+    ensures labels { labels.new ≡ with_table (stopped S.sizes base base [] (lines_of labels.old.source)).labels labels.new.cells labels.old }
+    ensures rows { Unchanged (cell_of (length labels.new.table)) labels.old.cells labels.new.cells }
     ensures lines { HoldsLines S.sizes labels.old.source base (stopped S.sizes base base [] (lines_of labels.old.source)).puts cells.old cells.new }
 {
-    let end = labels.source().len();
     let mut p = Progress {
         at: 0,
         address: base,
         values: 0,
         lines: 0,
     };
-    while p.at <= end {
-        let Some(next) = pass_line::<S>(labels, base, cells, p)? else {
-            return Ok(pass_of(base, p));
-        };
+    // Only a line's outline says where the next one starts.
+    while let Some(next) = pass_line::<S>(labels, base, cells, p)? {
         p = next;
     }
-    Ok(pass_of(base, p))
+    Ok(Pass {
+        base,
+        values: p.values,
+        lines: p.lines,
+    })
 }
 
 /// Refusals 1 to 4, then the first pass by `assemble`'s sizes: refusals 6 and 5, or what it leaves in the labels and the cells.
@@ -220,7 +224,8 @@ pub fn enter(labels: &mut Labels<'_>, base: u32, cells: &mut [u32]) -> Result<Pa
     ensures answer { entered labels.new cells.new result ≡ pass_at_by size base labels.old.source }
     ensures holds { IfOk result (HoldsBy size labels.new cells.new) }
     ensures base { IfOk result (λ pass. pass.base ≡ base) }
-    ensures labels { labels.new ≡ with_table (stopped_at size base labels.old.source).labels labels.old }
+    ensures labels { labels.new ≡ with_table (stopped_at size base labels.old.source).labels labels.new.cells labels.old }
+    ensures rows { Unchanged (cell_of (length labels.new.table)) labels.old.cells labels.new.cells }
     ensures lines { HoldsLines size labels.old.source base (stopped_at size base labels.old.source).puts cells.old cells.new }
 {
     source::check_source(labels.source())?;

@@ -19,9 +19,6 @@ pub record Hashing (t : Text) (h i : ℕ) : Type 0 where
   pub small : h < hashes
   pub so_far : hash_from h (drop i t) ≡ hash_of t
 
-pub hash_start : (t : Text) → Hashing t 0 0
-hash_start t = record { upto = omega arith; small = omega arith; so_far = refl }
-
 module _ {t : Text} {h i : ℕ} (inv : Hashing t h i) where
   pub hash_more : i < length t → {b : ℕ} → b ≡ get_or t i 0 → Hashing t ((53 * h + b) % hashes) (i + 1)
   unfolding hash_from

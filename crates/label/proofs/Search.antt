@@ -1,19 +1,20 @@
--- Laws of the search: what its loop over a hash's rows keeps, and what its answer says. Assumes nothing.
+-- Laws of the search: what its loops over a hash's rows and over bytes keep, and what its answer says. Assumes nothing.
 use Rattle.std.specs.Prelude.{Option, None, Some}
 use mathlib.Core.Path.{◌≡◌, refl, sym, ap, ◌∙◌}
 use mathlib.Core.Bool.{Bool, true, false}
 use mathlib.Core.List.{List}
-use Prim.Native.Nat.{ℕ, suc, ◌+◌, ◌-◌, ◌≤◌, ◌<◌}
+use Prim.Native.Nat.{ℕ, suc, ◌+◌, ◌≤◌, ◌<◌}
 use native.Mathlib.Omega.{arith}
 use borrow.Author.Tests.{eqb-true, eqb-false}
 use lib.Dec.{eqb}
-use lib.ListN.{length, get_or}
+use lib.ListN.{length, take, drop, get_or, length-take, length-drop}
+use lib.Seq.{ext_get_or, get_or-take, get_or-drop}
 use Rattle.rules.specs.Text.{Text}
 use Rattle.rules.specs.Label.{Label, Table, find}
 use Rattle.label.specs.Table.{hash_of, cell_of, row, table_of, name_at, hash_at, last_with, Held, row_of}
 use Rattle.label.proofs.Rows.{RowAt, row_at, no_row}
 use Rattle.label.proofs.Chain.{hash_below, Last, last}
-use Rattle.label.proofs.Table.{table_length, table_at}
+use Rattle.label.proofs.Table.{table_length, table_at, name_length}
 
 -- a label of that name
 abbrev named : Text → Label
@@ -57,52 +58,93 @@ pub record Left (source : Text) (cells : List ℕ) (count : ℕ) (name : Text) (
   pub hash : (j : ℕ) → k ≡ suc j → hash_at source cells j ≡ hash_of name
   pub above : (j : ℕ) → k ≤ j → j < count → name ≡ name_at source cells j → ⊥
 
+-- the row is in the cell `link`
+pub record Linked (source : Text) (cells : List ℕ) (count : ℕ) (name : Text) (link : ℕ) : Type 0 where
+  pub there : link < length cells
+  pub left : Left source cells count name (get_or cells link 0)
+
+-- ---- the loop over a row's bytes
+-- what it keeps: so far they are the name's; and what it comes to if they all are, or if one is not
+pub record Bytes (source : Text) (cells : List ℕ) (count : ℕ) (name : Text) (start row link i : ℕ) : Type 0 where
+  pub inside : start + length name ≤ length source
+  pub so_far : (j : ℕ) → j < i → get_or source (start + j) 0 ≡ get_or name j 0
+  pub hit : take (length name) (drop start source) ≡ name → Some row ≡ row_of name (table_of source cells count)
+  pub miss : (take (length name) (drop start source) ≡ name → ⊥) → Linked source cells count name link
+
 module _ {source : Text} {cells : List ℕ} {count : ℕ} {name : Text} where
   -- from the head of the hash on
-  pub left_start : {h : ℕ} → Held source cells count → h ≡ hash_of name → Left source cells count name (get_or cells h 0)
-  left_start held e =
+  pub linked_start : {h : ℕ} → Held source cells count → h ≡ hash_of name → Linked source cells count name h
+  linked_start held e =
+      let b = hash_below name in
       let l : Last (hash_at source cells) (hash_of name) count (last_with (hash_at source cells) (hash_of name) count) = last (hash_at source cells) (hash_of name) count in
-      rw (e, held.heads (hash_of name) (hash_below name))
-      (record { upto = l.upto; hash = l.hash; above = λ j p q n. l.above j p q (ap hash_of (sym n)) })
+      rw e
+      (record {
+        there = omega (arith, b, held.rows);
+        left = rw (held.heads (hash_of name) b) (record { upto = l.upto; hash = l.hash; above = λ j p q n. l.above j p q (ap hash_of (sym n)) });
+      })
 
-  module _ {k : ℕ} (inv : Left source cells count name k) where
-    pub left_none : k ≡ 0 → None ≡ row_of name (table_of source cells count)
-    left_none z = row_none source cells count name (λ j b. inv.above j (omega arith) b)
+  module _ {link : ℕ} (inv : Linked source cells count name link) where
+    pub linked_none : get_or cells link 0 ≡ 0 → None ≡ row_of name (table_of source cells count)
+    linked_none z = row_none source cells count name (λ j b. inv.left.above j (omega arith) b)
 
-    -- row k - 1
-    module _ (held : Held source cells count) (f : 0 < k) where
-      pub row_upto : k - 1 < count
-      row_upto = omega (arith, inv.upto)
+    -- row k
+    module _ {k : ℕ} (held : Held source cells count) (f : get_or cells link 0 ≡ suc k) where
+      row_upto : k < count
+      row_upto = omega (arith, inv.left.upto)
 
-      pub row_inside : get_or cells (cell_of (k - 1)) 0 + get_or cells (cell_of (k - 1) + 1) 0 ≤ length source
-      row_inside = held.within (k - 1) row_upto
+      -- its cells are there
+      pub row_inside : cell_of (k + 1) ≤ length cells
+      row_inside = omega (arith, row_upto, held.rows)
 
-      -- which bears the name
-      pub row_is : name_at source cells (k - 1) ≡ name → Some (k - 1) ≡ row_of name (table_of source cells count)
-      row_is = row_hit source cells count name held (k - 1) row_upto
+      -- it does not bear the name
+      module _ (d : name_at source cells k ≡ name → ⊥) where
+        passed : (j : ℕ) → (j < k → ⊥) → j < count → (y : Bool) → eqb j k ≡ y → name ≡ name_at source cells j → ⊥
+        passed j a b true e n = let z : j ≡ k = eqb-true j k e in d (sym (rw z at n))
+        passed j a b false e n = inv.left.above j (omega (arith, eqb-false j k e)) b n
 
-      -- or does not
-      module _ (d : name_at source cells (k - 1) ≡ name → ⊥) where
-        passed : (j : ℕ) → (j < k - 1 → ⊥) → j < count → (y : Bool) → eqb j (k - 1) ≡ y → name ≡ name_at source cells j → ⊥
-        passed j a b true e n = let z : j ≡ k - 1 = eqb-true j (k - 1) e in d (sym (rw z at n))
-        passed j a b false e n = inv.above j (omega (arith, eqb-false j (k - 1) e)) b n
-
-        pub row_not : Left source cells count name (get_or cells (cell_of (k - 1) + 3) 0)
+        row_not : Linked source cells count name (cell_of k + 3)
         row_not =
-            let r : ℕ = k - 1 in
-            let l : Last (hash_at source cells) (hash_of name) r (last_with (hash_at source cells) (hash_of name) r) = last (hash_at source cells) (hash_of name) r in
-            rw (held.before r row_upto, inv.hash r (omega arith))
-            (record {
-              upto = omega (arith, l.upto, inv.upto);
-              hash = l.hash;
-              above = λ j b c n. passed j (λ q. l.above j b q (ap hash_of (sym n))) c (eqb j r) refl n;
-            })
+            let l : Last (hash_at source cells) (hash_of name) k (last_with (hash_at source cells) (hash_of name) k) = last (hash_at source cells) (hash_of name) k in
+            record {
+              there = omega (arith, row_inside);
+              left = rw (held.before k row_upto, inv.left.hash k f)
+                  (record {
+                    upto = omega (arith, l.upto, row_upto);
+                    hash = l.hash;
+                    above = λ j b c n. passed j (λ q. l.above j b q (ap hash_of (sym n))) c (eqb j k) refl n;
+                  });
+            }
+
+      -- as it is of another length
+      pub other_length : (get_or cells (cell_of k + 1) 0 ≡ length name → ⊥) → Linked source cells count name (cell_of k + 3)
+      other_length d = row_not (λ n. d (sym (name_length held k row_upto) ∙ ap length n))
+
+      -- or of the same
+      pub bytes_start : get_or cells (cell_of k + 1) 0 ≡ length name → Bytes source cells count name (get_or cells (cell_of k) 0) k (cell_of k + 3) 0
+      bytes_start e =
+          let same = ap (λ (n : ℕ). take n (drop (get_or cells (cell_of k) 0) source)) e in
+          record {
+            inside = omega (arith, held.within k row_upto);
+            so_far = λ j b. absurd (omega arith);
+            hit = λ n. row_hit source cells count name held k row_upto (same ∙ n);
+            miss = λ d. row_not (λ n. d (sym same ∙ n));
+          }
 
       -- the row before it is nearer to the first
-      pub row_nearer : get_or cells (cell_of (k - 1) + 3) 0 < k
+      pub row_nearer : get_or cells (cell_of k + 3) 0 < get_or cells link 0
       row_nearer =
-          let l = last (hash_at source cells) (hash_at source cells (k - 1)) (k - 1) in
-          rw (held.before (k - 1) row_upto) (omega (arith, l.upto))
+          let l = last (hash_at source cells) (hash_at source cells k) k in
+          rw (held.before k row_upto) (omega (arith, l.upto))
+
+module _ {source : Text} {cells : List ℕ} {count : ℕ} {name : Text} {start row link i : ℕ} (inv : Bytes source cells count name start row link i) where
+  part_at : (j : ℕ) → j < length name → get_or (take (length name) (drop start source)) j 0 ≡ get_or source (start + j) 0
+  part_at j b = rw (get_or-take, get_or-drop)
+
+  -- all of them are the name's
+  pub bytes_all : length name ≤ i → Some row ≡ row_of name (table_of source cells count)
+  bytes_all h =
+      let n : length (take (length name) (drop start source)) ≡ length name = simp (length-take, length-drop) (omega (arith, inv.inside)) in
+      inv.hit (ext_get_or 0 (take (length name) (drop start source)) name n (λ j b. let c : j < length name = rw n at b in part_at j c ∙ inv.so_far j (omega arith)))
 
 -- ---- what `row_hashed` answered
 module _ (source : Text) (cells : List ℕ) (count : ℕ) (name : Text) where

@@ -1,21 +1,20 @@
 -- Laws of the table read from its cells: its rows one by one, and what a row written or linked changes. Assumes nothing.
-use mathlib.Core.Path.{◌≡◌, refl, sym, ◌∙◌}
+use mathlib.Core.Path.{◌≡◌, refl, sym, ap, ◌∙◌}
 use mathlib.Core.Bool.{Bool, true, false}
 use mathlib.Core.List.{List, [], ◌∷◌, ◌++◌}
-use Prim.Native.Nat.{ℕ, zero, suc, ◌+◌, ◌≤◌, ◌<◌}
+use Prim.Native.Nat.{ℕ, zero, suc, ◌+◌, ◌≤◌, ◌<◌, min}
 use native.Mathlib.Numerals.{add-one}
 use native.Mathlib.Omega.{arith}
 use borrow.Author.Tests.{eqb-true, eqb-false}
 use lib.Dec.{eqb}
-use lib.ListN.{length, set, drop, get_or, replicate, length-append, length-set, length-replicate, get_or-replicate, get_or-append, length-drop}
-use lib.Seq.{length-take-le, get_or_at, get_or-set_same, get_or-set_other, drop-set-lt, ext_get_or}
+use lib.ListN.{length, set, take, drop, get_or, replicate, length-append, length-set, length-take, length-replicate, get_or-replicate, get_or-append, length-drop}
+use lib.Seq.{length-take-le, get_or-take, get_or_at, get_or-set_same, get_or-set_other, drop-set-lt, ext_get_or}
 use Rattle.rules.specs.Text.{Text}
 use Rattle.text.specs.Breaks.{line_number}
 use Rattle.rules.specs.Label.{Label}
 use Rattle.label.specs.Table.{hashes, label_at, cell_of, row, table_of, name_at, last_with, Held}
 use Rattle.label.specs.Record.{with_row, with_head}
-use Rattle.label.specs.Numbers.{numbers_of}
-use Rattle.label.specs.declared.Row.{Row}
+use Rattle.label.specs.Numbers.{numbers_of, row_in}
 
 -- ---- rows
 module _ (source : Text) (cells : List ℕ) where
@@ -45,9 +44,11 @@ module _ (source : Text) (cells : List ℕ) where
           let l : k < n = omega (arith, eqb-false k n e) in
           get_or-append (table_of source cells n) (row source cells n ∷ []) d k (rw (table_length n) l) ∙ ih l
 
--- a table of zeros
-pub held_zeros : (source : Text) (n : ℕ) → hashes ≤ n → Held source (replicate n 0) 0
-held_zeros source n r = held_empty source (replicate n 0) (rw length-replicate r) (λ h b. get_or-replicate n h 0 0 (omega arith))
+-- cells that begin with heads of 0
+pub held_heads : (source : Text) {cells : List ℕ} → take hashes cells ≡ replicate hashes 0 → Held source cells 0
+held_heads source {cells} e =
+    let l : min hashes (length cells) ≡ hashes = rw (length-take hashes cells, length-replicate {A = ℕ} hashes 0) at (ap length e) in
+    held_empty source cells (omega arith) (λ h b. sym (get_or-take hashes cells h 0 b) ∙ ap (λ (t : List ℕ). get_or t h 0) e ∙ get_or-replicate {A = ℕ} hashes h 0 0 b)
 
 -- tables whose rows agree
 table_same : (source : Text) (cells after : List ℕ) (n : ℕ) → ((k : ℕ) → k < n → row source after k ≡ row source cells k)
@@ -177,13 +178,11 @@ module _ (cells : List ℕ) (k h : ℕ) (b : h < hashes) where
 -- ---- a row's numbers
 module _ {source : Text} {cells : List ℕ} {count : ℕ} (held : Held source cells count) where
   -- a name is as long as its row says
-  name_length : (k : ℕ) → k < count → length (name_at source cells k) ≡ get_or cells (cell_of k + 1) 0
+  pub name_length : (k : ℕ) → k < count → length (name_at source cells k) ≡ get_or cells (cell_of k + 1) 0
   name_length k l =
       length-take-le (get_or cells (cell_of k + 1) 0) (drop (get_or cells (cell_of k) 0) source) (rw length-drop (omega (arith, held.within k l)))
 
-  pub numbers_at : {k : ℕ} (d : Label) → k < count
-      → ◌≡◌ {A = Row} (record { start = get_or cells (cell_of k) 0; length = get_or cells (cell_of k + 1) 0; address = get_or cells (cell_of k + 2) 0 })
-      (numbers_of (get_or (table_of source cells count) k d))
+  pub numbers_at : {k : ℕ} (d : Label) → k < count → row_in cells k ≡ numbers_of (get_or (table_of source cells count) k d)
   numbers_at {k} d l = rw (table_at source cells count k d l, name_length k l)
 
 -- a label's start tells its line

@@ -1,16 +1,15 @@
 #![tactic(auto)]
 
-// The labels of a source: a table of rows (start, length, address, row before) into it, written and searched.
-// A name is sought only among the rows of its hash: from the hash's head, at the cells' front, to the last of these
-// rows, and from each row to the one before. Rows count from 1 there; 0 is none. Cells of zeros hold no labels.
-
-ghost use Rattle.std.specs.Prelude.{◌≡◌, ◌≤◌, ◌<◌, ◌+◌, ◌-◌, ◌/◌, ◌↔◌, true, false, [], length, get_or, replicate, IfOk, IfErr, IsTrue, ℕ};
+//! The labels of a source: a table of rows (start, length, address, row before) into it, written and searched.
+//! A name is sought only among the rows of its hash: from the hash's head, at the cells' front, to the last of these
+//! rows, and from each row to the one before. Rows count from 1 there; 0 is none. Cells whose heads are 0 hold no labels.
+ghost use Rattle.std.specs.Prelude.{◌≡◌, ◌≤◌, ◌<◌, ◌+◌, ◌-◌, ◌/◌, true, false, [], length, take, get_or, replicate, IfOk, IfErr, ℕ};
 ghost use Rattle.rules.specs.Limits.{max_source, max_labels};
 ghost use Rattle.rules.specs.Label.{Label, find, recorded, has_room};
 ghost use Rattle.text.specs.Breaks.{line_number};
-ghost use Rattle.label.specs.Table.{hashes, hash_of, cell_of, row_of};
-ghost use Rattle.label.specs.Record.{with_row, with_head, span_label, span_name};
-ghost use Rattle.label.specs.Numbers.{numbers_of};
+ghost use Rattle.label.specs.Table.{Held, hashes, hash_of, cell_of, table_of, row_of};
+ghost use Rattle.label.specs.Record.{with_row, with_head, span_label, span_name, cells_with};
+ghost use Rattle.label.specs.Numbers.{numbers_of, row_in};
 
 use std::marker::Model;
 
@@ -39,6 +38,7 @@ pub struct Row {
 }
 
 /// The labels of a source, in cells that are lent: in the order of their first record, each with its last address.
+// No `==`: it holds a `&mut`.
 #[derive(Drop)]
 pub struct Labels<'a> {
     source: &'a [u8],
@@ -67,28 +67,13 @@ fn hash_of(name: &[u8]) -> usize
     hash
 }
 
-// Whether two texts are the same. `==` of slices is a quarter slower here, at names of a few bytes.
-fn is_same(a: &[u8], b: &[u8]) -> bool
-    ensures { IsTrue result ↔ (a.now ≡ b.now) }
-{
-    if a.len() != b.len() {
-        return false;
-    }
-    for i in 0..a.len() {
-        if a[i] != b[i] {
-            return false;
-        }
-    }
-    true
-}
-
 impl<'a> Labels<'a> {
-    /// No labels yet, in cells of zeros.
+    /// No labels yet, in cells whose heads are 0.
     pub fn new(source: &'a [u8], cells: &'a mut [u32]) -> Self
-        requires zeros { cells.old ≡ replicate (length cells.old) 0 }
-        requires heads { hashes ≤ length cells.old }
+        requires { take hashes cells.old ≡ replicate hashes 0 }
         ensures source { result.source ≡ source.now }
         ensures table { result.table ≡ [] }
+        ensures cells { result.cells ≡ cells.old }
         ensures room { result.room ≡ (length cells.old - hashes) / 4 }
     {
         Labels {
@@ -98,19 +83,21 @@ impl<'a> Labels<'a> {
         }
     }
 
-    /// How many labels there are. Each one's line is that of its start.
+    /// How many labels there are. Their names lie in the source and differ, and each one's line is that of its start.
     pub fn len(&self) -> usize
         ensures count { result ≡ length self.now.table }
+        ensures rows { table_of self.now.source self.now.cells result ≡ self.now.table }
+        ensures held { Held self.now.source self.now.cells result }
         ensures lines { (k : ℕ) (d : Label) → k < length self.now.table → (get_or self.now.table k d).line ≡ line_number self.now.source (get_or self.now.table k d).start }
     {
-        self.count // the rows
+        self.count
     }
 
     /// The source that they stand in.
     pub fn source(&self) -> &'a [u8]
         ensures { result.now ≡ self.now.source }
     {
-        self.source // all of it
+        self.source
     }
 
     // The row of the label `name`, whose hash is `hash`.
@@ -118,31 +105,44 @@ impl<'a> Labels<'a> {
         requires { hash ≡ hash_of name.now }
         ensures { result ≡ row_of name.now self.now.table }
     {
-        let mut next = self.cells[hash] as usize;
-        while next != 0 {
-            let row = next - 1;
-            let cell = HEADS + 4 * row;
-            let start = self.cells[cell] as usize;
-            let len = self.cells[cell + 1] as usize;
-            if is_same(&self.source[start..start + len], name) {
-                return Some(row);
+        let mut link = hash;
+        // A chain of rows, which no index counts.
+        'names: while self.cells[link] != 0 {
+            // No `From` makes a usize of a u32.
+            let k = (self.cells[link] - 1) as usize;
+            link = HEADS + 4 * k + 3;
+            let row = read_row(self.cells, k);
+            if row.length != name.len() {
+                continue 'names;
             }
-            next = self.cells[cell + 3] as usize;
+            // One index into both texts.
+            for i in 0..name.len() {
+                if self.source[row.start + i] != name[i] {
+                    continue 'names;
+                }
+            }
+            return Some(k);
         }
         None
     }
 
-    /// The address of the label `name`. Where there is no label, the name's hash is not made.
-    pub fn find(&self, name: &[u8]) -> Option<u32>
-        ensures { result ≡ find name.now self.now.table }
+    /// The row of the label `name`, from 0; None where no label has that name. With no labels at all the name's hash is not made.
+    pub fn find_row(&self, name: &[u8]) -> Option<usize>
+        ensures { result ≡ row_of name.now self.now.table }
     {
         if self.count == 0 {
             return None;
         }
         let hash = hash_of(name);
-        let row = self.row_hashed(name, hash)?;
-        let cells = &*self.cells;
-        Some(cells[HEADS + 4 * row + 2])
+        self.row_hashed(name, hash)
+    }
+
+    /// The address of the label `name`; None where no label has that name.
+    pub fn find(&self, name: &[u8]) -> Option<u32>
+        ensures { result ≡ find name.now self.now.table }
+    {
+        let row = self.find_row(name)?;
+        Some(read_row(self.cells, row).address)
     }
 
     /// The numbers of the label in row k.
@@ -150,16 +150,13 @@ impl<'a> Labels<'a> {
         requires { k < length self.now.table }
         ensures { (d : Label) → result ≡ numbers_of (get_or self.now.table k d) }
     {
-        let cells = &*self.cells;
-        let cell = HEADS + 4 * k;
-        Row {
-            start: cells[cell] as usize,
-            length: cells[cell + 1] as usize,
-            address: cells[cell + 2],
-        }
+        read_row(self.cells, k)
     }
 
-    /// Records the label that stands from `start` to before `end` in the source: again in its row, or in a new one.
+    /// Records the label that stands from `start` to before `end` in the source: again in its row, or in a new one. `Full`, with
+    /// nothing recorded, where the name is new and as many labels are recorded as there may be.
+    // As a call it takes 15 in 1,000 of a script of labels.
+    #[inline]
     pub fn record(&mut self, start: usize, end: usize, address: u32) -> Result<(), Full>
         requires ordered { start ≤ end }
         requires within { end ≤ length self.old.source }
@@ -169,32 +166,43 @@ impl<'a> Labels<'a> {
         ensures room { self.new.room ≡ self.old.room }
         ensures recorded { IfOk result (λ _. self.new.table ≡ recorded (span_label self.old.source start end address) self.old.table) }
         ensures room_for { IfOk result (λ _. has_room (find (span_name self.old.source start end) self.old.table) self.old.table ≡ true) }
-        ensures kept { IfErr result (λ _. self.new.table ≡ self.old.table) }
+        ensures written { IfOk result (λ _. self.new.cells ≡ cells_with self.old.source self.old.table self.old.cells start end address) }
+        ensures kept { IfErr result (λ _. self.new ≡ self.old) }
         ensures full { IfErr result (λ _. has_room (find (span_name self.old.source start end) self.old.table) self.old.table ≡ false) }
     {
         let name = &self.source[start..end];
         let hash = hash_of(name);
         match self.row_hashed(name, hash) {
+            // The numbers are below 2^32, as the source is short.
             Some(row) => {
                 write_row(self.cells, row, start as u32, (end - start) as u32, address);
                 Ok(())
             }
             None => {
-                if rules::MAX_LABELS <= self.count {
+                let row = self.count;
+                if rules::MAX_LABELS <= row {
                     return Err(Full);
                 }
-                write_row(
-                    self.cells,
-                    self.count,
-                    start as u32,
-                    (end - start) as u32,
-                    address,
-                );
-                link_row(self.cells, self.count, hash);
-                self.count += 1;
+                write_row(self.cells, row, start as u32, (end - start) as u32, address);
+                link_row(self.cells, row, hash);
+                self.count = row + 1;
                 Ok(())
             }
         }
+    }
+}
+
+// Row k, read.
+fn read_row(cells: &[u32], k: usize) -> Row
+    requires { cell_of k + 2 < length cells.now }
+    ensures { result ≡ row_in cells.now k }
+{
+    let cell = HEADS + 4 * k;
+    // No `From` makes a usize of a u32.
+    Row {
+        start: cells[cell] as usize,
+        length: cells[cell + 1] as usize,
+        address: cells[cell + 2],
     }
 }
 
@@ -218,5 +226,6 @@ fn link_row(cells: &mut [u32], k: usize, hash: usize)
 {
     let before = cells[hash];
     cells[HEADS + 4 * k + 3] = before;
+    // At most as many as there may be labels.
     cells[hash] = (k + 1) as u32;
 }

@@ -1,7 +1,8 @@
 -- The answer told: what the call answers by the first pass. Assumes nothing.
-use Rattle.std.specs.Prelude.{Option, None, Some}
-use Rattle.std.specs.Option.{option_map}
+use Rattle.std.specs.Prelude.{Option, None, Some, Ok, Err}
+use Rattle.std.specs.Option.{option_map, ok_or}
 use mathlib.Core.Path.{◌≡◌, refl, sym, ap, ◌∙◌}
+use mathlib.Core.Bool.{false≢true}
 use Prim.Native.Nat.{ℕ, ◌-◌}
 use Rattle.rules.specs.Text.{Text}
 use Rattle.rules.specs.Line.{size}
@@ -12,6 +13,16 @@ use Rattle.requests.specs.Nearest.{nearest_in, told_nearest, nearest}
 use Rattle.label.specs.Numbers.{numbers_of}
 use Rattle.label.specs.declared.Row.{Row}
 use Rattle.nearest.proofs.Walk.{nothing, numbered}
+
+-- ---- `ok_or`
+module _ {T E : Type 0} where
+  pub ok_or_some : (o : Option T) (e : E) {x : T} → ok_or o e ≡ Ok x → Some x ≡ o
+  ok_or_some None e p = absurd (false≢true cc)
+  ok_or_some (Some y) e p = cc
+
+  pub ok_or_none : (o : Option T) (e : E) {f : E} → ok_or o e ≡ Err f → (None ≡ o) × (f ≡ e)
+  ok_or_none None e p = (refl, cc)
+  ok_or_none (Some y) e p = absurd (false≢true cc)
 
 module _ (a : ℕ) (o : Option Label) where
   tell_at : (x : Row) → Some x ≡ option_map numbers_of o → accepted (record { start = x.start; length = x.length; distance = a - x.address }) ≡ told_nearest a o

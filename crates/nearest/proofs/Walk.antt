@@ -6,7 +6,7 @@ use mathlib.Core.Bool.{Bool, true, false, false≢true}
 use mathlib.Core.List.{[], ◌∷◌}
 use Prim.Native.Nat.{ℕ, suc, ◌-◌, ◌≤◌, ◌<◌}
 use native.Mathlib.Omega.{arith}
-use borrow.Author.Tests.{le-leb, lt-leb, leb-true}
+use borrow.Author.Tests.{le-leb, leb-true}
 use lib.Dec.{leb}
 use lib.ListN.{length, drop, get_or, drop_of_length-le}
 use lib.Seq.{drop-cons}
@@ -31,9 +31,6 @@ numbered None x e = absurd (false≢true cc)
 numbered (Some l) x e = record { label = l; is = refl; numbers = cc }
 
 -- ---- one label more
-skipped : (a : ℕ) (l : Label) (o : Option Label) → a < l.address → with_label a l o ≡ o
-skipped a l o h = rw (lt-leb l.address a h) refl
-
 taken : (a : ℕ) (l : Label) (o : Option Label) → l.address ≤ a → with_label a l o ≡ Some (nearer_of l o)
 taken a l o h = rw (le-leb l.address a h) refl
 
@@ -46,9 +43,6 @@ unfolding nearer_of
 nearer_not l m e = rw e refl
 
 module _ {x : Row} (a : ℕ) (l : Label) (o : Option Label) (e : x ≡ numbers_of l) where
-  pub row_past : a < x.address → {best : Option Row} → best ≡ option_map numbers_of o → best ≡ option_map numbers_of (with_label a l o)
-  row_past h f = f ∙ ap (option_map numbers_of) (sym (skipped a l o (rw e at h)))
-
   module _ (h : x.address ≤ a) where
     pub row_alone : None ≡ option_map numbers_of o → Some x ≡ option_map numbers_of (with_label a l o)
     unfolding nearer_of

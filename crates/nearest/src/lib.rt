@@ -35,6 +35,7 @@ fn with_row(row: Row, best: Option<Row>, address: u32) -> Option<Row>
     if address < row.address {
         return best;
     }
+    // Without a best row this one is it: no None to hand on.
     let Some(other) = best else {
         return Some(row);
     };
@@ -44,7 +45,8 @@ fn with_row(row: Row, best: Option<Row>, address: u32) -> Option<Row>
     best
 }
 
-// The nearest of the labels, whose address does not pass the one asked: one walk, from the last row to the first.
+// The nearest of the labels, whose address does not pass the one asked: one walk, from the last row to the first, as a row is read
+// by its number. `symbols` walks so too: one walk for both would want a trait and a type for each, which is more than the loop.
 fn nearest_row(labels: &Labels<'_>, address: u32) -> Option<Row>
     ensures nearest { result ≡ option_map numbers_of (nearest_in address labels.now.table) }
     ensures not_past { IfSome result (λ row. row.address ≤ address) }
@@ -62,13 +64,12 @@ fn nearest_row(labels: &Labels<'_>, address: u32) -> Option<Row>
 pub fn nearest_label(source: &[u8], base: u32, address: u32) -> Result<Nearest, Refusal>
     ensures { nearest_of result ≡ nearest base source.now address }
 {
+    // Without a heap: as large as the largest source needs.
     let mut table = [0; label::TABLE];
     let mut cells = [0; 2 * rules::MAX_LINES];
     let mut labels = Labels::new(source, &mut table);
     first::enter(&mut labels, base, &mut cells)?;
-    let Some(row) = nearest_row(&labels, address) else {
-        return Err(Refusal::NoLabelNear);
-    };
+    let row = nearest_row(&labels, address).ok_or(Refusal::NoLabelNear)?;
     Ok(Nearest {
         start: row.start,
         length: row.length,

@@ -82,6 +82,3 @@ module _ (t : Table) (i : ℕ) where
       let d : Label = record { name = []; start = 0; address = 0; line = 0 } in
       let z : k ≡ suc (k - 1) = omega arith in
       rw (drop-cons t (k - 1) d (omega arith)) (n (get_or t (k - 1) d) (next_in i (drop (suc (k - 1)) t)) (r d) (w ∙ ap (λ (j : ℕ). option_map numbers_of (next_in i (drop j t))) z))
-
-  pub walk_end : (k : ℕ) → k ≤ 0 → {best : Option Row} → best ≡ option_map numbers_of (next_in i (drop k t)) → best ≡ option_map numbers_of (next_in i t)
-  walk_end k h w = let z : k ≡ 0 = omega arith in rw z at w

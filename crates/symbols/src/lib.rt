@@ -21,6 +21,7 @@ fn earlier_row(row: Row, best: Option<Row>, from: usize) -> Option<Row>
     if row.start < from {
         return best;
     }
+    // Without a best row this one is it: no None to hand on.
     let Some(other) = best else {
         return Some(row);
     };
@@ -30,7 +31,8 @@ fn earlier_row(row: Row, best: Option<Row>, from: usize) -> Option<Row>
     best
 }
 
-// Of the labels that start at `from` or later the one that starts first.
+// Of the labels that start at `from` or later the one that starts first, by one walk, as a row is read by its number. `nearest` walks
+// so too: one walk for both would want a trait and a type for each, which is more than the loop.
 fn next_row(labels: &Labels<'_>, from: usize) -> Option<Row>
     ensures { result ≡ option_map numbers_of (next_in from labels.now.table) }
 {
@@ -49,6 +51,8 @@ fn count_breaks(s: &[u8]) -> usize
     count_newlines(s)
 }
 
+// The same, promised in std's words, as the chain's own promise is: `count_breaks` ties them to the rules. `source` counts in a `u16`, many
+// bytes at a time, and so asks for a short text, as this does not.
 fn count_newlines(s: &[u8]) -> usize
     ensures { result ≡ count_by (λ b. nat_eq b 10) s.now }
 {
@@ -72,8 +76,10 @@ fn write_rows(
     let mut at = 0;
     let mut from = 0;
     let mut k = 0;
+    // Each row is sought from where the last one starts, and goes into place k of four slices.
     while let Some(row) = next_row(labels, from) {
         line += count_breaks(&source[at..row.start]);
+        // A source's places and lines are far below 2^32.
         starts[k] = row.start as u32;
         lengths[k] = row.length as u32;
         addresses[k] = row.address;
@@ -106,6 +112,7 @@ pub fn list_symbols(
     ensures answer { answer_of result ≡ symbols_answer base source.now (rows starts.old lengths.old addresses.old lines.old) }
     ensures rows { rows starts.new lengths.new addresses.new lines.new ≡ symbols_rows base source.now (rows starts.old lengths.old addresses.old lines.old) }
 {
+    // Without a heap: as large as the largest source needs.
     let mut table = [0; label::TABLE];
     let mut cells = [0; 2 * rules::MAX_LINES];
     let mut labels = Labels::new(source, &mut table);

@@ -1,6 +1,6 @@
 -- `next_row` has before each row the next of the rows from there on. Assumes nothing.
 use Rattle.std.proofs.Common.{arith}
-use Rattle.symbols.proofs.Next.{walk_start, walk_on, walk_end}
+use Rattle.symbols.proofs.Next.{walk_start, walk_on}
 use Rattle.symbols.proofs.next_row.Goals as goal
 
 pub loop-k-init : goal.loop-k-init
@@ -8,6 +8,3 @@ loop-k-init c = walk_start c.args.labels.now.table _ _ (omega (arith, c.len-k.en
 
 pub loop-k-preserved : goal.loop-k-preserved
 loop-k-preserved c = walk_on c.args.labels.now.table _ _ (omega arith) (omega (arith, c.len-k.ensures.count)) c.row.ensures c.earlier_row-best.ensures c.loop-k.invariant
-
-pub returns : goal.returns
-returns c = walk_end c.args.labels.now.table _ _ c.loop-k-test.false c.loop-k.invariant

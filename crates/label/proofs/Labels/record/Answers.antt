@@ -35,10 +35,10 @@ write_row-requires c = omega (arith, row_cells _ _ _ _ _ (sym c.in-Some.is ∙ r
 pub invariant_of-self : goal.invariant_of-self
 invariant_of-self c = record { held = (keeps c).holds }
 
-pub returns-then-self-ge-MAX_LABELS-clause-full : goal.returns-then-self-ge-MAX_LABELS-clause-full
-returns-then-self-ge-MAX_LABELS-clause-full c =
-    let p = (goal.at.returns-then-self-ge-MAX_LABELS-clause-full c).After-row_hashed in
-    rw (← c.self.view_is) (full c.args.address c.self.invariant.held c.requires.ordered (within p) (sym c.in-None.is ∙ row p) c.if-self-ge-MAX_LABELS.true)
+pub returns-then-row-ge-MAX_LABELS-clause-full : goal.returns-then-row-ge-MAX_LABELS-clause-full
+returns-then-row-ge-MAX_LABELS-clause-full c =
+    let p = (goal.at.returns-then-row-ge-MAX_LABELS-clause-full c).After-row_hashed in
+    rw (← c.self.view_is) (full c.args.address c.self.invariant.held c.requires.ordered (within p) (sym c.in-None.is ∙ row p) c.if-row-ge-MAX_LABELS.true)
 
 pub write_row-requires-in-None : goal.write_row-requires-in-None
 write_row-requires-in-None c = omega (arith, room (goal.at.write_row-requires-in-None c).After-row_hashed (omega arith))
@@ -58,8 +58,11 @@ returns-in-Some-clause-recorded c = rw (← c.self.view_is) (keeps c).table
 pub returns-in-Some-clause-room_for : goal.returns-in-Some-clause-room_for
 returns-in-Some-clause-room_for c = rw (← c.self.view_is) (keeps c).room
 
-pub returns-else-self-ge-MAX_LABELS-clause-recorded : goal.returns-else-self-ge-MAX_LABELS-clause-recorded
-returns-else-self-ge-MAX_LABELS-clause-recorded c = rw (← c.self.view_is) (keeps_next c).table
+pub returns-else-row-ge-MAX_LABELS-clause-recorded : goal.returns-else-row-ge-MAX_LABELS-clause-recorded
+returns-else-row-ge-MAX_LABELS-clause-recorded c = rw (← c.self.view_is) (keeps_next c).table
 
-pub returns-else-self-ge-MAX_LABELS-clause-room_for : goal.returns-else-self-ge-MAX_LABELS-clause-room_for
-returns-else-self-ge-MAX_LABELS-clause-room_for c = rw (← c.self.view_is) (keeps_next c).room
+pub returns-else-row-ge-MAX_LABELS-clause-room_for : goal.returns-else-row-ge-MAX_LABELS-clause-room_for
+returns-else-row-ge-MAX_LABELS-clause-room_for c = rw (← c.self.view_is) (keeps_next c).room
+
+pub returns-else-row-ge-MAX_LABELS-clause-written : goal.returns-else-row-ge-MAX_LABELS-clause-written
+returns-else-row-ge-MAX_LABELS-clause-written c = rw (← c.self.view_is) (keeps_next c).written

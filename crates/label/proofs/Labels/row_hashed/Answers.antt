@@ -1,26 +1,26 @@
--- `row_hashed` looks at one row of the hash after the other. Assumes nothing.
-use Rattle.std.proofs.Common.{rules, arith}
-use Rattle.label.proofs.Chain.{hash_is_below}
-use Rattle.label.proofs.Search.{left_start, left_none, row_is, row_not, row_nearer}
+-- `row_hashed` looks at one row of the hash after the other, and at a row's bytes one after the other. Assumes nothing.
+use Rattle.std.proofs.Common.{arith, ap}
+use Rattle.label.specs.declared.Row.{Row}
+use Rattle.label.proofs.Search.{linked_start, linked_none, other_length, bytes_start, bytes_all, row_nearer}
 use Rattle.label.proofs.Labels.row_hashed.Goals as goal
 
-pub offset_bounds-self-inside-hash : goal.offset_bounds-self-inside-hash
-offset_bounds-self-inside-hash c = omega (arith, hash_is_below _ c.requires)
+pub names-init : goal.names-init
+names-init c = linked_start c.self.invariant.held c.requires
 
-pub bounds-self-inside-hash : goal.bounds-self-inside-hash
-bounds-self-inside-hash c = omega (arith, hash_is_below _ c.requires, c.self.invariant.held.rows)
+pub names-smaller-then-row-name : goal.names-smaller-then-row-name
+names-smaller-then-row-name c = row_nearer c.names.invariant c.self.invariant.held (omega arith)
 
-pub loop-next-init : goal.loop-next-init
-loop-next-init c = left_start c.self.invariant.held c.requires
+pub names-preserved-then-row-name : goal.names-preserved-then-row-name
+names-preserved-then-row-name c = other_length c.names.invariant c.self.invariant.held (omega arith) (λ e. omega (arith, ap (λ (r : Row). r.length) c.read_row-row.ensures))
 
-pub returns-then-is_same : goal.returns-then-is_same
-returns-then-is_same c = rw (← c.self.view_is) (row_is c.loop-next.invariant c.self.invariant.held (omega arith) (search (rules, c.is_same.ensures, c.if-is_same.true)))
+pub loop-i-init : goal.loop-i-init
+loop-i-init c = rw c.read_row-row.ensures (bytes_start c.names.invariant c.self.invariant.held (omega arith) (omega (arith, ap (λ (r : Row). r.length) c.read_row-row.ensures)))
 
-pub loop-next-smaller : goal.loop-next-smaller
-loop-next-smaller c = row_nearer c.loop-next.invariant c.self.invariant.held (omega arith)
+pub names-smaller : goal.names-smaller
+names-smaller c = row_nearer c.names.invariant c.self.invariant.held (omega arith)
 
-pub loop-next-preserved : goal.loop-next-preserved
-loop-next-preserved c = row_not c.loop-next.invariant c.self.invariant.held (omega arith) (search (rules, c.is_same.ensures, c.if-is_same.false))
+pub returns-in-names : goal.returns-in-names
+returns-in-names c = rw (← c.self.view_is) (bytes_all c.loop-i.invariant (omega arith))
 
 pub returns : goal.returns
-returns c = rw (← c.self.view_is) (left_none c.loop-next.invariant (omega arith))
+returns c = rw (← c.self.view_is) (linked_none c.names.invariant (omega arith))
