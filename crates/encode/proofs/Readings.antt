@@ -1,8 +1,8 @@
 -- Operands read one by one; low bits, displacements and JMP's operand. Assumes nothing.
-use Rattle.std.specs.Prelude.{Option, None, Some, Result}
+use Rattle.std.specs.Prelude.{Option, None, Some, Result, Ok}
 use Rattle.std.specs.Result.{result_ok, is_ok}
 use Rattle.rules.specs.Option.{bind}
-use mathlib.Core.Path.{◌≡◌, refl, sym, ◌∙◌}
+use mathlib.Core.Path.{◌≡◌, refl, sym, ap, ◌∙◌}
 use Prim.Native.Nat.{ℕ, ◌%◌, ◌<◌, ◌^◌}
 use lib.Bits.{and_mask}
 use lib.IntN.{ℤ}
@@ -54,8 +54,8 @@ module _ (s : Text) {x : Option (Result ℕ Failure)} (e : x ≡ immediate_of (i
       go None q = cc
       go (Some y) q = let k : result_of y ≡ r = cc in rw (value_is y, k)
 
-pub imm16_below : (s : Text) (v : ℕ) → imm16 s ≡ Some v → v < 2 ^ 16
-imm16_below s v e = all_some (λ (w : ℕ). w < 2 ^ 16) (imm16_all s) e
+  pub imm16_below : {r : Result ℕ Failure} {v : ℕ} → x ≡ Some r → r ≡ Ok v → v < 2 ^ 16
+  imm16_below h k = all_some (λ (w : ℕ). w < 2 ^ 16) (imm16_all s) (imm16_is h ∙ ap result_ok k)
 
 module _ (s : Text) {x : Option (Result ℤ Failure)} (e : x ≡ signed_immediate_of (immediate reading8 s)) where
   pub imm8_none : None ≡ x → None ≡ imm8 s

@@ -6,7 +6,8 @@ use Rattle.rules.specs.Encode.{Content, registers_row, move_rows, movea_row, mul
 use Rattle.opcode.specs.declared.mnemonic.Operation.{Operation}
 use Rattle.opcode.specs.declared.mnemonic.Operation.TheVariants.{Moveq, Move, Movea, Muls, Tst, Subq, Asl, Dbra, Nop, Simhalt, Add, Sub, Cmp, Jmp, Branch}
 
--- a branch's condition has 4 bits
+-- a branch's condition has 4 bits. No invariant of Operation: its Branch is public and takes any number; and encode_manual's clause of this
+-- name, which a lent table's branches need not meet, would stay
 abbrev pub Conditioned : Operation → Type 0
 Conditioned o = (k : ℕ) → o ≡ Branch k → k < 16
 

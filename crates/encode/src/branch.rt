@@ -1,4 +1,4 @@
-// Branches and DBRA: the displacement, of a label in reach or as written.
+//! Branches and DBRA: the displacement, of a label in reach or as written.
 ghost use Rattle.std.specs.Prelude.{◌≡◌, ◌<◌};
 ghost use Rattle.rules.specs.Option.{bind};
 ghost use Rattle.rules.specs.Label.{find};
@@ -13,6 +13,7 @@ use opcode::register::parse_data_register;
 use opcode::word::{branch_word, with_low};
 
 // An operand starting with a sign, read as a signed number.
+// `encode_manual` and `explain` ask for the sign too: one function for the three would want a contract and an edit of its own for one `||`.
 #[tactic(auto, using(crate::proofs::Readings::value_is), unfolding(rules::specs::Encode::written_signed, rules::specs::Encode::written_reading, rules::specs::Option::bind, rules::specs::Text::bytes))]
 fn written_signed(t: &[u8]) -> Option<i32>
     ensures { result ≡ written_signed t.now }

@@ -1,4 +1,7 @@
-// An instruction whose tail does not stand joined: by a normalised copy, in an array of one of three lengths.
+//! An instruction whose tail does not stand joined: by a normalised copy, in an array of one of three lengths.
+// `encode_manual` has a copier of its own, and `explain` (form.rt) a third, with one array. One for both encoders, in `instruction`, was
+// tried. Handing it a closure that reads the copy: a closure over `&Labels` tells its caller nothing of what it answers, and so the caller
+// here got no proof. Handing it a reader by a trait: proved, and a call of `lagvettu_assemble` takes 7 in 1,000 instructions more.
 ghost use Rattle.std.specs.Prelude.{◌≤◌, ◌≡◌, length, drop};
 ghost use Rattle.rules.specs.Limits.{max_source};
 ghost use Rattle.rules.specs.Text.{pieces, joined};

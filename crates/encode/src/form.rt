@@ -1,4 +1,6 @@
-// Forms of registers and immediates, each by its row of paper 01: an operand that can't be read yields no word.
+//! Forms of registers and immediates, each by its row of paper 01: an operand that can't be read yields no word.
+// An immediate is taken apart by `let .. else`, since paper 01 names that form (docs/FORMS.md), and the value narrowed by `as`, which is
+// proved to lose nothing: `try_from` would have a way out that is never taken.
 ghost use Rattle.std.specs.Prelude.{◌≡◌, ◌/◌, ◌%◌};
 ghost use Rattle.rules.specs.Encode.{registers_row, high_row, low_row, from_indirect, to_indirect, muls_rows, cmp_rows, moveq_row, quick_row, tst_row};
 ghost use Rattle.encode.specs.Code.{code_of};
@@ -25,7 +27,9 @@ pub fn encode_registers(opcode: u16, s: &[u8], t: &[u8]) -> Option<Code>
 pub fn encode_moveq(s: &[u8], t: &[u8]) -> Option<Code>
     ensures { result ≡ code_of (moveq_row s.now t.now) }
 {
-    let v = parse_immediate(s)?.ok()?;
+    let Some(Ok(v)) = parse_immediate(s) else {
+        return None;
+    };
     let n = parse_data_register(t)?;
     Some(Code::Word(moveq_word(n, low_byte(v))))
 }
@@ -36,18 +40,23 @@ pub fn encode_quick(opcode: u16, s: &[u8], t: &[u8]) -> Option<Code>
     requires { (opcode / 512 % 8 ≡ 0) × (opcode % 8 ≡ 0) }
     ensures { result ≡ code_of (quick_row opcode s.now t.now) }
 {
-    let v = parse_immediate(s)?.ok()?;
+    let Some(Ok(v)) = parse_immediate(s) else {
+        return None;
+    };
     let n = parse_data_register(t)?;
     Some(Code::Word(quick_word(opcode, u16::from(low_byte(v)), n)))
 }
 
 // #u16,Dn with the register in bits 9 to 11.
+// As below but for `with_high`: one function for both would take the word's maker as a closure, with a clause for it.
 #[tactic(auto, using(crate::proofs::Readings::data_below, crate::proofs::Readings::imm16_none, crate::proofs::Readings::imm16_is, crate::proofs::Readings::imm16_below), unfolding(rules::specs::Encode::high_row, rules::specs::Option::bind))]
 pub fn encode_immediate_high(opcode: u16, s: &[u8], t: &[u8]) -> Option<Code>
     requires { opcode / 512 % 8 ≡ 0 }
     ensures { result ≡ code_of (high_row opcode s.now t.now) }
 {
-    let v = parse_immediate_u16(s)?.ok()?;
+    let Some(Ok(v)) = parse_immediate_u16(s) else {
+        return None;
+    };
     let n = parse_data_register(t)?;
     Some(Code::Value(with_high(opcode, n), v as u16))
 }
@@ -58,7 +67,9 @@ pub fn encode_immediate_low(opcode: u16, s: &[u8], t: &[u8]) -> Option<Code>
     requires { opcode % 8 ≡ 0 }
     ensures { result ≡ code_of (low_row opcode s.now t.now) }
 {
-    let v = parse_immediate_u16(s)?.ok()?;
+    let Some(Ok(v)) = parse_immediate_u16(s) else {
+        return None;
+    };
     let n = parse_data_register(t)?;
     Some(Code::Value(with_low(opcode, n), v as u16))
 }

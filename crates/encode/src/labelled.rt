@@ -1,4 +1,4 @@
-// Forms that look a label up: MOVE, MOVEA and JMP.
+//! Forms that look a label up: MOVE, MOVEA and JMP.
 ghost use Rattle.std.specs.Prelude.{◌≡◌};
 ghost use Rattle.std.specs.Option.{option_or};
 ghost use Rattle.rules.specs.Encode.{registers_row, high_row, from_indirect, to_indirect, with_label, from_label, to_label, move_rows, movea_row, jumps, jump_row};
@@ -91,9 +91,5 @@ fn jumps(labels: &Labels<'_>, t: &[u8]) -> bool
 pub fn encode_jump(labels: &Labels<'_>, t: &[u8]) -> Option<Code>
     ensures { result ≡ code_of (jump_row labels.now.table t.now) }
 {
-    if jumps(labels, t) {
-        Some(Code::Word(0x4EF8))
-    } else {
-        None
-    }
+    jumps(labels, t).then_some(Code::Word(0x4EF8))
 }

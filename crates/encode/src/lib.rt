@@ -1,6 +1,6 @@
 #![tactic(auto)]
 
-// One instruction to its words, by value. The functions keep the names of the Rust original.
+//! One instruction to its words, by value. The functions keep the names of the Rust original.
 ghost use Rattle.std.specs.Prelude.{◌≡◌, ◌≤◌, length};
 ghost use Rattle.std.specs.Option.{option_copied};
 ghost use Rattle.rules.specs.Limits.{max_source};
@@ -38,6 +38,8 @@ pub enum Code {
 }
 
 // Forms of exactly two operands.
+// Labels and address stand side by side: only the displacement of a branch or DBRA reads both. `explain` has a struct of the two, and `Near`
+// in its clauses all the same.
 #[tactic(auto, unfolding(crate::specs::Operations::two_rows))]
 fn encode_two(labels: &Labels<'_>, address: u32, o: Operation, s: &[u8], t: &[u8]) -> Option<Code>
     requires { Near labels.now.table address }

@@ -16,11 +16,12 @@ use Rattle.manual.specs.Manual.{Condition, T, byte, sixteen_bits, displacement_w
 use Rattle.manual.proofs.OperationWords.{operation_words}
 use Rattle.requests.specs.ManualCall.{Form, said, labelled, displaced, Addressing, load, store, point, jump, addressed, branch, loop, branched, as_if_there, form_size, first_that, fits, displacements, range_fault, with_address, form_contents, form_fault}
 use Rattle.encode_manual.specs.Code.{fault_size, fault_number, Codes}
-use Rattle.encode_manual.specs.Form.{Says}
+use Rattle.encode_manual.specs.Form.{Says, size_of}
 use Rattle.encode_manual.specs.Displacement.{branching_in, reached, displacement_in, unfit_fault}
 use Rattle.encode_manual.specs.declared.displacement.Room.TheVariants.{Byte, Word as AWord}
 use Rattle.encode_manual.specs.declared.displacement.Unfit.{Unfit}
 use Rattle.encode_manual.specs.declared.displacement.Unfit.TheVariants.{Outside, Nothing}
+use Rattle.encode_manual.specs.declared.form.Form.{Form as Read}
 use Rattle.encode_manual.specs.declared.form.Form.TheVariants as F
 use Rattle.encode_manual.specs.declared.Fault.TheVariants.{NoEncoding}
 use Rattle.encode_manual.specs.declared.ManualCode.TheVariants.{Word, Value, Long, Address}
@@ -214,3 +215,31 @@ branch_small k t (said i) h = absurd h
 branch_small k t (labelled g l) h = absurd h
 branch_small k t (displaced (branch c) s) h = rw h.0 (condition_small c)
 branch_small k t (displaced (loop n) s) h = absurd h
+
+-- how many bytes a form takes
+pub size_said : (g : Form) (f : Read) → Says g f → size_of f ≡ form_size (Some g)
+unfolding form_size as_if_there
+size_said (said i) (F.Word w) e = rw e
+size_said (said i) (F.Value w v) e = rw e
+size_said (said i) (F.Long w v) e = rw e
+size_said (said i) (F.Labelled w t) e = absurd e
+size_said (said i) (F.Branch k t) e = absurd e
+size_said (said i) (F.Loop w t) e = absurd e
+size_said (labelled g l) (F.Labelled w t) e = six g l
+size_said (labelled g l) (F.Word w) e = absurd e
+size_said (labelled g l) (F.Value w v) e = absurd e
+size_said (labelled g l) (F.Long w v) e = absurd e
+size_said (labelled g l) (F.Branch k t) e = absurd e
+size_said (labelled g l) (F.Loop w t) e = absurd e
+size_said (displaced (branch c) s) (F.Branch k t) e = two c s
+size_said (displaced (branch c) s) (F.Word w) e = absurd e
+size_said (displaced (branch c) s) (F.Value w v) e = absurd e
+size_said (displaced (branch c) s) (F.Long w v) e = absurd e
+size_said (displaced (branch c) s) (F.Labelled w t) e = absurd e
+size_said (displaced (branch c) s) (F.Loop w t) e = absurd e
+size_said (displaced (loop n) s) (F.Loop w t) e = four n s
+size_said (displaced (loop n) s) (F.Word w) e = absurd e
+size_said (displaced (loop n) s) (F.Value w v) e = absurd e
+size_said (displaced (loop n) s) (F.Long w v) e = absurd e
+size_said (displaced (loop n) s) (F.Labelled w t) e = absurd e
+size_said (displaced (loop n) s) (F.Branch k t) e = absurd e

@@ -2,7 +2,7 @@
 use Rattle.std.specs.Prelude.{Option, None, Some, Result, Err}
 use Rattle.rules.specs.Option.{bind}
 use Prim.Native.Nat.{ℕ, ◌+◌, ◌-◌}
-use mathlib.Core.Path.{◌≡◌, refl}
+use mathlib.Core.Path.{◌≡◌, refl, ◌∙◌}
 use mathlib.Core.Bool.{Bool, true}
 use mathlib.Core.List.{List, [], ◌∷◌}
 use native.Mathlib.Omega.{arith}
@@ -11,7 +11,7 @@ use Rattle.rules.specs.Text.{Text, uppers, leading, pieces, joined, first_text, 
 use Rattle.rules.specs.Line.{instruction_of}
 use Rattle.rules.specs.Label.{Table}
 use Rattle.rules.specs.Encode.{mnemonics, operation_in, two, one}
-use Rattle.requests.specs.ManualCall.{Form, Head, moveq, nop, jmp, dbra, branch_on, move_w, add_w, sub_w, cmp_w, muls_w, move_l, movea_l, cmp_l, tst_l, subq_l, asl_l, no_operand, form_of, form}
+use Rattle.requests.specs.ManualCall.{Form, Head, moveq, nop, jmp, dbra, branch_on, move_w, add_w, sub_w, cmp_w, muls_w, move_l, movea_l, cmp_l, tst_l, subq_l, asl_l, no_operand, form_of, form, form_size}
 use Rattle.opcode.specs.Operation.{operation_of}
 use Rattle.opcode.specs.declared.mnemonic.Operation.{Operation}
 use Rattle.text.specs.Spans.{part, span_text}
@@ -25,13 +25,13 @@ use Rattle.instruction.proofs.FirstPiece.{instruction_read}
 use Rattle.instruction.proofs.Joined.{joined_there}
 use Rattle.instruction.proofs.Places.{operands_of_lem}
 use Rattle.encode_manual.specs.Code.{Codes}
-use Rattle.encode_manual.specs.Form.{Says, SaysIf, Reads}
+use Rattle.encode_manual.specs.Form.{Says, SaysIf, Reads, size_of}
 use Rattle.encode_manual.specs.Heads.{head_by, form_by}
 use Rattle.encode_manual.specs.declared.ManualCode.{ManualCode}
 use Rattle.encode_manual.specs.declared.Fault.{Fault}
 use Rattle.encode_manual.specs.declared.Fault.TheVariants.{NoEncoding}
 use Rattle.encode_manual.specs.declared.form.Form.{Form as Read}
-use Rattle.encode_manual.proofs.Coded.{no_form}
+use Rattle.encode_manual.proofs.Coded.{no_form, size_said}
 use Rattle.encode_manual.proofs.Forms.{no_reading}
 use Rattle.encode_manual.proofs.HeadsFound.{head_found}
 
@@ -126,22 +126,32 @@ module _ {g : Option Form} {r : Option Read} (h : Reads g r) where
       go None j = absurd j
       go (Some q) j = k q j
 
+  pub form_sized : {n : ℕ} {f : Read} → r ≡ Some f → n ≡ size_of f → n ≡ form_size g
+  form_sized {n} {f} e q = go g (rw e at h.says)
+    where
+      go : (p : Option Form) → SaysIf p (Some f) → n ≡ form_size p
+      go None k = absurd k
+      go (Some p) k = q ∙ size_said p f k
+
+  pub none_sized : r ≡ None → 0 ≡ form_size g
+  unfolding form_size
+  none_sized e = go g (rw e at h.says)
+    where
+      go : (p : Option Form) → SaysIf p None → 0 ≡ form_size p
+      go None k = refl
+      go (Some f) k = absurd k
+
 -- ---- the instruction by its head and its joined tail
 module _ (t : Text) (h : Place) (e : h ≡ head_of t) {y : Suffix} (g : y ≡ suffix_of (suffix_text t)) where
   module _ {o : Operation} (f : operation_of (operation_in mnemonics (uppers (part t h.start h.end))) ≡ Some o) where
-    form_read : form_by (head_by y o) (operands_in (joined (pieces (drop h.tail t)))) ≡ form (instruction_of t)
+    -- by the joined tail, however it is come by
+    pub encoded : form_by (head_by y o) (operands_in (joined (pieces (drop h.tail t)))) ≡ form (instruction_of t)
     unfolding form bind
-    form_read = rw (instruction_read t h e, head_found (uppers (part t h.start h.end)) (suffix_text t), f, g)
+    encoded = rw (instruction_read t h e, head_found (uppers (part t h.start h.end)) (suffix_text t), f, g)
 
-    module _ (ls : Table) (a : ℕ) {r : Result ManualCode Fault} where
-      -- by the joined tail, however it is come by
-      pub encoded : Codes ls a (form_by (head_by y o) (operands_in (joined (pieces (drop h.tail t))))) r → Codes ls a (form (instruction_of t)) r
-      encoded c = rw form_read at c
+    pub encoded_there : {s : ℕ} {z : Bool} → s ≡ h.tail + leading (drop h.tail t) → z ≡ is_joined (drop s t) → z ≡ true → form_by (head_by y o) (operands_in (take (length t - s) (drop s t))) ≡ form (instruction_of t)
+    encoded_there {s} w j z = rw (joined_there t h.tail s w j z) encoded
 
-      pub encoded_there : {s : ℕ} {z : Bool} → s ≡ h.tail + leading (drop h.tail t) → z ≡ is_joined (drop s t) → z ≡ true
-          → Codes ls a (form_by (head_by y o) (operands_in (take (length t - s) (drop s t)))) r → Codes ls a (form (instruction_of t)) r
-      encoded_there {s} w j z c = encoded (rw (joined_there t h.tail s w j z) at c)
-
-pub unnamed : (t : Text) (h : Place) → h ≡ head_of t → (ls : Table) (a : ℕ) → operation_of (operation_in mnemonics (uppers (part t h.start h.end))) ≡ None → Codes ls a (form (instruction_of t)) (Err (NoEncoding 0))
+pub unnamed : (t : Text) (h : Place) → h ≡ head_of t → operation_of (operation_in mnemonics (uppers (part t h.start h.end))) ≡ None → Reads (form (instruction_of t)) None
 unfolding form bind
-unnamed t h e ls a f = rw (instruction_read t h e, head_found (uppers (part t h.start h.end)) (suffix_text t), f) (no_form ls a)
+unnamed t h e f = rw (instruction_read t h e, head_found (uppers (part t h.start h.end)) (suffix_text t), f) no_reading

@@ -1,7 +1,7 @@
 mod Forms
 mod Words
 mod Operands
-mod Raised
+mod Remainder
 mod Written
 mod Displaced
 mod HeadsFound

@@ -26,6 +26,15 @@ SaysIf None (Some f) = ⊥
 SaysIf (Some g) None = ⊥
 SaysIf (Some g) (Some f) = Says g f
 
+-- how many bytes it takes, whatever a label's address or a displacement is
+abbrev pub size_of : Read → ℕ
+size_of (Word w) = 2
+size_of (Value w v) = 4
+size_of (Long w v) = 6
+size_of (Labelled w name) = 6
+size_of (Branch n t) = 2
+size_of (Loop w t) = 4
+
 -- r is the form g, where there is one
 pub record Reads (g : Option Form) (r : Option Read) : Type 0 where
   pub says : SaysIf g r

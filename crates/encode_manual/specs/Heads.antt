@@ -19,7 +19,7 @@ condition_by c =
     cond (eqb c 4) CC (cond (eqb c 5) CS (cond (eqb c 6) NE (cond (eqb c 7) EQ (cond (eqb c 8) PL (cond (eqb c 9) MI
     (cond (eqb c 12) GE (cond (eqb c 13) LT (cond (eqb c 14) GT (cond (eqb c 15) LE T)))))))))
 
--- a branch has a condition of 01's
+-- a branch has a condition of 01's; under a lent table it need not, so this is no invariant of Operation
 abbrev pub Conditioned : Operation → Type 0
 Conditioned o = (c : ℕ) → o ≡ Branch c → manual_condition c ≡ condition (condition_by c)
 

@@ -1,4 +1,4 @@
-// The displacement of a branch or of DBRA, of a recorded label or as written; and where none fits, whether there is one.
+//! The displacement of a branch or of DBRA, of a recorded label or as written; and where none fits, whether there is one.
 ghost use Rattle.std.specs.Prelude.{◌≡◌, ◌||◌, [], ◌∷◌, ◌+◌, ◌<◌};
 ghost use Rattle.std.proofs.Math.IntN.{sub_ℕ};
 ghost use Rattle.std.specs.Int.Signed.{mag};
@@ -62,7 +62,8 @@ fn distance(label: u32, address: u32) -> i64
     i64::from(label) - (i64::from(address) + 2)
 }
 
-// How far a displacement is from 0, or from -1 where it is negative.
+// How far a displacement is from 0, or from -1 where it is negative. `as` is proved to lose nothing; `unsigned_abs` would serve one of the
+// two alone.
 #[inline(always)]
 fn magnitude(d: i64) -> u64
     ensures { result ≡ mag d }
@@ -82,13 +83,13 @@ fn fits(room: Room, d: i64) -> bool
     }
 }
 
-// A displacement in sixteen bits: raised first, since a cast of a negative number is none here.
+// A displacement in sixteen bits. `as` narrows, and is proved to lose nothing.
 #[inline(always)]
 fn sixteen_bits(d: i64) -> u16
     requires { mag d < 32768 }
     ensures { result ≡ sixteen_bits d }
 {
-    ((d + 65536) as u32 % 65536) as u16
+    d.rem_euclid(65536) as u16
 }
 
 // A displacement that is there.
@@ -122,7 +123,8 @@ fn written(room: Room, s: &[u8]) -> Result<u16, Unfit>
     placed(room, i64::from(d))
 }
 
-// The displacement that an operand gives: of a recorded label if it fits, else as written.
+// The displacement that an operand gives: of a recorded label if it fits, else as written. It is `let .. else`, since without a label
+// the operand is read all the same, where `?` would answer that there is none.
 pub fn parse_displacement(
     labels: &Labels<'_>,
     address: u32,

@@ -1,13 +1,14 @@
 #![tactic(auto, using(crate::proofs::Forms::stops, opcode::proofs::Callers::data_small, opcode::proofs::Callers::address_small, opcode::proofs::Callers::indirect_small), unfolding(requests::specs::ManualCall::form_of, rules::specs::Encode::one, rules::specs::Encode::two))]
 
-// What an instruction says, before any label is looked up. An operand that can't be read is no form.
-// A form is 32 bytes, which a call would hand back through memory: so what makes one is inlined, here and in operation.rt.
+//! What an instruction says, before any label is looked up. An operand that can't be read is no form.
+// A form is 32 bytes, which a call would hand back through memory: so what makes one is inlined, here and in operation.rt, and so is what
+// takes it (lib.rt). A value is narrowed by `as`, which is proved to lose nothing.
 ghost use Rattle.std.specs.Prelude.{◌≡◌, [], ◌∷◌, ◌/◌, ◌%◌, ◌<◌, None, Some};
 ghost use Rattle.rules.specs.Text.{Text};
 ghost use Rattle.rules.specs.Encode.{data_register};
 ghost use Rattle.manual.specs.Manual.{Condition, condition};
 ghost use Rattle.requests.specs.ManualCall.{quickly, form_of, moveq, dbra, branch_on, muls_w, move_l, movea_l, cmp_l, tst_l, jmp};
-ghost use Rattle.encode_manual.specs.Form.{Reads, RegistersGives, QuickGives};
+ghost use Rattle.encode_manual.specs.Form.{size_of, Reads, RegistersGives, QuickGives};
 
 use crate::operand::{immediate8, immediate16, immediate32, is_other_text, number32};
 use numeral::signed::low_byte;
@@ -27,6 +28,18 @@ pub enum Form<'t> {
     Branch(u8, &'t [u8]),
     // The operation word of DBRA, and the operand whose displacement follows it.
     Loop(u16, &'t [u8]),
+}
+
+impl<'t> Form<'t> {
+    // How many bytes it takes. Of one `match` with 2, 4 and 6 the compiler makes a table of values, and the archives have none.
+    #[inline(always)]
+    pub fn size(self) -> u32
+        ensures { result ≡ size_of self.entry }
+    {
+        let second = !matches!(self, Form::Word(_) | Form::Branch(..));
+        let third = matches!(self, Form::Long(..) | Form::Labelled(..));
+        2 * (1 + u32::from(second) + u32::from(third))
+    }
 }
 
 // Dn,Dm.
@@ -73,7 +86,7 @@ pub fn quick<'t>(opcode: u16, s: &'t [u8], t: &'t [u8]) -> Option<Form<'t>>
     Some(Form::Word(quick_word(opcode, k, n)))
 }
 
-// MULS: #u16,Dn, with the value in one extension word, and Dn,Dm.
+// MULS: #u16,Dn, with the value in one extension word, and Dn,Dm. It is `let .. else`, since the else branch has a form too.
 #[inline(always)]
 pub fn multiply<'t>(s: &'t [u8], t: &'t [u8]) -> Option<Form<'t>>
     ensures { Reads (form_of muls_w (s.now ∷ t.now ∷ [])) result }

@@ -1,4 +1,6 @@
-// An operand as the manual's call reads it: a number, whatever failed where it can't be read; or other text.
+//! An operand as the manual's call reads it: a number, whatever failed where it can't be read; or other text.
+// This crate alone asks so: `encode` takes an immediate apart by `let .. else`, and `explain` asks what failed, of each kind by its own
+// reader.
 ghost use Rattle.std.specs.Prelude.{◌≡◌};
 ghost use Rattle.rules.specs.Number.{imm8, imm16};
 ghost use Rattle.rules.specs.Forms.{kind_of, same_kind, text as other_kind};

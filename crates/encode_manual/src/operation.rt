@@ -1,4 +1,4 @@
-// The form of an operation with a suffix, by how many operands there are; none has more than two.
+//! The form of an operation with a suffix, by how many operands there are; none has more than two.
 ghost use Rattle.std.specs.Prelude.{◌≡◌, [], ◌∷◌};
 ghost use Rattle.instruction.specs.Split.{operands_in, operands_at};
 ghost use Rattle.encode_manual.specs.Form.{Reads};

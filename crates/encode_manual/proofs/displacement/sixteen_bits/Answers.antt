@@ -1,7 +1,11 @@
--- `displacement::sixteen_bits`: raised by 65,536 the number is not negative and keeps its sixteen bits. Assumes nothing.
-use mir.Facts.{to_z-of_z}
-use Rattle.encode_manual.proofs.Raised.{raised_fits, raised_bits}
+-- `displacement::sixteen_bits`: the remainder modulo 65,536. Assumes nothing.
+use Rattle.std.proofs.Common.{◌≡◌, pos, ◌∙◌, to_z-of_z}
+use Rattle.manual.specs.Manual.{sixteen_bits}
+use Rattle.encode_manual.proofs.Remainder.{remainder, bits_fit}
 use Rattle.encode_manual.proofs.displacement.sixteen_bits.Goals as goal
 
 pub returns : goal.returns
-returns c = rw (to_z-of_z c.ranges.d, to_z-of_z (raised_fits c.args.d c.requires)) (raised_bits c.args.d c.requires)
+returns c =
+    let d = c.args.d in
+    let e : c.rem_euclid.result ≡ pos (sixteen_bits d) = (rw (to_z-of_z c.ranges.d) at c.rem_euclid.ensures.value) ∙ remainder d c.requires in
+    rw (e, to_z-of_z (bits_fit d c.requires))
