@@ -132,6 +132,7 @@ pub fn tell(answer: Result<usize, Refusal>, place: &mut usize) -> u8
 }
 
 /// Whether a slice is shorter than `count`.
+// The slices and `count` side by side, as C lends them.
 #[tactic(auto, unfolding(rules::specs::Assemble::short))]
 pub fn is_short(addresses: &[u32], words: &[u16], marks: &[u8], count: usize) -> bool
     ensures short { result ≡ short (slices addresses.now words.now marks.now) count }

@@ -1,33 +1,22 @@
 -- What a call gives once the list is known: refusal 7, or the list in the slices. Assumes nothing.
 use Rattle.std.proofs.Common.{◌≡◌, ℕ, ◌*◌, ◌≤◌, List, Bool, true, false, ◌||◌, ltb, ltb-false, le-ltb, length, refl, sym, ◌∙◌, arith}
 use mathlib.Core.Bool.{false≢true}
-use Rattle.rules.specs.Limits.{max_lines}
-use Rattle.rules.specs.Text.{cut_at}
-use Rattle.rules.specs.Line.{size}
 use Rattle.rules.specs.Encode.{Mnemonic, encode_by}
 use Rattle.rules.specs.Answer.{Answer, accepted, refused, refuse_if, and_then}
-use Rattle.rules.specs.Assemble.{Place, Slices, slices, short, room, holding, write_list, assemble_by, second_pass_by}
-use Rattle.promises.specs.Lawful.{RulesAreLawful}
-use Rattle.promises.specs.Longest.{AtMostALine}
-use Rattle.promises.proofs.Lawful.{rules_are_lawful}
-use Rattle.promises.proofs.Longest.{at_most_a_line}
+use Rattle.rules.specs.Assemble.{Place, Slices, slices, short, room, holding, write_list, second_pass_by}
 use Rattle.label.specs.Labelled.{Labelled}
-use Rattle.first.specs.Pass.{pass_in, Holds}
+use Rattle.first.specs.Pass.{pass_in}
 use Rattle.first.specs.declared.Pass.{Pass}
+use Rattle.cells.proofs.Puts.{puts_length}
 use Rattle.emit.specs.Places.{Room, placed}
+use Rattle.emit.proofs.Callers.{named_two}
 use Rattle.emit.specs.declared.places.Places.{Places}
 use Rattle.assemble.specs.Assembled.{called, fits}
 
 -- ---- how long a list is
-module _ (ns : List Mnemonic) {labels : Labelled} {cells : List ℕ} {p : Pass} (h : Holds labels cells p) where
-  holds_list : assemble_by size (encode_by ns) p.base labels.source ≡ accepted (second_pass_by (encode_by ns) (pass_in labels cells p))
-  unfolding assemble_by and_then
-  holds_list = rw h.passed
-
-  -- "at most two a line", and so few lines that twice their number is a `usize`
-  pub list_few : (length (second_pass_by (encode_by ns) (pass_in labels cells p)) ≤ 2 * length (cut_at 10 labels.source)) × (length (cut_at 10 labels.source) ≤ max_lines)
-  unfolding AtMostALine RulesAreLawful
-  list_few = at_most_a_line size (encode_by ns) 2 (rules_are_lawful ns) labels.source p.base _ holds_list
+-- "at most two a line"
+pub list_few : (ns : List Mnemonic) (labels : Labelled) (cells : List ℕ) (p : Pass) → length (second_pass_by (encode_by ns) (pass_in labels cells p)) ≤ 2 * p.lines
+list_few ns labels cells p = omega (arith, puts_length labels.source p.base cells p.lines, named_two ns (pass_in labels cells p))
 
 -- ---- room
 none_of : (a b c : Bool) → (a || b || c) ≡ false → (a ≡ false) × (b ≡ false) × (c ≡ false)

@@ -43,7 +43,7 @@ module _ (z : Sizes) (f : Passed → Answer (List Place)) (base : ℕ) (s : Text
   keeps = refusal_keeps _ x r p stops
 
 -- ---- the first pass, and from an accepted one to the second
-module _ {s : Text} {base lines : ℕ} (b : Starting s base lines) (z : Sizes) where
+module _ {s : Text} {base : ℕ} (b : Starting s base) (z : Sizes) where
   pub passes : {a : Answer Passed} → a ≡ first_pass_by z base base [] (lines_of s) → pass_at_by z base s ≡ a
   passes e = pass_clear z s base (checks_clear s b.clear) b.low ∙ sym e
 
@@ -51,7 +51,7 @@ module _ {s : Text} {base lines : ℕ} (b : Starting s base lines) (z : Sizes) w
   unfolding and_then
   goes_on f e = rw (passes e)
 
-pub done_holds : {z : Sizes} {labels : Labelled} {base lines : ℕ} {cells : List ℕ} {p : Pass} → Starting labels.source base lines
+pub done_holds : {z : Sizes} {labels : Labelled} {base : ℕ} {cells : List ℕ} {p : Pass} → Starting labels.source base
     → accepted (pass_in labels cells p) ≡ first_pass_by z base base [] (lines_of labels.source) → IsDone z labels base cells p → HoldsBy z labels cells p
 done_holds {z} {labels} b e d = holds labels (sym (passes b z e)) refl d
 

@@ -1,7 +1,7 @@
 -- What an assembling call gives: its answer, and the three lent slices afterwards. Assumes nothing.
 use Rattle.std.specs.Prelude.{◌≡◌, ℕ, ◌<◌, List, length}
 use Rattle.rules.specs.Limits.{address_limit}
-use Rattle.rules.specs.Text.{Text, cut_at}
+use Rattle.rules.specs.Text.{Text}
 use Rattle.rules.specs.Answer.{Answer, accepted, refused, refuse_if, and_then}
 use Rattle.rules.specs.Assemble.{Sizes, Pass, Place, Slices, room, short, pass_at_by}
 use Rattle.answer.specs.Refusal.{number_of, place_of}
@@ -24,8 +24,7 @@ fits x l = refuse_if (short x (length l)) 7 (length l) (accepted tt)
 abbrev pub Refuses : Text → ℕ → Refusal → Type 0
 Refuses source base e = (z : Sizes) → pass_at_by z base source ≡ refused (number_of e) (place_of e)
 
--- a source that refusals 1 to 4 let pass, and how many lines it has
-pub record Starting (source : Text) (base lines : ℕ) : Type 0 where
+-- a source that refusals 1 to 4 let pass
+pub record Starting (source : Text) (base : ℕ) : Type 0 where
   pub clear : Clear source
   pub low : base < address_limit
-  pub lines_are : lines ≡ length (cut_at 10 source)

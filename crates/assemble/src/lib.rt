@@ -1,6 +1,7 @@
 #![tactic(auto)]
 
 //! The assembler: the list of a source at a base in three lent slices; the same under a branch table; and by the manual's own words.
+//! The three slices stand side by side, since C lends them so, and no memory is there for an array of places.
 ghost use Rattle.std.specs.Prelude.{◌≡◌, ◌≤◌, ◌+◌, ◌*◌, ◌<◌, ◌^◌, min, false, Result, IfOk, IfErr, OnOk, length, [], List, None, Some};
 ghost use Rattle.rules.specs.Limits.{max_labels, max_lines};
 ghost use Rattle.rules.specs.Text.{cut_at};
@@ -21,14 +22,17 @@ use emit::places::Places;
 use first::{Pass, ScriptSizes, Sizing};
 use label::Labels;
 
-mod manual_call; // manual_call.rt: the manual's second pass
+pub mod manual_call; // manual_call.rt: the manual's sizes, and its second pass
+
+// `sheet` has these too, for arrays of its own: in `first`, whose callers lend all that it fills, they would be three more public names.
 
 /// The most lines whose labels, two a line, have room in a small table.
 const SHORT: usize = label::SMALL_LABELS / 2;
 
-/// The cells of so many lines, and of as many as there may be.
+/// Cells for the lines of such a source, two a line.
 const SHORT_CELLS: usize = 2 * SHORT;
 
+/// Cells for the most lines that a source may have.
 const LONG_CELLS: usize = 2 * rules::MAX_LINES;
 
 /// An assembling call: the sizes that its first pass goes by, and its second pass.
@@ -44,35 +48,32 @@ trait Call {
         labels: &Labels<'_>,
         cells: &[u32],
         pass: Pass,
-        lines: usize,
         addresses: &mut [u32],
         words: &mut [u16],
         marks: &mut [u8],
     ) -> Result<usize, Refusal>
         requires holds { HoldsBy Self.Sizes.sizes labels.now cells.now pass }
-        requires lines { lines ≡ length (cut_at 10 labels.now.source) }
         requires few { length cells.now ≤ 2 * max_lines }
         ensures answer { answer_of result ≡ called (list self.now (pass_in labels.now cells.now pass)) (slices addresses.old words.old marks.old) }
         ensures slices { slices addresses.new words.new marks.new ≡ write_list (list self.now (pass_in labels.now cells.now pass)) (slices addresses.old words.old marks.old) };
 }
 
 /// Refused where the slices have no room for the list. It is counted only where two places a line, the most that it has, would not do.
+// Like `second_pass` in its parameters alone: it only looks at the slices.
 fn fit_list(
     names: Option<&[u8]>,
     labels: &Labels<'_>,
     cells: &[u32],
     pass: Pass,
-    lines: usize,
     addresses: &[u32],
     words: &[u16],
     marks: &[u8],
 ) -> Result<(), Refusal>
-    requires holds { Holds labels.now cells.now pass }
-    requires lines { lines ≡ length (cut_at 10 labels.now.source) }
+    requires { Holds labels.now cells.now pass }
     ensures answer { answer_of result ≡ fits (slices addresses.now words.now marks.now) (second_pass_by (encode_by (names_of names.entry)) (pass_in labels.now cells.now pass)) }
     ensures room { OnOk result (short (slices addresses.now words.now marks.now) (length (second_pass_by (encode_by (names_of names.entry)) (pass_in labels.now cells.now pass))) ≡ false) }
 {
-    if !answer::is_short(addresses, words, marks, 2 * lines) {
+    if !answer::is_short(addresses, words, marks, 2 * pass.lines) {
         return Ok(());
     }
     let count = emit::count_words(names, labels, cells, pass);
@@ -83,6 +84,7 @@ fn fit_list(
 }
 
 /// The words of a script, by the names in use.
+// No `==`: it is made for one call, and never compared.
 #[derive(Clone, Copy)]
 struct Script<'a> {
     names: Option<&'a [u8]>,
@@ -98,14 +100,11 @@ impl<'a> Call for Script<'a> {
         labels: &Labels<'_>,
         cells: &[u32],
         pass: Pass,
-        lines: usize,
         addresses: &mut [u32],
         words: &mut [u16],
         marks: &mut [u8],
     ) -> Result<usize, Refusal> {
-        fit_list(
-            self.names, labels, cells, pass, lines, addresses, words, marks,
-        )?;
+        fit_list(self.names, labels, cells, pass, addresses, words, marks)?;
         let mut places = Places::new(addresses, words, marks);
         let words = Encoding::Named(self.names);
         let count = emit::emit_words(words, labels, cells, pass, &mut places);
@@ -115,7 +114,8 @@ impl<'a> Call for Script<'a> {
 
 /// How many lines a source has that refusals 1 to 4 let pass.
 fn start(source: &[u8], base: u32) -> Result<usize, Refusal>
-    ensures starting { IfOk result (Starting source.now base) }
+    ensures starting { OnOk result (Starting source.now base) }
+    ensures lines { IfOk result (λ lines. lines ≡ length (cut_at 10 source.now)) }
     ensures refused { IfErr result (Refuses source.now base) }
 {
     let lines = source::check_source(source)?;
@@ -126,26 +126,26 @@ fn start(source: &[u8], base: u32) -> Result<usize, Refusal>
 }
 
 /// Both passes over a source, with labels and cells that are lent.
+// The cells come last: with them before the slices a script takes 1 in 100 instructions more.
 fn passes_in<C: Call>(
     call: &C,
     labels: &mut Labels<'_>,
     base: u32,
-    lines: usize,
-    cells: &mut [u32],
     addresses: &mut [u32],
     words: &mut [u16],
     marks: &mut [u8],
+    cells: &mut [u32],
 ) -> Result<usize, Refusal>
-    requires starting { Starting labels.old.source base lines }
+    requires starting { Starting labels.old.source base }
     requires empty { labels.old.table ≡ [] }
-    requires rows { min (2 * lines) max_labels ≤ labels.old.room }
-    requires lines { 2 * lines ≤ length cells.old }
+    requires rows { min (2 * length (cut_at 10 labels.old.source)) max_labels ≤ labels.old.room }
+    requires lines { 2 * length (cut_at 10 labels.old.source) ≤ length cells.old }
     requires few { length cells.old ≤ 2 * max_lines }
     ensures answer { answer_of result ≡ called (list_by C.Sizes.sizes (C.list call.now) base labels.old.source) (slices addresses.old words.old marks.old) }
     ensures slices { slices addresses.new words.new marks.new ≡ write_list (list_by C.Sizes.sizes (C.list call.now) base labels.old.source) (slices addresses.old words.old marks.old) }
 {
     let pass = first::first_pass::<C::Sizes>(labels, base, cells)?;
-    call.second_pass(labels, cells, pass, lines, addresses, words, marks)
+    call.second_pass(labels, cells, pass, addresses, words, marks)
 }
 
 /// The same, with a table and cells of these sizes.
@@ -153,14 +153,13 @@ fn passes_with<C: Call, const TABLE: usize, const CELLS: usize>(
     call: &C,
     source: &[u8],
     base: u32,
-    lines: usize,
     addresses: &mut [u32],
     words: &mut [u16],
     marks: &mut [u8],
 ) -> Result<usize, Refusal>
-    requires starting { Starting source.now base lines }
-    requires table { hashes + 4 * min (2 * lines) max_labels ≤ TABLE }
-    requires cells { 2 * lines ≤ CELLS }
+    requires starting { Starting source.now base }
+    requires table { hashes + 4 * min (2 * length (cut_at 10 source.now)) max_labels ≤ TABLE }
+    requires cells { 2 * length (cut_at 10 source.now) ≤ CELLS }
     requires small { TABLE < 2 ^ 32 }
     requires few { CELLS ≤ 2 * max_lines }
     ensures answer { answer_of result ≡ called (list_by C.Sizes.sizes (C.list call.now) base source.now) (slices addresses.old words.old marks.old) }
@@ -169,44 +168,11 @@ fn passes_with<C: Call, const TABLE: usize, const CELLS: usize>(
     let mut table = [0; TABLE];
     let mut cells = [0; CELLS];
     let mut labels = Labels::new(source, &mut table);
-    passes_in(
-        call,
-        &mut labels,
-        base,
-        lines,
-        &mut cells,
-        addresses,
-        words,
-        marks,
-    )
+    passes_in(call, &mut labels, base, addresses, words, marks, &mut cells)
 }
 
-/// Both passes. A shorter source has a smaller table and fewer cells, since they are cleared for each call.
-fn passes<C: Call>(
-    call: &C,
-    source: &[u8],
-    base: u32,
-    lines: usize,
-    addresses: &mut [u32],
-    words: &mut [u16],
-    marks: &mut [u8],
-) -> Result<usize, Refusal>
-    requires starting { Starting source.now base lines }
-    ensures answer { answer_of result ≡ called (list_by C.Sizes.sizes (C.list call.now) base source.now) (slices addresses.old words.old marks.old) }
-    ensures slices { slices addresses.new words.new marks.new ≡ write_list (list_by C.Sizes.sizes (C.list call.now) base source.now) (slices addresses.old words.old marks.old) }
-{
-    if lines <= SHORT {
-        passes_with::<C, { label::SMALL }, SHORT_CELLS>(
-            call, source, base, lines, addresses, words, marks,
-        )
-    } else {
-        passes_with::<C, { label::TABLE }, LONG_CELLS>(
-            call, source, base, lines, addresses, words, marks,
-        )
-    }
-}
-
-/// The whole call: refusals 1 to 4, and both passes.
+/// The whole call: refusals 1 to 4, and both passes. A shorter source has a smaller table and fewer cells, since they are cleared for each
+/// call.
 fn assemble_by<C: Call>(
     call: &C,
     source: &[u8],
@@ -219,11 +185,16 @@ fn assemble_by<C: Call>(
     ensures slices { slices addresses.new words.new marks.new ≡ write_list (list_by C.Sizes.sizes (C.list call.now) base source.now) (slices addresses.old words.old marks.old) }
 {
     let lines = start(source, base)?;
-    passes(call, source, base, lines, addresses, words, marks)
+    if lines <= SHORT {
+        passes_with::<C, { label::SMALL }, SHORT_CELLS>(call, source, base, addresses, words, marks)
+    } else {
+        passes_with::<C, { label::TABLE }, LONG_CELLS>(call, source, base, addresses, words, marks)
+    }
 }
 
-/// Assembles a source at a base: the list's count, with the list in the first places of the three slices; or refused, with nothing
-/// written.
+/// Assembles a source at a base: the list's count, with the list in the first places of the three slices, or refused, with nothing written.
+/// A place is a word: its address in bytes, the word, and its mark, 1 on a label's address and else 0. Refusals come in this order: 1, 2, 3,
+/// 4, line by line 6 before 5, then 7.
 #[tactic(auto, unfolding(rules::specs::Assemble::assemble_answer, rules::specs::Assemble::assemble_slices, rules::specs::Assemble::assemble_by, branches::specs::Branch::names_in))]
 pub fn assemble(
     source: &[u8],
@@ -245,7 +216,7 @@ pub fn assemble(
     )
 }
 
-/// The same under the branch table `names`, which is refused before all else.
+/// The same under the branch table `names`, which is refused before all else, by 16 or 17 at an offset in it.
 pub fn assemble_branches(
     names: &[u8],
     source: &[u8],
@@ -268,7 +239,9 @@ pub fn assemble_branches(
     )
 }
 
-/// The same by the manual's sizes and words: refused too where a line has no encoding there, before the slices are too short.
+/// The same by the manual's sizes and words. A label's address is a long, in two places with marks 2 and 3, its high word first; any other
+/// place has mark 0. Before 7 comes 14 or 15, with the first line that has one: 14 for an instruction without an encoding there, 15 where
+/// the only fault is a displacement out of reach.
 #[tactic(auto, unfolding(requests::specs::ManualAssemble::manual_answer, requests::specs::ManualAssemble::manual_slices, requests::specs::ManualAssemble::assemble_manual))]
 pub fn assemble_manual(
     source: &[u8],

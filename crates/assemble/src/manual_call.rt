@@ -14,11 +14,13 @@ use emit::places::Places;
 use first::{Pass, Sizing};
 use label::Labels;
 
-/// The manual's sizes and words.
+/// The manual's sizes and words: `first::first_pass::<Manual>` goes by its sizes.
+// No `==`: it has one value.
 #[derive(Clone, Copy)]
 pub struct Manual;
 
-/// The second pass, with cells for the codes.
+// The second pass, with cells for the codes.
+// The three slices side by side, as C lends them, here and in `second_pass`.
 fn coded_pass<const CODES: usize>(
     labels: &Labels<'_>,
     cells: &[u32],
@@ -54,7 +56,6 @@ impl Call for Manual {
         labels: &Labels<'_>,
         cells: &[u32],
         pass: Pass,
-        _lines: usize,
         addresses: &mut [u32],
         words: &mut [u16],
         marks: &mut [u8],
@@ -72,9 +73,8 @@ impl Sizing for Manual {
 
     ghost sizes = { manual_size };
 
-    // The size is the same at any address and with any labels.
-    fn text_size(labels: &Labels<'_>, t: &[u8]) -> u32 {
-        encode_manual::code_size(encode_manual::encode_manual(labels, 0, t))
+    fn text_size(t: &[u8]) -> u32 {
+        encode_manual::manual_size(t)
     }
 
     ghost small = { manual_small };

@@ -2,6 +2,7 @@
 use mathlib.Core.Path.{◌≡◌}
 use mathlib.Core.List.{List, [], ◌∷◌, flat_map}
 use Prim.Native.Nat.{ℕ, ◌+◌, ◌*◌, ◌≤◌}
+use native.Mathlib.Nat.{mul-suc}
 use native.Mathlib.Omega.{arith}
 use lib.ListN.{length, length-append}
 use Rattle.rules.specs.Line.{Instruction, Task, skipped, end, org, no_org, label_only, instruction, value, space}
@@ -31,31 +32,40 @@ module _ (e : Encoder) where
   unfolding second_pass_by
   second_length p = length-append (flat_map data_places p.puts) (flat_map (code_places_by e p.labels) p.puts)
 
-module _ {e : Encoder} (f : Few e) where
+-- where an instruction has at most so many words, so has a line
+module _ (e : Encoder) (most : ℕ) (two : 2 ≤ most) (few : (t : Table) (a : ℕ) (i : Instruction) → length (places_at a (words_by e t a i)) ≤ most) where
   -- a line has a value or an instruction, not both
-  put_few : (t : Table) (a : ℕ) (k : Task) → length (data_places (record { address = a; task = k })) + length (code_places_by e t (record { address = a; task = k })) ≤ 3
+  put_few : (t : Table) (a : ℕ) (k : Task) → length (data_places (record { address = a; task = k })) + length (code_places_by e t (record { address = a; task = k })) ≤ most
   unfolding data_places data_contents code_places_by code_contents_by places_at
   put_few t a skipped = omega arith
   put_few t a end = omega arith
   put_few t a (org v) = omega arith
   put_few t a no_org = omega arith
   put_few t a label_only = omega arith
-  put_few t a (instruction i) = let h = f.few t a i in omega arith
-  put_few t a (value n v) = omega arith
+  put_few t a (instruction i) = let h = few t a i in omega arith
+  put_few t a (value n v) = omega (arith, two)
   put_few t a (space n) = omega arith
 
-  puts_few : (t : Table) (ps : List Put) → length (flat_map data_places ps) + length (flat_map (code_places_by e t) ps) ≤ 3 * length ps
+  puts_few : (t : Table) (ps : List Put) → length (flat_map data_places ps) + length (flat_map (code_places_by e t) ps) ≤ most * length ps
   unfolding flat_map
   puts_few t [] = omega arith
   puts_few t (p ∷ ps) =
-      omega (
+      rw (mul-suc most (length ps))
+      (omega (
         arith,
         puts_few t ps,
         put_few t p.address p.task,
         length-append (data_places p) (flat_map data_places ps),
         length-append (code_places_by e t p) (flat_map (code_places_by e t) ps),
-      )
+      ))
 
-  -- the list has at most three words a line
-  pub second_few : (p : Pass) → length (second_pass_by e p) ≤ 3 * length p.puts
-  second_few p = omega (arith, second_length e p, puts_few p.labels p.puts)
+  list_few : (p : Pass) → length (second_pass_by e p) ≤ most * length p.puts
+  list_few p = omega (arith, second_length e p, puts_few p.labels p.puts)
+
+-- the list has at most three words a line, and by the names in use two
+pub second_few : {e : Encoder} → Few e → (p : Pass) → length (second_pass_by e p) ≤ 3 * length p.puts
+second_few {e} f = list_few e 3 (omega arith) f.few
+
+pub named_two : (ns : List Mnemonic) (p : Pass) → length (second_pass_by (encode_by ns) p) ≤ 2 * length p.puts
+unfolding RulesAreLawful
+named_two ns = list_few (encode_by ns) 2 (omega arith) (rules_are_lawful ns).few

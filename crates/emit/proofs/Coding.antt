@@ -1,7 +1,7 @@
 -- The codes of the manual's call: kept in two cells and read again, and what a line's task comes to. Assumes nothing.
 use Rattle.std.specs.Prelude.{None, Some, Result, Ok, Err}
 use mathlib.Core.Path.{◌≡◌, refl, sym, ap, ◌∙◌}
-use Prim.Native.Nat.{ℕ, ◌+◌, ◌*◌, ◌/◌, ◌%◌, ◌^◌, ◌<◌}
+use Prim.Native.Nat.{ℕ, ◌+◌, ◌*◌, ◌/◌, ◌%◌, ◌<◌}
 use native.Mathlib.Omega.{arith}
 use Rattle.rules.specs.Text.{Text}
 use Rattle.rules.specs.Line.{instruction_of}
@@ -56,10 +56,6 @@ module _ {code : ManualCode} {w : ℕ} (l : w < 65536) where
   pub address_cells : {x : ℕ} → code ≡ Address w x → CellsOfGives (Some code) (8 * w + 7, x)
   unfolding code_in
   address_cells e = rw e (record { back = rw (kind_of_lem w 7 (omega arith), word_of w 7 (omega arith) l); words = λ a. omega arith })
-
--- the high half of a long is a word
-pub half_word : (x : ℕ) → x < 2 ^ 32 → x / 65536 % 65536 ≡ x / 65536
-half_word x h = let q : x / 65536 < 65536 = omega arith in omega arith
 
 -- ---- what a line comes to
 code_places_lem : (a : ℕ) (c : ManualCode) → places_of a c ≡ places_at a (words_of c)

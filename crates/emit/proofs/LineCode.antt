@@ -10,17 +10,15 @@ use Rattle.rules.specs.Text.{Text}
 use Rattle.rules.specs.Line.{instruction_of}
 use Rattle.rules.specs.Label.{Table}
 use Rattle.rules.specs.Encode.{Mnemonic, encode_by}
-use Rattle.rules.specs.Assemble.{place, Slices, places_at, data_contents, data_places, Encoder, code_contents_by, code_places_by}
+use Rattle.rules.specs.Assemble.{place, places_at, data_contents, data_places, Encoder, code_contents_by, code_places_by}
 use Rattle.text.specs.declared.Span.{Span}
 use Rattle.text.specs.Spans.{span_text, SpanIn}
 use Rattle.label.specs.Labelled.{Labelled}
 use Rattle.line.specs.declared.Task.{Task}
 use Rattle.line.specs.declared.Task.TheVariants.{Skipped, End, Org, NoOrg, LabelOnly, Instruction, Value, Space}
-use Rattle.cells.specs.Cells.{data_words}
 use Rattle.encode.specs.Code.{code_of, places_of}
 use Rattle.encode.specs.declared.Code.{Code}
 use Rattle.encode.proofs.Callers.{encode_places}
-use Rattle.emit.specs.Places.{Room}
 use Rattle.emit.specs.Emit.{put_of, CodeNeeds}
 
 -- ---- data words
@@ -72,6 +70,3 @@ module _ {labels : Labelled} {a : ℕ} {task : Task} (h : CodeNeeds labels a tas
 
   pub text_short : length (span_text labels.source s) ≤ max_source
   text_short = let i = span_in in simp (length-take, length-drop) (omega (arith, h.short, i))
-
-pub value_room : {task : Task} {n v : ℕ} (m : ℕ) {x : Slices} → task ≡ Value n v → Room (m + data_words task) x → Room (m + 2) x
-value_room m e h = rw e at h

@@ -1,5 +1,5 @@
-// The codes of the manual's call (W-207): each line's code is looked for a fault before anything is written, and kept in two
-// cells until it is. So no line is encoded again to be written.
+//! The codes of the manual's call (W-207): each line's code is looked for a fault before anything is written, and kept in two
+//! cells until it is. So no line is encoded again to be written.
 ghost use Rattle.std.specs.Prelude.{◌≡◌, OnOk};
 ghost use Rattle.answer.specs.Refusal.{answer_of};
 ghost use Rattle.cells.specs.Cells.{InCells};
@@ -15,21 +15,20 @@ use label::Labels;
 use line::Task;
 
 // A code's cells. The first has the operation word, and how many words there are, with 4 more if two of them are an address.
+// Numbers, as in `cells`: eight bytes a line, in memory of a fixed size.
 fn cells_of(code: Option<ManualCode>) -> (u32, u32)
     ensures { CellsOfGives code result }
 {
-    let Some(code) = code else {
-        return (0, 0);
-    };
     match code {
-        ManualCode::Word(word) => (8 * u32::from(word) + 1, 0),
-        ManualCode::Value(word, second) => (8 * u32::from(word) + 2, u32::from(second)),
-        ManualCode::Long(word, long) => (8 * u32::from(word) + 3, long),
-        ManualCode::Address(word, target) => (8 * u32::from(word) + 7, target),
+        None => (0, 0),
+        Some(ManualCode::Word(word)) => (8 * u32::from(word) + 1, 0),
+        Some(ManualCode::Value(word, second)) => (8 * u32::from(word) + 2, u32::from(second)),
+        Some(ManualCode::Long(word, long)) => (8 * u32::from(word) + 3, long),
+        Some(ManualCode::Address(word, target)) => (8 * u32::from(word) + 7, target),
     }
 }
 
-// The code of two cells. Of a `match` the compiler makes a table of values.
+// The code of two cells. Of a `match` the compiler makes a table of values. By `as`: the remainders have 16 bits.
 fn code_in(head: u32, tail: u32) -> Option<ManualCode>
     ensures { result ≡ code_in head tail }
 {
@@ -68,6 +67,7 @@ fn code_line(
     requires { CodeNeeds labels.now address task }
     ensures { CodeLineGives labels.now.table (put_of labels.now.source address task) line result }
 {
+    // A guard, so that the faults stand in one `match` and not in one within another.
     let Task::Instruction(span) = task else {
         return Ok(None);
     };
@@ -92,11 +92,13 @@ pub fn find_fault(
 {
     let mut address = pass.base;
     let mut count = pass.values;
+    // By number: a line's cells are found by it, and a fault tells it.
     for k in 0..pass.lines {
         let kept = cells::kept_line(cells, k);
         let code = code_line(labels, address, kept.task, k + 1)?;
         let (head, tail) = cells_of(code);
         cells::put_cells(codes, k, head, tail);
+        // By `as`: `usize` has no `From<u32>`, and an accepted line's address has 32 bits.
         count += (head % 4) as usize;
         address = cells::address_after(kept, pass.base, address) as u32;
     }

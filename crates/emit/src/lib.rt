@@ -1,7 +1,7 @@
 #![tactic(auto)]
 
-// The second pass: the words of the data and of the instructions, counted, or put into three lent slices.
-// It goes by the lines that the first pass kept; only an instruction's text is read again, in the manual's call by `codes`.
+//! The second pass: the words of the data and of the instructions, counted, or put into three lent slices.
+//! It goes by the lines that the first pass kept; only an instruction's text is read again, in the manual's call by `codes`.
 ghost use Rattle.std.specs.Prelude.{◌≡◌, length};
 ghost use Rattle.rules.specs.Line.{size};
 ghost use Rattle.rules.specs.Encode.{encode_by};
@@ -21,6 +21,8 @@ pub mod places; // places.rt: the places of a list, in three lent slices
 pub mod codes; // codes.rt: the codes of the manual's call, looked for a fault and kept
 
 /// Whose words the instructions have.
+// No `Result` or `Option`: the two are ways to a word, and neither is the other's lack or failure. No `==`: it is handed on, and never
+// compared.
 #[derive(Clone, Copy)]
 pub enum Encoding<'a> {
     /// Those of `encode`, by the names in use (`branches`).
@@ -38,21 +40,23 @@ fn code_at(names: Option<&[u8]>, labels: &Labels<'_>, address: u32, task: Task) 
     requires { CodeNeeds labels.now address task }
     ensures { places_of address result ≡ code_places_by (encode_by (names_of names.entry)) labels.now.table (put_of labels.now.source address task) }
 {
-    let Task::Instruction(span) = task else {
-        return None;
-    };
-    let source = labels.source();
-    encode::encode_instruction(names, labels, address, &source[span.start..span.end])
+    match task {
+        Task::Instruction(span) => {
+            let source = labels.source();
+            encode::encode_instruction(names, labels, address, &source[span.start..span.end])
+        }
+        _ => None,
+    }
 }
 
 // How many words a code has. Of one `match` with 1, 2 and 2 the compiler makes a table of them.
 fn code_words(code: Option<Code>) -> usize
     ensures { result ≡ code_length code }
 {
-    let Some(code) = code else {
-        return 0;
-    };
-    1 + usize::from(!matches!(code, Code::Word(_)))
+    match code {
+        None => 0,
+        Some(code) => 1 + usize::from(!matches!(code, Code::Word(_))),
+    }
 }
 
 // How many words a task's instruction has.
@@ -72,7 +76,7 @@ struct Turn {
 }
 
 // The words of line k's instruction, encoded from its text, or as they are kept, into the rest of the slices after the data
-// words, which is lent; the place after them.
+// words, which is lent: so three slices and no `Places`. The place after them.
 fn put_instruction(
     encoding: Encoding<'_>,
     labels: &Labels<'_>,
@@ -107,9 +111,11 @@ pub fn count_words(names: Option<&[u8]>, labels: &Labels<'_>, cells: &[u32], pas
 {
     let mut address = pass.base;
     let mut count = pass.values;
+    // By number: a line's cells are found by it.
     for line in 0..pass.lines {
         let kept = cells::kept_line(cells, line);
         count += words_at(names, labels, address, kept.task);
+        // By `as`: an accepted line's address has 32 bits.
         address = cells::address_after(kept, pass.base, address) as u32;
     }
     count
@@ -133,6 +139,7 @@ pub fn emit_words(
         values: 0,
         codes: 0,
     };
+    // By number, as in `count_words`.
     for k in 0..pass.lines {
         let kept = cells::kept_line(cells, k);
         let values = places.put_value(turn.values, turn.address, kept.task);
@@ -147,6 +154,7 @@ pub fn emit_words(
             &mut places.marks[rest..],
         );
         turn = Turn {
+            // By `as`, as in `count_words`.
             address: cells::address_after(kept, pass.base, turn.address) as u32,
             values,
             codes,

@@ -1,4 +1,4 @@
-// The places of a list, in the three slices of the C interface.
+//! The places of a list, in the three slices of the C interface.
 ghost use Rattle.std.specs.Prelude.{◌≡◌, ◌∷◌, [], ◌+◌, ◌/◌, ◌%◌, ◌<◌, length};
 ghost use Rattle.rules.specs.Limits.{address_limit};
 ghost use Rattle.rules.specs.Text.{Text};
@@ -14,6 +14,7 @@ use encode_manual::ManualCode;
 use line::Task;
 
 /// The places of a list, in three lent slices. It has no model: with one a caller no longer learns what stands in the slices that it lent.
+// No `==`: it holds three `&mut`.
 #[derive(Drop)]
 pub struct Places<'a> {
     pub(crate) addresses: &'a mut [u32],
@@ -66,12 +67,14 @@ impl<'a> Places<'a> {
         requires { (address < address_limit) × Room (n + data_words task) (placed self.old) }
         ensures { (source : Text) → Taken n (data_places (put_of source address task)) self.old result self.new }
     {
-        let Task::Value(_, value) = task else {
-            return n;
-        };
-        let high = opcode::word::high_word(value);
-        self.put_two(n, address, high, opcode::word::low_word(value), 0);
-        n + 2
+        match task {
+            Task::Value(_, value) => {
+                let high = opcode::word::high_word(value);
+                self.put_two(n, address, high, opcode::word::low_word(value), 0);
+                n + 2
+            }
+            _ => n,
+        }
     }
 
     /// The words of a code, from place n on; the place after them.
@@ -79,19 +82,17 @@ impl<'a> Places<'a> {
         requires { (address < address_limit) × Room (n + length (places_of address code)) (placed self.old) }
         ensures { Taken n (places_of address code) self.old result self.new }
     {
-        let Some(code) = code else {
-            return n;
-        };
         match code {
-            Code::Word(word) => {
+            None => n,
+            Some(Code::Word(word)) => {
                 self.put(n, address, word, 0);
                 n + 1
             }
-            Code::Value(word, value) => {
+            Some(Code::Value(word, value)) => {
                 self.put_two(n, address, word, value, 0);
                 n + 2
             }
-            Code::Label(word, low) => {
+            Some(Code::Label(word, low)) => {
                 self.put_two(n, address, word, low, 1);
                 n + 2
             }
@@ -103,23 +104,21 @@ impl<'a> Places<'a> {
         requires { (address < address_limit) × Room (n + length (manual_places address code)) (placed self.old) }
         ensures { Taken n (manual_places address code) self.old result self.new }
     {
-        let Some(code) = code else {
-            return n;
-        };
         match code {
-            ManualCode::Word(word) => {
+            None => n,
+            Some(ManualCode::Word(word)) => {
                 self.put(n, address, word, 0);
                 n + 1
             }
-            ManualCode::Value(word, second) => {
+            Some(ManualCode::Value(word, second)) => {
                 self.put_two(n, address, word, second, 0);
                 n + 2
             }
-            ManualCode::Long(word, long) => {
+            Some(ManualCode::Long(word, long)) => {
                 self.put_three(n, address, word, long, 0, 0);
                 n + 3
             }
-            ManualCode::Address(word, target) => {
+            Some(ManualCode::Address(word, target)) => {
                 self.put_three(n, address, word, target, 2, 3);
                 n + 3
             }

@@ -1,5 +1,5 @@
 -- Moves made one after another in a loop: what is made so far, and what is left. Assumes nothing.
-use Rattle.std.proofs.Common.{◌≡◌, ℕ, ◌+◌, ◌≤◌, ◌<◌, Result, List, [], ◌∷◌, ◌++◌, map, length, get_or, set, take, drop, ℤ, pos, refl, sym, ◌∙◌, add-one, arith, append_assoc, append-nil, drop-cons, drop_of_length-le}
+use Rattle.std.proofs.Common.{◌≡◌, ℕ, ◌+◌, ◌≤◌, ◌<◌, Result, List, [], ◌∷◌, ◌++◌, map, length, get_or, set, take, drop, ℤ, pos, sym, ◌∙◌, add-one, arith, append_assoc, append-nil, drop-cons, drop_of_length-le}
 use Rattle.std.proofs.lemmas.List.{map-append}
 use lib.ListN.{length-set}
 use lib.Seq.{take-suc-set, drop-set-lt}
@@ -18,9 +18,6 @@ pub record Made (n : ℕ) (x₀ x : Slices) (ds : List ℤ) (rs₀ rs : List (Re
   pub after : slices_after n x₀ ds ≡ slices_after n x (drop i ds)
   pub answers : told (moves n x₀ ds) ≡ map answer_of (take i rs) ++ told (moves n x (drop i ds))
   pub others : (k : ℕ) → i ≤ k → drop k rs ≡ drop k rs₀
-
-pub made_starts : (n : ℕ) (x : Slices) (ds : List ℤ) (rs : List (Result ℕ Refusal)) → Made n x x ds rs rs 0
-made_starts n x ds rs = record { addresses = refl; words = refl; long = refl; after = refl; answers = refl; others = λ k h. refl }
 
 module _ {n : ℕ} {x₀ x : Slices} {ds : List ℤ} {rs₀ rs : List (Result ℕ Refusal)} {i : ℕ} (m : Made n x₀ x ds rs₀ rs i) where
   pub made_steps : i < length ds → length ds ≤ length rs₀ → (y : Slices) → y ≡ move_slices x n (get_or ds i (pos 0)) → length y.addresses ≡ length x.addresses → length y.words ≡ length x.words
@@ -45,6 +42,3 @@ module _ {n : ℕ} {x₀ x : Slices} {ds : List ℤ} {rs₀ rs : List (Result �
     pub made_answers : map answer_of (take (length ds) rs) ≡ told (moves n x₀ ds)
     unfolding moves
     made_answers = let k : length ds ≤ i = omega arith in rw (← h) (sym (m.answers ∙ rw (drop_of_length-le ds k) (append-nil _)))
-
-    pub made_others : drop (length ds) rs ≡ drop (length ds) rs₀
-    made_others = m.others (length ds) (omega arith)

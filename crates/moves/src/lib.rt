@@ -10,6 +10,7 @@ ghost use Rattle.moves.specs.Moves.{told, slices_after, IsTally, IsPairsTally};
 use answer::Refusal;
 
 /// Makes the moves of `distances`, refused ones included; each answer goes into `answers`, at its distance's index.
+// The slices and `count` side by side, as C lends them.
 pub fn relocate_all(
     addresses: &mut [u32],
     words: &mut [u16],

@@ -1,5 +1,5 @@
 -- Distances and moved addresses as signed numbers: tests, sums and casts. Assumes nothing.
-use Rattle.std.proofs.Common.{◌≡◌, ℕ, suc, ◌+◌, ◌*◌, ◌/◌, ◌%◌, ◌^◌, ◌<◌, true, false, T, ℤ, pos, negsuc, ◌+ℤ◌, nat_abs, sym, refl, ap, ◌∙◌, arith, to_z-of_z, w16, w32, w64, Fits, SFits, to_z, of_z, ltb-false, le-ltb}
+use Rattle.std.proofs.Common.{◌≡◌, ℕ, ◌+◌, ◌*◌, ◌/◌, ◌%◌, ◌^◌, ◌<◌, true, false, T, ℤ, pos, negsuc, ◌+ℤ◌, nat_abs, sym, refl, ap, ◌∙◌, arith, to_z-of_z, w32, w64, Fits, SFits, to_z, of_z, ltb-false}
 use mathlib.Core.Bool.{false≢true}
 use lib.Dec.{leb-suc-zero}
 use lib.Signed.{lt_z, mag, non_neg}
@@ -26,29 +26,22 @@ inside_fits (negsuc n) e = absurd (false≢true (sym e))
 pub summed : {z : ℤ} (a : ℕ) {d : ℤ} → mag z < 2 ^ 63 → z ≡ pos a +ℤ to_z w32 (of_z w32 d) → SFits w32 d → to_z w64 (of_z w64 z) ≡ pos a +ℤ d
 summed {z} a {d} h e f = to_z-of_z {w = w64} (record { sfits = h }) ∙ e ∙ ap (λ y. pos a +ℤ y) (to_z-of_z f)
 
--- a distance lifted by 2^31 is not negative, and keeps its remainder
-pub lifted : (d : ℤ) → SFits w32 d → T (non_neg (pos 2147483648 +ℤ d)) × Fits w32 (nat_abs (pos 2147483648 +ℤ d))
-lifted (pos n) f = let k : n < 2 ^ 31 = f.sfits in (tt, record { fits = omega arith })
-lifted (negsuc n) f = let k : n < 2 ^ 31 = f.sfits in rw (le-ltb 2147483648 (suc n) (omega arith)) (tt, record { fits = omega arith })
-
-pub lifted_modulo : (d : ℤ) → SFits w32 d → nat_abs (pos 2147483648 +ℤ d) % 65536 ≡ modulo 65536 d
+-- a distance modulo 2^32 is its bits, and its halves are words
+bits_of : (d : ℤ) → SFits w32 d → of_z w32 d ≡ modulo (2 ^ 32) d
 unfolding modulo
-lifted_modulo (pos n) f = omega arith
-lifted_modulo (negsuc n) f = let k : n < 2 ^ 31 = f.sfits in rw (le-ltb 2147483648 (suc n) (omega arith)) (omega arith)
-
--- the high and the low half of a distance modulo 2^32
-pub upper_fits : (d : ℤ) → SFits w32 d → Fits w16 (nat_abs (pos 2147483648 +ℤ d) / 65536)
-upper_fits d f = let k : nat_abs (pos 2147483648 +ℤ d) < 2 ^ 32 = (lifted d f).1.fits in record { fits = omega arith }
-
-pub lifted_upper : (d : ℤ) → SFits w32 d → (nat_abs (pos 2147483648 +ℤ d) / 65536 + 32768) % 65536 ≡ modulo (2 ^ 32) d / 65536
-unfolding modulo
-lifted_upper (pos n) f = let k : n < 2 ^ 31 = f.sfits in omega arith
-lifted_upper (negsuc n) f = let k : n < 2 ^ 31 = f.sfits in rw (le-ltb 2147483648 (suc n) (omega arith)) (omega arith)
+bits_of (pos n) f = let k : n < 2 ^ 31 = f.sfits in omega arith
+bits_of (negsuc n) f = let k : n < 2 ^ 31 = f.sfits in omega arith
 
 lower : (d : ℤ) → modulo 65536 d ≡ modulo (2 ^ 32) d % 65536
 unfolding modulo
 lower (pos n) = omega arith
 lower (negsuc n) = omega arith
+
+pub low_by : (d : ℤ) → SFits w32 d → of_z w32 d % 65536 ≡ modulo 65536 d
+low_by d f = rw (bits_of d f) (sym (lower d))
+
+pub upper_by : (d : ℤ) → SFits w32 d → of_z w32 d / 65536 ≡ modulo (2 ^ 32) d / 65536
+upper_by d f = rw (bits_of d f)
 
 -- a pair's high word by the halves, with the carry of the low ones
 pub high_by : (d : ℤ) (h l : ℕ) → ((h + modulo (2 ^ 32) d / 65536) % 65536 + (l + modulo 65536 d) / 65536) % 65536 ≡ added_high d h l

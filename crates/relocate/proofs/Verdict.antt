@@ -1,11 +1,11 @@
 -- The checks of a move, in their order. Assumes nothing.
-use Rattle.std.proofs.Common.{◌≡◌, ℕ, true, false, List, ℤ, sym, ◌∙◌, length, take}
+use Rattle.std.proofs.Common.{◌≡◌, ℕ, ◌≤◌, true, false, List, ◌++◌, ℤ, sym, ◌∙◌, length, map, take, drop}
 use Rattle.std.specs.Prelude.{Some, None, position}
 use Rattle.rules.specs.Answer.{accepted, refused, refuse_if, refuse_at}
 use Rattle.rules.specs.Assemble.{Slices, slices, short}
-use Rattle.rules.specs.Relocate.{far, first_bad_mark, move_answer, move_addresses, move_words, move_by, move_slices}
+use Rattle.rules.specs.Relocate.{far, first_bad_mark, moved_address, move_answer, move_words, move_by, move_slices}
 use Rattle.relocate.specs.Moves.{leaving}
-use Rattle.relocate.proofs.Prefix.{bad_in_prefix, index_in_prefix}
+use Rattle.relocate.proofs.Prefix.{addresses_moved, words_moved, bad_in_prefix, index_in_prefix}
 
 module _ (xs ws ms : List ℕ) (n : ℕ) (d : ℤ) where
   pub refuses_8 : far d ≡ true → move_answer (slices xs ws ms) n d ≡ refused 8 0
@@ -32,11 +32,11 @@ module _ (xs ws ms : List ℕ) (n : ℕ) (d : ℤ) where
         accepts e = rw (f, s, sym (bad_in_prefix 0 0 n ms) ∙ b, index_in_prefix (leaving d) n xs ∙ e)
 
 -- the slices after a move that is answered so
-module _ (x : Slices) (n : ℕ) (d : ℤ) where
-  pub stays : (r p : ℕ) → refused r p ≡ move_answer x n d → x ≡ move_slices x n d
-  unfolding move_slices move_by
-  stays r p e = rw (← e)
+pub stays : (x : Slices) (n : ℕ) (d : ℤ) (r p : ℕ) → refused r p ≡ move_answer x n d → x ≡ move_slices x n d
+unfolding move_slices move_by
+stays x n d r p e = rw (← e)
 
-  pub moves : accepted n ≡ move_answer x n d → slices (move_addresses d n x.addresses) (move_words d n x.marks x.words) x.marks ≡ move_slices x n d
-  unfolding move_slices move_by
-  moves e = rw (← e)
+pub moves : (xs ws ms : List ℕ) (n : ℕ) (d : ℤ) {ys vs : List ℕ} → accepted n ≡ move_answer (slices xs ws ms) n d → n ≤ length ms → ys ≡ map (moved_address d) (take n xs)
+    → vs ≡ move_words d (length (take n ws)) (take n ms) (take n ws) → slices (ys ++ drop n xs) (vs ++ drop n ws) ms ≡ move_slices (slices xs ws ms) n d
+unfolding move_slices move_by
+moves xs ws ms n d e h f g = rw (← e, f, g, addresses_moved d n xs, words_moved d n ms ws h)

@@ -43,21 +43,25 @@ fn moved_address(address: u32, distance: i32) -> u32
     requires { leaving distance address ≡ false }
     ensures { result ≡ moved_address distance address }
 {
+    // By `as`: an address that does not leave has 32 bits.
     sum(address, distance) as u32
 }
 
-// 2^31 is a multiple of 65,536, and no distance plus 2^31 is below 0.
+/// The low word of a distance modulo 2^32.
+// By `as`, here and in `upper`: a remainder and a quotient by 65,536 have 16 bits.
+#[tactic(auto, using(crate::proofs::Signed::low_by))]
 fn reduced(distance: i32) -> u16
     ensures { result ≡ modulo 65536 distance }
 {
-    (sum(1 << 31, distance) as u32 % 65536) as u16
+    (distance.cast_unsigned() % 65536) as u16
 }
 
-// 32,768 of the upper half is that 2^31.
+/// The high word of a distance modulo 2^32.
+#[tactic(auto, using(crate::proofs::Signed::upper_by))]
 fn upper(distance: i32) -> u16
     ensures { result ≡ modulo (2 ^ 32) distance / 65536 }
 {
-    ((sum(1 << 31, distance) as u32 / 65536) as u16).wrapping_add(32768)
+    (distance.cast_unsigned() / 65536) as u16
 }
 
 /// What the sum of two low words carries into the high word.
@@ -94,16 +98,13 @@ fn is_bad(marks: &[u8], i: usize) -> bool
     requires { i < length marks.now }
     ensures { result ≡ bad_mark (slice_index (0 ∷ marks.now) i) (slice_index marks.now i) (slice_index marks.now (i + 1)) }
 {
-    let mark = marks[i];
-    // Before the `match`, which would ask for the rare marks first.
-    if mark < 2 {
-        return false;
-    }
-    match mark {
-        2 => marks.get(i + 1) != Some(&3),
-        3 => i == 0 || marks[i - 1] != 2,
-        _ => true,
-    }
+    // 0 and 1 first: a `match` alone would ask for the rare marks before them.
+    marks[i] > 1
+        && match marks[i] {
+            2 => marks.get(i + 1) != Some(&3),
+            3 => i == 0 || marks[i - 1] != 2,
+            _ => true,
+        }
 }
 
 /// The highest mark, with many looked at at a time.
@@ -121,6 +122,7 @@ fn has_pairs(marks: &[u8]) -> bool
 }
 
 /// The first bad mark; there is none without pairs.
+// `pairs` is asked once, by `check`: `has_pairs` looks at every mark.
 fn first_bad_mark(marks: &[u8], pairs: bool) -> Option<usize>
     requires { pairs ≡ list_any (λ m. nat_lt 1 m) marks.now }
     ensures { result ≡ first_bad_mark 0 0 (length marks.now) marks.now }
@@ -186,7 +188,7 @@ fn move_pairs(words: &mut [u16], marks: &[u8], distance: i32)
     if count == 0 {
         return;
     }
-    // The last word by itself: with `get` for the next one each place is slower.
+    // By index, as in `move_singles`. The last word by itself: with `get` for the next one each place is slower.
     for i in 0..count - 1 {
         words[i] = moved_word(words[i], marks[i], words[i + 1], distance);
     }
@@ -194,6 +196,7 @@ fn move_pairs(words: &mut [u16], marks: &[u8], distance: i32)
 }
 
 /// Refuses a move before anything is written, and tells whether the list has pairs.
+// The slices and `count` side by side, here and in `relocate`, as C lends them.
 #[tactic(auto, using(crate::proofs::Verdict::refuses_8, crate::proofs::Verdict::refuses_9, crate::proofs::Verdict::refuses_10))]
 fn check(
     addresses: &[u32],
@@ -227,6 +230,7 @@ fn check(
 }
 
 /// Moves a list that has been checked.
+// `pairs` as `check` tells it: it is not asked again.
 fn move_words(words: &mut [u16], marks: &[u8], distance: i32, pairs: bool)
     requires lengths { length words.old ≡ length marks.now }
     requires pairs { pairs ≡ list_any (λ m. nat_lt 1 m) marks.now }
@@ -240,7 +244,7 @@ fn move_words(words: &mut [u16], marks: &[u8], distance: i32, pairs: bool)
 }
 
 /// Moves the list in the first `count` places of the three slices and answers the count, or refuses and changes nothing.
-#[tactic(auto, using(crate::proofs::Verdict::stays, crate::proofs::Verdict::moves))]
+#[tactic(auto, using(crate::proofs::Prefix::addresses_moved, crate::proofs::Prefix::words_moved, crate::proofs::Verdict::stays, crate::proofs::Verdict::moves))]
 pub fn relocate(
     addresses: &mut [u32],
     words: &mut [u16],

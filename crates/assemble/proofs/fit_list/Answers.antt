@@ -1,18 +1,11 @@
-use Rattle.std.proofs.Common.{sym, ◌∙◌, arith, length, ◌≤◌, ◌*◌}
-use Rattle.rules.specs.Encode.{encode_by}
-use Rattle.rules.specs.Assemble.{second_pass_by}
-use Rattle.first.specs.Pass.{pass_in}
+use Rattle.std.proofs.Common.{sym, ◌∙◌}
 use Rattle.emit.specs.Emit.{names_of}
 use Rattle.assemble.proofs.Lists.{list_few, more_room, fits_ok, fits_7}
 use Rattle.assemble.proofs.fit_list.Goals as goal
 
-pub overflow_mul-lines : goal.overflow_mul-lines
-overflow_mul-lines c = omega (arith, (list_few (names_of c.args.names) c.requires.holds).1, c.requires.lines)
-
 pub returns-then-not-is_short-clause-room : goal.returns-then-not-is_short-clause-room
 returns-then-not-is_short-clause-room c =
-    let few : length (second_pass_by (encode_by (names_of c.args.names)) (pass_in c.args.labels.now c.args.cells.now c.args.pass)) ≤ 2 * c.args.lines = rw c.requires.lines (list_few (names_of c.args.names) c.requires.holds).0 in
-    more_room _ _ _ (sym c.is_short.ensures.short ∙ c.if-not-is_short.true) few
+    more_room _ _ _ (sym c.is_short.ensures.short ∙ c.if-not-is_short.true) (list_few (names_of c.args.names) c.args.labels.now c.args.cells.now c.args.pass)
 
 pub returns-then-not-is_short-clause-answer : goal.returns-then-not-is_short-clause-answer
 returns-then-not-is_short-clause-answer c = fits_ok _ _ (returns-then-not-is_short-clause-room c)

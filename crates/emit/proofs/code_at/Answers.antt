@@ -6,5 +6,5 @@ use Rattle.emit.proofs.code_at.Goals as goal
 pub returns-in_default : goal.returns-in_default
 returns-in_default c = sym (no_instruction _ _ _ _ c.args.task c.in_default.not-Instruction)
 
-pub returns : goal.returns
-returns c = instruction_places _ _ _ _ c.args.task c.in-Instruction.is (rw c.source-source.ensures at c.encode_instruction.ensures)
+pub returns-in-Instruction : goal.returns-in-Instruction
+returns-in-Instruction c = instruction_places _ _ _ _ c.args.task c.in-Instruction.is (rw c.source-source.ensures at c.encode_instruction.ensures)

@@ -7,9 +7,6 @@ use Rattle.emit.proofs.count_words.Goals as goal
 pub loop-line-init : goal.loop-line-init
 loop-line-init c = counting_start _ _ _ _
 
-pub kept_line-kept-requires : goal.kept_line-kept-requires
-kept_line-kept-requires c = record { room = omega (arith, c.requires.lines.room, c.loop-line-test.true) }
-
 pub words_at-count-requires : goal.words_at-count-requires
 words_at-count-requires c = counting_needs (named_few _) c.requires c.loop-line.invariant c.loop-line-test.true c.kept_line-kept.ensures
 

@@ -8,9 +8,6 @@ use Rattle.emit.proofs.emit_words.Goals as goal
 pub loop-k-init : goal.loop-k-init
 loop-k-init c = emitting_start _ _ _ _ _
 
-pub kept_line-kept-requires : goal.kept_line-kept-requires
-kept_line-kept-requires c = record { room = omega (arith, c.requires.holds.lines.room, c.loop-k-test.true) }
-
 pub put_value-values-requires : goal.put_value-values-requires
 put_value-values-requires c =
     let k = c.kept_line-kept.ensures in
@@ -57,5 +54,8 @@ loop-k-preserved c =
 pub overflow_add-result : goal.overflow_add-result
 overflow_add-result c = omega (arith, all_counted c.requires c.loop-k.invariant c.loop-k-test.false, c.requires.room)
 
-pub returns : goal.returns
-returns c = record { value = all_counted c.requires c.loop-k.invariant c.loop-k-test.false; list = all_put c.requires c.loop-k.invariant c.loop-k-test.false }
+pub returns-clause-value : goal.returns-clause-value
+returns-clause-value c = all_counted c.requires c.loop-k.invariant c.loop-k-test.false
+
+pub returns-clause-list : goal.returns-clause-list
+returns-clause-list c = all_put c.requires c.loop-k.invariant c.loop-k-test.false

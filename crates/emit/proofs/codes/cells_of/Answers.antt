@@ -1,19 +1,19 @@
 -- `cells_of` keeps a code's words in two cells. Assumes nothing.
-use Rattle.std.proofs.Common.{arith}
+use Rattle.std.proofs.Common.{rules}
 use Rattle.emit.proofs.Coding.{no_cells, word_cells, value_cells, long_cells, address_cells}
 use Rattle.emit.proofs.codes.cells_of.Goals as goal
 
-pub returns-in_default : goal.returns-in_default
-returns-in_default c = rw c.in_default.is no_cells
+pub returns-in-None : goal.returns-in-None
+returns-in-None c = rw c.in-None.is no_cells
 
-pub returns-in-Word : goal.returns-in-Word
-returns-in-Word c = rw (c.in-Some.is, c.from.ensures) (word_cells (omega arith) c.in-Word.is)
+pub returns-in-Some-Word : goal.returns-in-Some-Word
+returns-in-Some-Word c = let k = c.in-Some-Word in rw (k.is, c.from.ensures) (word_cells (search rules) (rw k.is at k.field-0-is))
 
-pub returns-in-Value : goal.returns-in-Value
-returns-in-Value c = rw (c.in-Some.is, c.from-in-Value.ensures, c.from-in-Value-2.ensures) (value_cells (omega arith) (omega arith) c.in-Value.is)
+pub returns-in-Some-Value : goal.returns-in-Some-Value
+returns-in-Some-Value c = let k = c.in-Some-Value in rw (k.is, c.from-in-Some-Value.ensures, c.from-in-Some-Value-2.ensures) (value_cells (search rules) (search rules) (rw k.is at k.field-0-is))
 
-pub returns-in-Long : goal.returns-in-Long
-returns-in-Long c = rw (c.in-Some.is, c.from-in-Long.ensures) (long_cells (omega arith) c.in-Long.is)
+pub returns-in-Some-Long : goal.returns-in-Some-Long
+returns-in-Some-Long c = let k = c.in-Some-Long in rw (k.is, c.from-in-Some-Long.ensures) (long_cells (search rules) (rw k.is at k.field-0-is))
 
-pub returns-in-Address : goal.returns-in-Address
-returns-in-Address c = rw (c.in-Some.is, c.from-in-Address.ensures) (address_cells (omega arith) c.in-Address.is)
+pub returns-in-Some-Address : goal.returns-in-Some-Address
+returns-in-Some-Address c = let k = c.in-Some-Address in rw (k.is, c.from-in-Some-Address.ensures) (address_cells (search rules) (rw k.is at k.field-0-is))

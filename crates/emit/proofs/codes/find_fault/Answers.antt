@@ -1,14 +1,11 @@
 -- `find_fault` keeps the codes of the first k lines. Assumes nothing.
 use Rattle.std.proofs.Common.{arith}
 use Rattle.std.proofs.lemmas.Result.{err_from_is_err_and}
-use Rattle.emit.proofs.Finding.{finding_start, line_needs, address_fits, count_fits, faulty, finding_next, all_sound, all_held}
+use Rattle.emit.proofs.Finding.{finding_start, line_needs, address_fits, count_fits, faulty, finding_next, all_sound}
 use Rattle.emit.proofs.codes.find_fault.Goals as goal
 
 pub loop-k-init : goal.loop-k-init
 loop-k-init c = finding_start _ _ _ _
-
-pub kept_line-kept-requires : goal.kept_line-kept-requires
-kept_line-kept-requires c = record { room = omega (arith, c.requires.holds.lines.room, c.loop-k-test.true) }
 
 pub code_line-requires : goal.code_line-requires
 code_line-requires c = line_needs c.requires c.loop-k.invariant c.loop-k-test.true c.kept_line-kept.ensures
@@ -29,5 +26,5 @@ pub loop-k-preserved : goal.loop-k-preserved
 loop-k-preserved c =
     finding_next c.requires c.loop-k.invariant c.loop-k-test.true c.kept_line-kept.ensures _ c.in_ok-code.ensures c.cells_of-head.ensures c.put_cells.ensures c.address_after-address.ensures
 
-pub returns : goal.returns
-returns c = record { answer = all_sound c.requires c.loop-k.invariant c.loop-k-test.false; codes = all_held c.requires c.loop-k.invariant c.loop-k-test.false }
+pub returns-clause-answer : goal.returns-clause-answer
+returns-clause-answer c = all_sound c.requires c.loop-k.invariant c.loop-k-test.false

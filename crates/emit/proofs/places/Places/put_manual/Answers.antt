@@ -3,5 +3,5 @@ use Rattle.std.proofs.Common.{refl}
 use Rattle.emit.proofs.Slices.{taken_none}
 use Rattle.emit.proofs.places.Places.put_manual.Goals as goal
 
-pub returns-in_default : goal.returns-in_default
-returns-in_default c = rw c.in_default.is (taken_none _ _ _ refl)
+pub returns-in-None : goal.returns-in-None
+returns-in-None c = rw c.in-None.is (taken_none _ _ _ refl)

@@ -7,5 +7,5 @@ use Rattle.emit.proofs.places.Places.put_value.Goals as goal
 pub returns-in_default : goal.returns-in_default
 returns-in_default c = λ source. taken_none _ _ _ (no_value source _ c.args.task c.in_default.not-Value)
 
-pub returns : goal.returns
-returns c = λ source. taken_as (value_places source _ c.args.task c.in-Value.is c.high_word-high.ensures c.low_word.ensures) (record { count = refl; puts = c.put_two.ensures })
+pub returns-in-Value : goal.returns-in-Value
+returns-in-Value c = λ source. taken_as (value_places source _ c.args.task c.in-Value.is c.high_word-high.ensures c.low_word.ensures) (record { count = refl; puts = c.put_two.ensures })
