@@ -3,8 +3,7 @@ use Prim.Native.Nat.{ℕ}
 use mathlib.Core.Path.{◌≡◌, sym, ◌∙◌}
 use mathlib.Core.Bool.{Bool, true, false, false≢true}
 use mathlib.Core.Logic.{◌↔◌}
-use Rattle.rules.specs.Text.{Text, same}
-use Rattle.text.proofs.Compare.{same_is, same_self}
+use Rattle.rules.specs.Text.{Text}
 use Rattle.calls.specs.Calls.{call_text, is_call, CallAgrees}
 
 -- what does not hold is answered by false
@@ -15,8 +14,5 @@ module _ (call x y : ℕ) (s t : Text) where
   pub unknown : is_call call ≡ false → ((false ≡ true) ↔ CallAgrees call x y s t)
   unknown e = refuses (λ g. false≢true (sym e ∙ g.known))
 
-  pub compared : is_call call ≡ true → (shown : Text) → shown ≡ call_text call x y s → (r : Bool) → r ≡ same shown t → ((r ≡ true) ↔ CallAgrees call x y s t)
-  compared k shown e r f = (
-    (λ g. record { known = k; answer = sym e ∙ same_is shown t (sym f ∙ g) }),
-    (λ g. let h : shown ≡ t = e ∙ g.answer in f ∙ rw h (same_self t)),
-  )
+  pub compared : is_call call ≡ true → (shown : Text) → shown ≡ call_text call x y s → (r : Bool) → ((r ≡ true) ↔ (shown ≡ t)) → ((r ≡ true) ↔ CallAgrees call x y s t)
+  compared k shown e r f = ((λ g. record { known = k; answer = sym e ∙ f.0 g }), (λ g. f.1 (e ∙ g.answer)))

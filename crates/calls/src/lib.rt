@@ -1,8 +1,8 @@
 #![tactic(auto)]
 
 //! Paper 02's calls by the numbers that they have in records, each answered as a text, and a recorded text compared with it.
+//! There is no heap: a text is put at the front of a slice that is lent.
 ghost use Rattle.std.specs.Prelude.{◌≡◌, true, ◌↔◌, ◌+◌, ◌≤◌, min, length as len, take, drop};
-ghost use Rattle.rules.specs.Text.{same};
 ghost use Rattle.listing.specs.Writer.{Adds};
 ghost use Rattle.station.specs.Printed.{Printed};
 ghost use Rattle.rules.specs.Directive.{line_reading};
@@ -24,11 +24,10 @@ use listing::writing::write_bytes;
 use mantext::write_manual;
 use nearest::{Nearest, nearest_label};
 use numeral::Failure;
-use sheet::{Totals, add_source};
+use sheet::{NO_TOTALS, Totals, add_source};
 use sheettext::rows::write_sheet;
 use station::write_refusal;
 use symtext::write_symbols;
-use text::starts_with;
 use tidytext::write_tidied;
 use whytext::write_line_verdict;
 
@@ -59,6 +58,7 @@ fn write_nearest(label: Nearest, out: &mut [u8; ROOM]) -> usize
     ensures { Printed (nearest_text (record { start = label.start; length = label.length; distance = label.distance })) result out.old out.new }
 {
     let mut text = Writer::new(out);
+    // By `as`: `u64` has no `From<usize>`.
     push_number(label.start as u64, b' ', &mut text);
     push_number(label.length as u64, b' ', &mut text);
     push_number(u64::from(label.distance), b'\n', &mut text);
@@ -120,6 +120,7 @@ fn line_number_text(line: &[u8], out: &mut [u8; ROOM]) -> usize
 fn table_size(said: u32, source: &[u8]) -> usize
     ensures { result ≡ min (len source.now) said }
 {
+    // By `as`: `usize` has no `From<u32>`.
     source.len().min(said as usize)
 }
 
@@ -164,18 +165,9 @@ fn empty_sources(accepted: u32, refused: u32) -> Totals
     ensures { said result ≡ empty_sources accepted refused }
 {
     Totals {
-        skipped: 0,
-        org: 0,
-        label: 0,
-        defined: 0,
-        worded: 0,
-        wordless: 0,
-        ended: 0,
-        words: 0,
-        marked: 0,
-        labels: 0,
         accepted: u64::from(accepted),
         refused: u64::from(refused),
+        ..NO_TOTALS
     }
 }
 
@@ -193,6 +185,7 @@ fn sheet_text(source: &[u8], accepted: u32, refused: u32, out: &mut [u8; ROOM]) 
 pub fn call_text(call: u8, x: u32, y: u32, source: &[u8], out: &mut [u8; ROOM]) -> usize
     ensures { Printed (call_text call x y source.now) result out.old out.new }
 {
+    // A size by `as`: `usize` has no `From<u32>`.
     match call {
         2 => nearest_text(source, x, y, out),
         3 => write_symbols(source, x, out),
@@ -219,20 +212,17 @@ pub fn is_call(call: u8) -> bool
 // ---- A recorded call.
 
 // Whether two texts are the same.
-#[tactic(auto, using(text::proofs::Compare::same_longer, text::proofs::Compare::same_starts))]
 fn same_text(t: &[u8], s: &[u8]) -> bool
-    ensures { result ≡ same t.now s.now }
+    ensures { (result ≡ true) ↔ (t.now ≡ s.now) }
 {
-    if t.len() != s.len() {
-        return false;
-    }
-    starts_with(t, s)
+    t == s
 }
 
 /// Whether a call is known, and its text the recorded one.
 pub fn call_agrees(call: u8, x: u32, y: u32, source: &[u8], recorded: &[u8]) -> bool
     ensures { (result ≡ true) ↔ CallAgrees call x y source.now recorded.now }
 {
+    // An early return: the text and its room are made only for a call that is known.
     if !is_call(call) {
         return false;
     }

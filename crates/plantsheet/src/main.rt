@@ -1,13 +1,13 @@
 #![tactic(auto)]
 
-// Adds up a plant's scripts on one sheet. It reads the names of files on standard input, one a line, and prints a line for each total on
-// standard output: `skipped`, `org`, `label`, `data`, `word`, `wordless`, `end`, `words`, `marked`, `labels`, `accepted`, `refused`, then
-// `mean` with words and accepted scripts. Each `-t SHEET` names a file that holds such a sheet, to which is added.
-//   `refused 20 1000000` if there are more than 1,000,000 scripts, `refused 21 0` if a sheet has a total above 2^33;
-//   `not a sheet: line N` if such a file is none.
-// A file that cannot be read to its end is said with its name on standard error, and no sheet is printed: no script is left out in
-// silence. There too it says if the names cannot be read to their end, and prints nothing then; if standard output does not take all
-// that it prints; or if its arguments are others: it reads nothing then.
+//! Adds up a plant's scripts on one sheet. It reads the names of files on standard input, one a line, and prints a line for each total on
+//! standard output: `skipped`, `org`, `label`, `data`, `word`, `wordless`, `end`, `words`, `marked`, `labels`, `accepted`, `refused`, then
+//! `mean` with words and accepted scripts. Each `-t SHEET` names a file that holds such a sheet, to which is added.
+//!   `refused 20 1000000` if there are more than 1,000,000 scripts, `refused 21 0` if a sheet has a total above 2^33;
+//!   `not a sheet: line N` if such a file is none.
+//! A file that cannot be read to its end is said with its name on standard error, and no sheet is printed: no script is left out in
+//! silence. There too it says if the names cannot be read to their end, and prints nothing then; if standard output does not take all
+//! that it prints; or if its arguments are others: it reads nothing then.
 ghost use Rattle.std.specs.Prelude.{false, ◌++◌, take};
 ghost use Rattle.rules.specs.Text.{Text};
 ghost use Rattle.sheettext.specs.Steps.{Outcome, outcome};
@@ -25,6 +25,8 @@ use station::input::{Input, after_read, start};
 use std::io::Read;
 
 // Goes on with the file whose name is in the first bytes, a sheet or a script, if it is due. One that cannot be read is said.
+// `due` and `sheet` are flags, as the specs (`FileAdded`) take them. `name` and `size` stand side by side and are cut here once: `Fed`
+// does not say that what it holds is within the name.
 fn add_file(
     rt: &HostRuntime,
     step: Step,
@@ -48,7 +50,7 @@ fn add_file(
 }
 
 // Where the program stands in the names: the step so far, and how many bytes of the next name are held.
-#[derive(Clone, Copy)]
+#[derive(Clone, Copy, Debug, PartialEq, Eq, Hash)]
 struct Fed {
     held: usize,
     step: Step,
@@ -67,6 +69,7 @@ fn add_chunk(
     let mut held = fed.held;
     let mut step = fed.step;
     let mut at = 0;
+    // Each turn takes as many bytes as a name has.
     while at < chunk.len() {
         let taken = take_name(&chunk[at..], name, held);
         step = add_file(rt, step, taken.whole, name, taken.held, false, script);
@@ -77,7 +80,7 @@ fn add_chunk(
 }
 
 // How the names ended, and what their scripts come to.
-#[derive(Clone, Copy)]
+#[derive(Clone, Copy, Debug, PartialEq, Eq, Hash)]
 struct Named {
     input: Input,
     step: Step,
@@ -94,6 +97,7 @@ fn add_names(rt: &HostRuntime, first: Step, script: &mut [u8; SCRIPT]) -> Named
     };
     let mut stdin = rt.stdin();
     let mut input = start();
+    // Where the reads end only each read tells: no iterator has them.
     while input.more {
         let mut chunk = [0u8; SMALL_CHUNK];
         let got = stdin.read(&mut chunk).ok();
@@ -109,6 +113,7 @@ fn add_names(rt: &HostRuntime, first: Step, script: &mut [u8; SCRIPT]) -> Named
 fn main(rt: HostRuntime) {
     let arguments = argument_count(&rt);
     let mut given = no_argument();
+    // An argument is asked for by its place, here and below.
     for k in 1..arguments {
         let mut text = [0u8; ARGUMENT];
         let size = argument(&rt, k, &mut text);

@@ -27,9 +27,6 @@ abbrev pub Column : (Place → ℕ) → Text → ℕ → ℕ → List ℕ → Li
 Column f t count i first l = Putting 0 (map f (rows_in count t)) first i (rows_from f t count i) l
 
 module _ (f : Place → ℕ) (t : Text) (count : ℕ) where
-  pub part_none : (l : List ℕ) → Column f t count 0 l l
-  part_none l = let all : count - 0 ≡ count = omega arith in putting_start _ _ _ _ _ refl (rw all)
-
   rows_more : (i v : ℕ) → i < count → v ≡ f (row_in (drop (7 * i) t)) → rows_from f t count i ≡ v ∷ rows_from f t count (i + 1)
   unfolding rows_in
   rows_more i v h e =

@@ -79,7 +79,7 @@ counted_by None s =
       records = (s.records + 1) % 2 ^ 64;
       agreed = s.agreed;
       words = s.words;
-      first = option_or s.first (Some ((s.records + 1) % 2 ^ 64));
+      first = option_or s.first (cond ((s.records + 1) % 2 ^ 64 == 0) None (Some ((s.records + 1) % 2 ^ 64)));
     }
 
 pub record Replay : Type 0 where

@@ -2,7 +2,8 @@
 
 //! Recorded calls: each is read from the bytes of its record, made again, and compared, the assembler's place by place and 02's by
 //! their texts. A record starts with the number of the call that it records; compare/src/record.rs says how it goes on.
-ghost use Rattle.std.specs.Prelude.{◌≡◌, ◌+◌, ◌*◌, ◌≤◌, true, ◌↔◌, length, None};
+//! There is no heap: what is printed is put at the front of a slice that is lent.
+ghost use Rattle.std.specs.Prelude.{◌≡◌, ◌+◌, ◌*◌, ◌^◌, ◌<◌, ◌≤◌, true, ◌↔◌, length, None};
 ghost use Rattle.rules.specs.Assemble.{slices, holding};
 ghost use Rattle.answer.specs.Refusal.{answer_of};
 ghost use Rattle.answer.specs.Told.{told_number, told_place};
@@ -71,15 +72,25 @@ fn number_at(t: &[u8], at: usize) -> u32
     number(t[at], t[at + 1], t[at + 2], t[at + 3])
 }
 
+// The same as a size. By `as`: `usize` has no `From<u32>`.
+fn size_at(t: &[u8], at: usize) -> usize
+    requires { at + 4 ≤ length t.now }
+    ensures value { result ≡ number_at at 4 t.now }
+    ensures small { result < 2 ^ 32 }
+{
+    number_at(t, at) as usize
+}
+
 // How many places the list has: a refusal has no list.
 fn count(terms: &[u8]) -> usize
     requires { length terms.now ≡ 25 }
     ensures { result ≡ count_of (terms_in terms.now) }
 {
-    if terms[20] != 0 {
-        return 0;
+    if terms[20] == 0 {
+        size_at(terms, 21)
+    } else {
+        0
     }
-    number_at(terms, 21) as usize
 }
 
 // Whether the parts of a call are as long as they say, and its places within the slices.
@@ -90,7 +101,7 @@ fn is_whole(source: &[u8], terms: &[u8], rows: &[u8]) -> bool
     if terms.len() != TERMS {
         return false;
     }
-    if source.len() != number_at(terms, 0) as usize {
+    if source.len() != size_at(terms, 0) {
         return false;
     }
     let count = count(terms);
@@ -100,20 +111,21 @@ fn is_whole(source: &[u8], terms: &[u8], rows: &[u8]) -> bool
     if rows.len() != ROW * count {
         return false;
     }
-    if number_at(terms, 8) as usize > PLACES {
+    if size_at(terms, 8) > PLACES {
         return false;
     }
-    if number_at(terms, 12) as usize > PLACES {
+    if size_at(terms, 12) > PLACES {
         return false;
     }
-    number_at(terms, 16) as usize <= PLACES
+    size_at(terms, 16) <= PLACES
 }
 
-// Puts the list in the first `count` rows into the slices.
+// Puts the list in the first `count` rows into the slices. These stand side by side, here and below, as C lends them.
 fn read_list(rows: &[u8], count: usize, a: &mut [u32], w: &mut [u16], m: &mut [u8])
     requires { (7 * count ≤ length rows.now) × (count ≤ length a.old) × (count ≤ length w.old) × (count ≤ length m.old) }
     ensures { slices a.new w.new m.new ≡ holding (rows_in count rows.now) (slices a.old w.old m.old) }
 {
+    // By index: of a `zip` with `iter_mut` nothing is known after the loop.
     for i in 0..count {
         let at = ROW * i;
         a[i] = number_at(rows, at);
@@ -123,6 +135,8 @@ fn read_list(rows: &[u8], count: usize, a: &mut [u32], w: &mut [u16], m: &mut [u
 }
 
 // Assembles a source at a base, in the first la, lw and lm places of the slices.
+// A function of its own, so that `agrees` has one clause for the three parts that it lends; eight parameters, since each slice is lent
+// in part and by a length of its own.
 fn assemble_lent(
     source: &[u8],
     base: u32,
@@ -144,6 +158,7 @@ fn same_answer(answer: Result<usize, Refusal>, number: u8, place: u32) -> bool
     ensures { (result ≡ true) ↔ ((told_number (answer_of answer) ≡ number) × (told_place (answer_of answer) ≡ place)) }
 {
     let mut told = 0;
+    // By `as`, as in `size_at`.
     tell(answer, &mut told) == number && told == place as usize
 }
 
@@ -159,6 +174,7 @@ fn same_list(a: &[u32], w: &[u16], m: &[u8], b: &[u32], x: &[u16], n: &[u8]) -> 
 fn agrees(source: &[u8], terms: &[u8], rows: &[u8]) -> bool
     ensures { (result ≡ true) ↔ Agrees source.now terms.now rows.now }
 {
+    // Early returns: what stands between the tests is made only once the test before it has passed.
     if !is_whole(source, terms, rows) {
         return false;
     }
@@ -168,9 +184,9 @@ fn agrees(source: &[u8], terms: &[u8], rows: &[u8]) -> bool
     let mut b = [OLD_ADDRESS; PLACES];
     let mut x = [OLD_WORD; PLACES];
     let mut n = [OLD_MARK; PLACES];
-    let la = number_at(terms, 8) as usize;
-    let lw = number_at(terms, 12) as usize;
-    let lm = number_at(terms, 16) as usize;
+    let la = size_at(terms, 8);
+    let lw = size_at(terms, 12);
+    let lm = size_at(terms, 16);
     let base = number_at(terms, 4);
     let answer = assemble_lent(source, base, la, lw, lm, &mut a, &mut w, &mut m);
     if !same_answer(answer, terms[20], number_at(terms, 21)) {
@@ -198,6 +214,7 @@ pub struct Tally {
 }
 
 /// Before the first byte.
+// By hand: it says what each count starts at, as its clause does.
 pub fn start() -> Tally
     ensures { result ≡ record { length = 0; records = 0; agreed = 0; words = 0; first = None } }
 {
@@ -215,7 +232,7 @@ fn judge_call(bytes: &[u8]) -> Option<usize>
     requires { 17 ≤ length bytes.now }
     ensures { result ≡ call_verdict (17 + number_at 13 4 bytes.now) bytes.now }
 {
-    let end = CALL_FRONT + number_at(bytes, 13) as usize;
+    let end = CALL_FRONT + size_at(bytes, 13);
     if bytes.len() < end {
         return None;
     }
@@ -240,7 +257,7 @@ fn judge(bytes: &[u8]) -> Option<usize>
     if bytes.len() < FRONT {
         return None;
     }
-    let end = FRONT + number_at(bytes, 5) as usize;
+    let end = FRONT + size_at(bytes, 5);
     if bytes.len() < end {
         return None;
     }
@@ -257,9 +274,10 @@ fn record_size(bytes: &[u8], n: usize) -> usize
     ensures { result ≡ size_by n bytes.now }
 {
     if n < HEAD {
-        return HEAD;
+        HEAD
+    } else {
+        HEAD + size_at(bytes, 1)
     }
-    HEAD + number_at(bytes, 1) as usize
 }
 
 // The tally with one record more, which agrees in so many places, or differs.
@@ -273,13 +291,15 @@ fn counted(tally: Tally, found: Option<usize>) -> Tally
             length: 0,
             records,
             agreed: tally.agreed.wrapping_add(1),
+            // By `as`: `u64` has no `From<usize>`.
             words: tally.words.wrapping_add(count as u64),
             first: tally.first,
         },
         None => Tally {
             length: 0,
             records,
-            first: tally.first.or(Some(records)),
+            // Of 2^64 records the number is 0, and none.
+            first: tally.first.or((records != 0).then_some(records)),
             ..tally
         },
     }
@@ -347,12 +367,11 @@ pub fn replay_text(tally: Tally, input: Input, out: &mut [u8; COUNTS]) -> usize
     }
     let mut text = Writer::new(out);
     push_counts(tally, &mut text);
-    let Some(first) = tally.first else {
-        return text.len;
-    };
-    text.push_bytes(b"the first that differs is record ");
-    text.push_decimal(first);
-    text.push(b'\n');
+    if let Some(first) = tally.first {
+        text.push_bytes(b"the first that differs is record ");
+        text.push_decimal(first);
+        text.push(b'\n');
+    }
     text.len
 }
 

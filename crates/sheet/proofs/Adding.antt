@@ -2,17 +2,16 @@
 use mathlib.Core.Path.{◌≡◌, refl, sym, ap, ◌∙◌}
 use mathlib.Core.Bool.{Bool, true, false, ◌||◌}
 use mathlib.Core.List.{List, [], ◌∷◌}
-use Prim.Native.Nat.{ℕ, suc, ◌+◌, ◌*◌, ◌≤◌, ◌<◌, min}
+use Prim.Native.Nat.{ℕ, ◌*◌, ◌≤◌}
 use native.Mathlib.Omega.{arith}
-use borrow.Author.Tests.{ltb-true, ltb-false, lt-ltb, le-ltb, le-leb, lt-leb}
+use borrow.Author.Tests.{ltb-false}
 use lib.Dec.{ltb}
 use Rattle.std.specs.Prelude.{nat_lt, sum, length}
 use Rattle.std.specs.Bool.{OnFalse}
 use Rattle.std.specs.List.{list_any}
 use Rattle.std.proofs.lemmas.List.Sums.{sum_by-cons}
 use Rattle.rules.specs.Text.{Text}
-use Rattle.rules.specs.Answer.{accepted, refused, refuse_if}
-use Rattle.requests.specs.Sheet.{max_sources, max_total, Totals as Said, totals, numbers_in, source_sheet, plus, sources, any_over, add_source, add_sheet}
+use Rattle.requests.specs.Sheet.{max_total, Totals as Said, numbers_in, source_sheet, any_over}
 use Rattle.promises.proofs.Sheet.{own_within}
 use Rattle.sheet.specs.Totals.{weight}
 

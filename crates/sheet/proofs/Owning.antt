@@ -1,8 +1,7 @@
 -- A source's own totals, from what the first pass left to the source's sheet. Assumes nothing.
-use Rattle.std.specs.Prelude.{IfOk, Result, Ok, Err}
-use mathlib.Core.Path.{◌≡◌, refl, sym, ap, ◌∙◌}
+use mathlib.Core.Path.{◌≡◌, sym, ap, ◌∙◌}
 use mathlib.Core.List.{List, []}
-use Prim.Native.Nat.{ℕ, ◌-◌, ◌*◌, ◌+◌, ◌^◌, ◌<◌}
+use Prim.Native.Nat.{ℕ, ◌-◌}
 use native.Mathlib.Omega.{arith}
 use lib.ListN.{length}
 use Rattle.rules.specs.Text.{Text, cut_at}
@@ -11,29 +10,22 @@ use Rattle.rules.specs.Answer.{accepted, refused}
 use Rattle.rules.specs.Assemble.{checks, first_pass_by, pass_at_by, pass_at}
 use Rattle.requests.specs.Sheet.{Totals as Said, totals, one_refused, accepted_sheet, answer_sheet, source_sheet, plus}
 use Rattle.promises.proofs.SheetClasses.{read_few}
-use Rattle.source.specs.Clear.{Clear}
 use Rattle.source.proofs.Callers.{checks_clear, stopped}
 use Rattle.label.specs.Labelled.{Labelled}
 use Rattle.cells.specs.Puts.{puts_of}
 use Rattle.cells.proofs.Puts.{puts_length}
 use Rattle.first.specs.Pass.{pass_in, IsDone}
 use Rattle.first.specs.declared.Pass.{Pass}
-use Rattle.first.proofs.Callers.{pass_clear, holds}
-use Rattle.sheet.specs.Totals.{said, weight}
-use Rattle.sheet.specs.Lines.{ReadTotalsNeeds, ReadTotalsGives}
+use Rattle.first.proofs.Callers.{pass_clear}
+use Rattle.sheet.specs.Totals.{said}
+use Rattle.sheet.specs.Lines.{ReadTotalsGives}
 use Rattle.sheet.specs.Source.{PassTotalsNeeds, Starting}
 use Rattle.sheet.specs.declared.Totals.{Totals}
 use Rattle.sheet.proofs.Tallies.{sheet_is}
 
 -- ---- an accepted pass
 module _ {labels : Labelled} {cells : List ℕ} {pass : Pass} {lines : ℕ} (n : PassTotalsNeeds labels cells pass lines) where
-  pub read_needs : ReadTotalsNeeds labels cells pass
-  read_needs = record { holds = n.holds; few = omega (arith, n.read, n.few) }
-
   module _ {t : Totals} (g : ReadTotalsGives labels cells pass t) where
-    pub whole_fits : weight (said t) + (lines - pass.lines + 1) < 2 ^ 64
-    whole_fits = omega (arith, g.low, n.read, n.few)
-
     pub pass_sheet : (m : ℕ) → m ≡ length labels.table → {v : Totals} → said v ≡ plus (said t) (totals 0 0 0 0 0 0 (lines - pass.lines) 0 0 m 1 0)
         → said v ≡ accepted_sheet labels.source (pass_in labels cells pass)
     pass_sheet m e h =

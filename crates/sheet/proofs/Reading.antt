@@ -2,17 +2,17 @@
 use Rattle.std.specs.Prelude.{Option, None, Some}
 use mathlib.Core.Path.{◌≡◌, refl, sym, ap, ap₂, ◌∙◌}
 use mathlib.Core.List.{List, [], ◌∷◌, flat_map}
-use Prim.Native.Nat.{ℕ, suc, ◌+◌, ◌*◌, ◌^◌, ◌≤◌, ◌<◌}
+use Prim.Native.Nat.{ℕ, ◌+◌, ◌*◌, ◌^◌, ◌≤◌, ◌<◌}
 use native.Mathlib.Numerals.{add-one}
 use native.Mathlib.Omega.{arith}
 use lib.ListN.{length, length-take, length-drop}
-use Rattle.rules.specs.Limits.{max_source, max_lines}
+use Rattle.rules.specs.Limits.{max_source}
 use Rattle.rules.specs.Text.{Text}
 use Rattle.rules.specs.Line.{instruction_of, size}
 use Rattle.rules.specs.Label.{Table}
 use Rattle.rules.specs.Encode.{mnemonics, encode}
 use Rattle.rules.specs.Assemble.{code_contents_by, code_places_by}
-use Rattle.requests.specs.Sheet.{Totals as Said, totals, no_totals, how_many, marked_in, read_classes, plus}
+use Rattle.requests.specs.Sheet.{Totals as Said, no_totals, how_many, marked_in, read_classes, plus}
 use Rattle.label.specs.Labelled.{Labelled}
 use Rattle.text.specs.declared.Span.{Span}
 use Rattle.text.specs.Spans.{span_text, SpanIn}
@@ -30,7 +30,7 @@ use Rattle.encode.specs.declared.Code.{Code}
 use Rattle.encode.specs.declared.Code.TheVariants.{Word, Value as WithValue, Label}
 use Rattle.encode.proofs.Callers.{encode_places}
 use Rattle.sheet.specs.Totals.{said, weight}
-use Rattle.sheet.specs.Lines.{counted_code, put_of, tally_of, AddLineNeeds, ReadTotalsNeeds, ReadTotalsGives}
+use Rattle.sheet.specs.Lines.{counted_code, put_of, tally_of, AddLineNeeds, ReadTotalsNeeds}
 use Rattle.sheet.specs.declared.Totals.{Totals}
 use Rattle.sheet.proofs.Tallies.{tally_more, OneLine, code_line, skipped_line, end_line, org_line, no_org_line, label_line_lem, value_line, space_line}
 
@@ -120,8 +120,3 @@ module _ {labels : Labelled} {cells : List ℕ} {pass : Pass} {t : Totals} {addr
         is = two ∙ sym (tally_more ls (puts_of source pass.base cells k) (put_at source pass.base cells k));
         low = omega (arith, ap weight r, sum_low (said t) (tally_of ls (put_of source address kept.task ∷ [])), w.low, tally_four ls source address kept.task);
       })
-
-pub counted_all : {labels : Labelled} {cells : List ℕ} {pass : Pass} {t : Totals} {address k : ℕ} → Counted labels cells pass t address k → pass.lines ≤ k → ReadTotalsGives labels cells pass t
-counted_all {pass = pass} {k = k} w l =
-    let z : k ≡ pass.lines = omega (arith, w.among) in
-    record { is = rw z at w.is; low = rw z at w.low }

@@ -1,5 +1,5 @@
 -- Totals and answers as the code has them, read as W-214's; and what a sum needs. Assumes nothing.
-use Rattle.std.specs.Prelude.{List, ℕ, ◌+◌, get_or, Result, Ok, Err}
+use Rattle.std.specs.Prelude.{List, ℕ, ◌+◌, ◌^◌, ◌<◌, get_or, Result, Ok, Err}
 use Rattle.rules.specs.Answer.{Answer, accepted, refused}
 use Rattle.requests.specs.Sheet.{totals}
 use Rattle.requests.specs.Sheet.{Totals as Said}
@@ -29,3 +29,17 @@ abbrev pub weight : Said → ℕ
 weight t =
     t.skipped_lines + t.org_lines + t.label_lines + t.data_lines + t.word_lines + t.wordless_lines + t.end_lines + t.words + t.marked
     + t.accepted_sources + t.refused_sources
+
+-- each sum has 64 bits
+pub record SumFits (t u : Totals) : Type 0 where
+  pub of_skipped : t.skipped + u.skipped < 2 ^ 64
+  pub of_org : t.org + u.org < 2 ^ 64
+  pub of_label : t.label + u.label < 2 ^ 64
+  pub of_data : t.defined + u.defined < 2 ^ 64
+  pub of_word : t.worded + u.worded < 2 ^ 64
+  pub of_wordless : t.wordless + u.wordless < 2 ^ 64
+  pub of_end : t.ended + u.ended < 2 ^ 64
+  pub of_words : t.words + u.words < 2 ^ 64
+  pub of_marked : t.marked + u.marked < 2 ^ 64
+  pub of_accepted : t.accepted + u.accepted < 2 ^ 64
+  pub of_refused : t.refused + u.refused < 2 ^ 64

@@ -1,4 +1,4 @@
-// The twelve totals as numbers in one array, in the order of the struct: so C lends them.
+//! The twelve totals as numbers in one array, in the order of the struct: so C lends them.
 ghost use Rattle.std.specs.Prelude.{◌≡◌};
 ghost use Rattle.requests.specs.Sheet.{numbers_in};
 ghost use Rattle.sheet.specs.Totals.{said, lent_totals};

@@ -53,6 +53,7 @@ pub struct Totals {
 }
 
 /// No lines and no sources.
+// By hand: a constant, which `Default` does not give.
 pub const NO_TOTALS: Totals = Totals {
     skipped: 0,
     org: 0,
@@ -77,6 +78,7 @@ fn pass_totals(labels: &Labels<'_>, cells: &[u32], pass: Pass, lines: usize) -> 
     ensures { said result ≡ accepted_sheet labels.now.source (pass_in labels.now cells.now pass) }
 {
     let read = read_totals(labels, cells, pass);
+    // By `as`: `u64` has no `From<usize>`.
     let whole = Totals {
         ended: (lines - pass.lines) as u64,
         labels: labels.len() as u64,
@@ -110,7 +112,8 @@ fn totals_in<const TABLE: usize, const CELLS: usize>(source: &[u8], lines: usize
     }
 }
 
-// The most lines whose labels, two a line, have room in a small table; and their cells.
+// The most lines whose labels, two a line, have room in a small table; and their cells. As in `assemble`, whose sizes are its own: a
+// sheet takes `first` alone.
 const SHORT: usize = label::SMALL_LABELS / 2;
 
 const SHORT_TABLE: usize = label::SMALL;
@@ -127,19 +130,17 @@ const CELLS: usize = 2 * rules::MAX_LINES;
 pub fn source_totals(source: &[u8]) -> Totals
     ensures { said result ≡ source_sheet source.now }
 {
-    let Ok(lines) = source::check_source(source) else {
-        return ONE_REFUSED;
-    };
-    if lines <= SHORT {
-        return totals_in::<SHORT_TABLE, SHORT_CELLS>(source, lines);
+    match source::check_source(source) {
+        Ok(lines) if lines <= SHORT => totals_in::<SHORT_TABLE, SHORT_CELLS>(source, lines),
+        Ok(lines) => totals_in::<TABLE, CELLS>(source, lines),
+        Err(_) => ONE_REFUSED,
     }
-    totals_in::<TABLE, CELLS>(source, lines)
 }
 
 // ---- The calls.
 
-/// The totals with one source more. Refuses by 20, if they are of 1,000,000 sources already, then by 21, if one of the twelve is above
-/// 2^33.
+/// The totals with one source more. Refuses by 20, its place 1,000,000, if they are of as many sources already, then by 21, its place 0,
+/// if one of the twelve is above 2^33.
 #[tactic(auto, using(crate::proofs::Adding::own_low), unfolding(requests::specs::Sheet::add_source, requests::specs::Sheet::sources, rules::specs::Answer::refuse_if))]
 pub fn add_source(totals: Totals, source: &[u8]) -> Result<Totals, Refusal>
     ensures { answered result ≡ add_source (said totals) source.now }
@@ -153,8 +154,8 @@ pub fn add_source(totals: Totals, source: &[u8]) -> Result<Totals, Refusal>
     Ok(sum(totals, source_totals(source)))
 }
 
-/// The totals with those of another sheet. Refuses by 20, if they are of more than 1,000,000 sources together, then by 21, if one of
-/// either's is above 2^33.
+/// The totals with those of another sheet. Refuses by 20, its place 1,000,000, if they are of more sources together, then by 21, its
+/// place 0, if one of either's is above 2^33.
 #[tactic(auto, unfolding(requests::specs::Sheet::add_sheet, requests::specs::Sheet::sources, rules::specs::Answer::refuse_if))]
 pub fn add_sheet(totals: Totals, sheet: Totals) -> Result<Totals, Refusal>
     ensures { answered result ≡ add_sheet (said totals) (said sheet) }

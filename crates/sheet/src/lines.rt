@@ -1,4 +1,4 @@
-// The totals of the lines that are read, from what the first pass kept of them: each has one class, and words.
+//! The totals of the lines that are read, from what the first pass kept of them: each has one class, and words.
 ghost use Rattle.std.specs.Prelude.{◌≡◌, ◌∷◌, [], ◌*◌, ◌≤◌};
 ghost use Rattle.rules.specs.Limits.{max_lines};
 ghost use Rattle.requests.specs.Sheet.{plus};
@@ -91,9 +91,11 @@ pub fn read_totals(labels: &Labels<'_>, cells: &[u32], pass: Pass) -> Totals
 {
     let mut totals = NO_TOTALS;
     let mut address = pass.base;
+    // By number: a line's cells are found by it.
     for k in 0..pass.lines {
         let kept = cells::kept_line(cells, k);
         totals = add_line(totals, labels, address, kept.task);
+        // By `as`: an accepted line's address fits, by the proof.
         address = cells::address_after(kept, pass.base, address) as u32;
     }
     totals

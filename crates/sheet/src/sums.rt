@@ -1,16 +1,16 @@
-// Totals added up, of the labels the larger; and looked at: whether one of the twelve is too high, and how many sources they are of.
-ghost use Rattle.std.specs.Prelude.{◌≡◌, suc, ◌+◌, ◌*◌, ◌^◌, ◌<◌, ◌≤◌, min, nat_lt};
+//! Totals added up, of the labels the larger; and looked at: whether one of the twelve is too high, and how many sources they are of.
+ghost use Rattle.std.specs.Prelude.{◌≡◌, suc, ◌+◌, ◌*◌, ◌≤◌, min, nat_lt};
 ghost use Rattle.std.specs.Bool.{OnFalse};
 ghost use Rattle.std.specs.List.{list_any};
 ghost use Rattle.requests.specs.Sheet.{max_sources, max_total, numbers_in, plus, sources, any_over};
-ghost use Rattle.sheet.specs.Totals.{said, weight};
+ghost use Rattle.sheet.specs.Totals.{said, weight, SumFits};
 
 use crate::{MAX_SOURCES, MAX_TOTAL, Totals};
 
 /// Both totals, added up.
 #[tactic(auto, unfolding(requests::specs::Sheet::plus))]
 pub fn sum(t: Totals, u: Totals) -> Totals
-    requires { weight (said t) + weight (said u) < 2 ^ 64 }
+    requires { SumFits t u }
     ensures { said result ≡ plus (said t) (said u) }
 {
     Totals {

@@ -1,30 +1,23 @@
 -- One file after another: what is added by the buffer is added by the text, and there is a script for each name. Assumes nothing.
-use Rattle.std.specs.Prelude.{Result, Ok, Err}
 use Prim.Native.Nat.{ℕ, ◌+◌, ◌-◌, ◌<◌, ◌≤◌, min}
 use mathlib.Core.Path.{◌≡◌, refl, sym, ap, ◌∙◌}
 use mathlib.Core.Bool.{Bool, true, false, false≢true, ◌&&◌, cond}
 use mathlib.Core.List.{List, [], ◌∷◌, ◌++◌, map, append-nil, append_assoc}
 use native.Mathlib.Omega.{arith}
 use lib.Dec.{ltb}
-use lib.ListN.{length, take, drop, set, replicate, length-append, length-take, length-drop, length-replicate}
+use lib.ListN.{length, take, drop, replicate, length-append, length-drop, length-replicate}
 use lib.Seq.{take_all, take-add}
-use Rattle.rules.specs.Text.{Text, bytes}
+use Rattle.rules.specs.Text.{Text}
 use Rattle.requests.specs.Sheet.{add_source}
 use Rattle.requests.specs.Sheet.{Totals as Said}
-use Rattle.text.specs.Spans.{over_from}
-use Rattle.station.specs.Printed.{Printed}
 use Rattle.station.specs.Reads.{Reads, at_start, failed_at}
 use Rattle.station.specs.declared.input.Input.{Input}
 use Rattle.station.proofs.Kept.{take_lesser}
 use Rattle.sheettext.specs.Back.{sheet_in}
-use Rattle.sheettext.specs.Steps.{Outcome, summed, stops, no_sheet, unread, outcome, outcome_of, unless_unread, script_step, sheet_answer, sheet_step}
+use Rattle.sheettext.specs.Steps.{Outcome, summed, stops, no_sheet, unread, outcome_of, unless_unread, script_step, sheet_answer, sheet_step}
 use Rattle.sheettext.specs.Names.{names_in, name_kept, line_length, taken_of, name_after, held_on}
 use Rattle.sheettext.specs.Files.{goes_on, file_step, with_file, Asked, FileAdded, with_scripts, names_of_all, Adding, ScriptsAdded, NamesAdded}
-use Rattle.sheet.specs.Totals.{said}
-use Rattle.sheet.specs.declared.Totals.{Totals}
 use Rattle.sheettext.specs.declared.names.Taken.{Taken}
-use Rattle.sheettext.specs.declared.Stop.{Stop}
-use Rattle.sheettext.specs.declared.Stop.TheVariants.{Refused, Wrong, Unread}
 use Rattle.sheettext.proofs.Lines.{names_read_on}
 
 -- ---- what is owed for a file that was read
@@ -51,16 +44,6 @@ module _ (u : Said) (i : Input) (buffer : List ℕ) {sheet : Bool} {p : Outcome}
   pub owed_script : sheet ≡ false → (p ≡ script_step u i buffer) × ((t : Text) → Reads t buffer i → script_step u i buffer ≡ unless_unread i (outcome_of (add_source u t))) → Owed sheet i buffer (summed u) p
   unfolding file_step with_file script_step
   owed_script e h = (rw e h.0, λ t r. rw e (h.0 ∙ unless i _ (outcome_of (add_source u t)) (λ f. h.1 t (r f))))
-
-module _ (sheet : Bool) (i : Input) (buffer : List ℕ) {step : Result Totals Stop} where
-  pub owed_sum : (t : Totals) → step ≡ Ok t → {p : Outcome} → Owed sheet i buffer (summed (said t)) p → Owed sheet i buffer (outcome step) p
-  owed_sum t e h = rw e h
-
-  pub owed_stop : (stop : Stop) → step ≡ Err stop → Owed sheet i buffer (outcome step) (outcome (Err stop))
-  unfolding file_step with_file
-  owed_stop (Refused x) e = (rw e, λ t r. rw e)
-  owed_stop (Wrong l) e = (rw e, λ t r. rw e)
-  owed_stop Unread e = (rw e, λ t r. rw e)
 
 -- ---- what is said of it
 pub name_front : (name : Text) (n : ℕ) → n ≡ min (length name) 4097 → take n name ≡ name_kept name

@@ -4,16 +4,32 @@ use mathlib.Core.Path.{◌≡◌, refl, sym, ap, ◌∙◌}
 use mathlib.Core.Bool.{Bool, true, false, cond}
 use mathlib.Core.List.{List, [], ◌∷◌, ◌++◌, append_assoc, map}
 use native.Mathlib.Omega.{arith}
-use borrow.Author.Tests.{lt-ltb, ltb-true, ltb-false, leb-true, leb-false}
+use borrow.Author.Tests.{eq-eqb, eqb-true, ne_eqb, eqb-false, lt-ltb, ltb-true, ltb-false, leb-true, leb-false}
 use lib.Dec.{eqb, leb, ltb}
 use lib.ListN.{length, take, drop, length-append, length-take, drop_of_length-le}
 use lib.Seq.{take-nil, take_all, length-take-le}
 use Rattle.rules.specs.Text.{Text, on_first, cut_where, cut_at, other_texts}
+use Rattle.std.specs.Prelude.{Option, None, Some, unwrap_or}
+use Rattle.text.specs.Find.{further, index_of}
 use Rattle.text.specs.Pieces.{until}
 use Rattle.text.proofs.Until.{until_here, until_later, until_le, cut_here, cut_later, cut_first}
 use Rattle.station.specs.Reads.{kept}
 use Rattle.station.proofs.Kept.{take_lesser, kept_full, length_kept, front_grows}
 use Rattle.sheettext.specs.Names.{names_of, names_in, name_kept, line_length, taken_of, name_after, NamesRead, NamesReadOn}
+
+-- ---- the first line's end
+after_one : (o : Option ℕ) (n : ℕ) → unwrap_or (further 1 o) (suc n) ≡ suc (unwrap_or o n)
+after_one None n = refl
+after_one (Some k) n = omega arith
+
+pub line_end_is : (t : Text) → unwrap_or (index_of 10 t) (length t) ≡ until (eqb 10) t
+unfolding index_of until
+line_end_is [] = refl
+line_end_is (b ∷ s) = go (eqb b 10) refl (line_end_is s)
+  where
+    go : (y : Bool) → eqb b 10 ≡ y → unwrap_or (index_of 10 s) (length s) ≡ until (eqb 10) s → unwrap_or (index_of 10 (b ∷ s)) (length (b ∷ s)) ≡ until (eqb 10) (b ∷ s)
+    go true e ih = rw (until_here (eqb 10) b s (eq-eqb 10 b (sym (eqb-true b 10 e))), index_of, e)
+    go false e ih = rw (until_later (eqb 10) b s (ne_eqb 10 b (λ h. eqb-false b 10 e (sym h))), index_of, e) (after_one (index_of 10 s) (length s) ∙ ap suc ih)
 
 -- ---- the cut of a text and more
 -- the last of some texts goes on with the first of others

@@ -1,11 +1,11 @@
 -- A sheet read back: the loops, and what the answer says; every sheet that is written is read as its totals, and nothing else is. Assumes nothing.
-use Prim.Native.Nat.{ℕ, suc, ◌+◌, ◌-◌, ◌*◌, ◌^◌, ◌<◌, ◌≤◌, min}
+use Prim.Native.Nat.{ℕ, suc, ◌+◌, ◌<◌, ◌≤◌, min}
 use mathlib.Core.Path.{◌≡◌, refl, sym, ap, ◌∙◌}
 use mathlib.Core.Bool.{Bool, true, false, ◌&&◌, cond}
 use mathlib.Core.List.{List, [], ◌∷◌}
 use native.Mathlib.Numerals.{add-one}
 use native.Mathlib.Omega.{arith}
-use borrow.Author.Tests.{eq-eqb, eqb-true, ne_eqb, le-leb, lt-leb, lt-ltb, le-ltb}
+use borrow.Author.Tests.{eq-eqb, eqb-true, ne_eqb}
 use lib.Dec.{eqb}
 use lib.ListN.{length, take, drop, get_or, set, drop_of_length-le}
 use lib.Seq.{drop-cons, length-take-le}
@@ -37,9 +37,6 @@ pub record Rowed (t : Text) (first : List ℕ) (row i : ℕ) (ns : List ℕ) : T
   pub low : row ≤ 12
   pub same : read_from 0 first t ≡ read_from row ns (drop i t)
 
-pub rowed_start : (t : Text) (first : List ℕ) → Rowed t first 0 0 first
-rowed_start t first = record { inside = omega arith; low = omega arith; same = refl }
-
 module _ {t : Text} {first : List ℕ} {row i : ℕ} {ns : List ℕ} (r : Rowed t first row i ns) where
   pub rowed_more : i < length t → {n m : ℕ} → n ≡ with_byte (get_or ns row 0) (get_or t i 0) → m ≡ next_row row (get_or t i 0) → Rowed t first m (i + 1) (set ns row n)
   unfolding read_from
@@ -52,16 +49,6 @@ module _ {t : Text} {first : List ℕ} {row i : ℕ} {ns : List ℕ} (r : Rowed 
   rowed_end h = sym (rw (drop_of_length-le t h) at r.same)
 
 -- ---- the front that two texts have in common
-pub front_left : (s t : Text) → same_front s t ≤ length s
-unfolding same_front
-front_left [] t = omega arith
-front_left (a ∷ s) [] = omega arith
-front_left (a ∷ s) (b ∷ t) = go (eqb a b) (front_left s t)
-  where
-    go : (x : Bool) → same_front s t ≤ length s → cond x (1 + same_front s t) 0 ≤ suc (length s)
-    go true h = omega arith
-    go false h = omega arith
-
 pub front_right : (s t : Text) → same_front s t ≤ length t
 unfolding same_front
 front_right [] t = omega arith
@@ -76,9 +63,6 @@ pub record Fronted (s t : Text) (i : ℕ) : Type 0 where
   pub left : i ≤ length s
   pub right : i ≤ length t
   pub same : same_front s t ≡ i + same_front (drop i s) (drop i t)
-
-pub fronted_start : (s t : Text) → Fronted s t 0
-fronted_start s t = record { left = omega arith; right = omega arith; same = omega arith }
 
 module _ {s t : Text} {i : ℕ} (r : Fronted s t i) where
   pub fronted_more : i < length s → i < length t → get_or s i 0 ≡ get_or t i 0 → Fronted s t (i + 1)
@@ -138,6 +122,3 @@ module _ (s t : Text) {common : ℕ} (f : common ≡ same_front s t) where
 
   pub common_long : common ≡ length (take common t)
   common_long = sym (length-take-le common t common_inside)
-
-  pub common_short : length t ≤ 32768 → length (take common t) ≤ 32768
-  common_short h = rw (length-take-le common t common_inside) (omega (arith, common_inside))

@@ -10,22 +10,17 @@ use lib.Dec.{ltb}
 use lib.ListN.{length, take, length-replicate}
 use lib.Seq.{take_all}
 use Rattle.rules.specs.Limits.{max_source}
-use Rattle.rules.specs.Text.{Text, bytes}
+use Rattle.rules.specs.Text.{Text}
 use Rattle.rules.specs.Answer.{Answer, refused}
 use Rattle.rules.specs.Assemble.{pass_at_by}
 use Rattle.requests.specs.Sheet.{Totals as Said, answer_sheet, source_sheet, add_source, add_sheet}
-use Rattle.listing.specs.Listing.{refused_text}
-use Rattle.station.specs.Printed.{Printed}
 use Rattle.station.specs.Reads.{Reads}
 use Rattle.station.specs.declared.input.Input.{Input}
-use Rattle.station.proofs.Printed.{printed_none}
 use Rattle.station.proofs.ScriptInput.{checks_long}
-use Rattle.sheet.specs.Totals.{said, answered}
 use Rattle.sheet.specs.declared.Totals.{Totals}
 use Rattle.sheettext.specs.declared.Stop.{Stop}
-use Rattle.sheettext.specs.Rows.{row, sheet_text}
-use Rattle.sheettext.specs.Back.{Read, is_sheet, wrong, sheet_in}
-use Rattle.sheettext.specs.Steps.{Outcome, no_sheet, unread, outcome, outcome_of, unless_unread, over_long, script_step, sheet_answer, sheet_step, step_text}
+use Rattle.sheettext.specs.Back.{Read, is_sheet, sheet_in}
+use Rattle.sheettext.specs.Steps.{Outcome, unread, outcome_of, unless_unread, over_long, script_step, sheet_answer, sheet_step}
 
 -- ---- a script over the limit
 long_sheet : (t : Text) → max_source < length t → source_sheet t ≡ answer_sheet t (refused 1 (length t))
@@ -88,21 +83,17 @@ module _ (u : Said) (i : Input) (buffer : List ℕ) where
   unfolding sheet_step unless_unread
   sheet_unread e = (rw e, λ t. sheet_whole t (λ g. absurd (false≢true (sym g ∙ e))))
 
-  pub sheet_long : length buffer ≡ 32768 → i.failed ≡ false → 32768 < i.total → {o : Outcome} → o ≡ sheet_answer u (sheet_in (take 32768 buffer)) → OwedSheet o
+  pub sheet_long : length buffer ≡ 32768 → i.failed ≡ false → 32768 < i.total → {o : Outcome} → o ≡ sheet_answer u (sheet_in buffer) → OwedSheet o
   unfolding sheet_step unless_unread
   sheet_long l e h p =
-      let all : take 32768 buffer ≡ take i.total buffer = take_all 32768 buffer (omega arith) ∙ sym (take_all i.total buffer (omega arith)) in
-      (rw (e, ← all) p, λ t. sheet_whole t (λ g. l))
+      let all : take i.total buffer ≡ buffer = take_all i.total buffer (omega arith) in
+      (rw (e, all) p, λ t. sheet_whole t (λ g. l))
 
   pub sheet_read : length buffer ≡ 32768 → i.failed ≡ false → {o : Outcome} → o ≡ sheet_answer u (sheet_in (take i.total buffer)) → OwedSheet o
   unfolding sheet_step unless_unread
   sheet_read l e p = (rw e p, λ t. sheet_whole t (λ g. l))
 
 -- ---- a sheet's answer
-pub sheet_wrong : (u : Said) (n : ℕ) {r : Read} → wrong n ≡ r → no_sheet n ≡ sheet_answer u r
-unfolding sheet_answer
-sheet_wrong u n e = rw (← e)
-
 pub sheet_added : (u v : Said) {r : Read} → is_sheet v ≡ r → {o : Outcome} {a : Answer Said} → a ≡ add_sheet u v → o ≡ outcome_of a → o ≡ sheet_answer u r
 unfolding sheet_answer
 sheet_added u v e p q = rw (← e) (q ∙ ap outcome_of p)

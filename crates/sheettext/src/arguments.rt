@@ -1,4 +1,4 @@
-// What the arguments of `plantsheet` say: `-t` and a sheet's name, as often as there are any.
+//! What the arguments of `plantsheet` say: `-t` and a sheet's name, as often as there are any.
 ghost use Rattle.std.specs.Prelude.{◌≡◌};
 ghost use Rattle.rules.specs.Text.{bytes, same};
 ghost use Rattle.sheettext.specs.Arguments.{no_argument, with_argument, is_whole};
@@ -6,6 +6,7 @@ ghost use Rattle.sheettext.specs.Arguments.{no_argument, with_argument, is_whole
 use text::starts_with;
 
 /// The arguments so far.
+// Two flags, since neither follows from the other: after a wrong argument a name may be due or not.
 #[derive(Clone, Copy, Debug, PartialEq, Eq, Hash)]
 pub struct Given {
     /// The last one was `-t`: a sheet's name is due.
@@ -15,6 +16,7 @@ pub struct Given {
 }
 
 /// Before the first.
+// By hand: both flags are shown, as the specs' `no_argument` shows them.
 pub fn no_argument() -> Given
     ensures { result ≡ no_argument }
 {
@@ -24,7 +26,7 @@ pub fn no_argument() -> Given
     }
 }
 
-// Whether an argument is `-t`.
+// Whether an argument is `-t`. No `==`, as in `station`.
 fn is_sheet_option(t: &[u8]) -> bool
     ensures { result ≡ same t.now (bytes "-t") }
 {

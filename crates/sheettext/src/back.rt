@@ -1,4 +1,4 @@
-// A sheet read back from its text: the numbers of its rows are read, and the text is a sheet if these are written as that text.
+//! A sheet read back from its text: the numbers of its rows are read, and the text is a sheet if these are written as that text.
 ghost use Rattle.std.specs.Prelude.{◌≡◌, ◌≤◌, length};
 ghost use Rattle.sheet.specs.Totals.{said};
 ghost use Rattle.sheettext.specs.Back.{with_byte, next_row, read_from, totals_in, same_front, sheet_in, read_of};
@@ -29,10 +29,7 @@ fn with_byte(value: u64, byte: u8) -> u64
 fn next_row(row: usize, byte: u8) -> usize
     ensures { result ≡ next_row row byte }
 {
-    if byte != b'\n' {
-        return row;
-    }
-    row.min(11) + 1
+    if byte == b'\n' { row.min(11) + 1 } else { row }
 }
 
 // Reads the numbers of the rows, each from 0.
@@ -40,9 +37,9 @@ fn read_rows(t: &[u8], numbers: &mut [u64; ROWS])
     ensures { numbers.new ≡ read_from 0 numbers.old t.now }
 {
     let mut row = 0;
-    for i in 0..t.len() {
-        numbers[row] = with_byte(numbers[row], t[i]);
-        row = next_row(row, t[i]);
+    for &byte in t {
+        numbers[row] = with_byte(numbers[row], byte);
+        row = next_row(row, byte);
     }
 }
 
@@ -52,6 +49,7 @@ fn read_totals(t: &[u8]) -> Totals
 {
     let mut numbers = [0u64; ROWS];
     read_rows(t, &mut numbers);
+    // Twelve of thirteen: `From<[u64; 12]>` would want a copy of the twelve first.
     Totals {
         skipped: numbers[0],
         org: numbers[1],
@@ -72,6 +70,7 @@ fn read_totals(t: &[u8]) -> Totals
 fn same_front(s: &[u8], t: &[u8]) -> usize
     ensures { result ≡ same_front s.now t.now }
 {
+    // By index: of `zip`, `take_while` and `count` in a chain the proof did not close.
     for i in 0..s.len() {
         if t.len() <= i {
             return i;

@@ -1,4 +1,4 @@
-// One file after another: when one is read, what it comes to, and what is said if it cannot be read.
+//! One file after another: when one is read, what it comes to, and what is said if it cannot be read.
 ghost use Rattle.std.specs.Prelude.{◌≡◌, ◌&&◌, false};
 ghost use Rattle.rules.specs.Text.{Text};
 ghost use Rattle.station.specs.Printed.{Printed};
@@ -18,6 +18,7 @@ use station::input::Input;
 pub const UNREAD: usize = NAME + 25;
 
 /// Whether a file that may be due is read: not after a step from which there is no going on.
+// Each caller tells by a test of its own whether a file is `due`; the specs (`FileAdded`) take the same flag.
 #[tactic(auto, unfolding(crate::specs::Files::goes_on))]
 pub fn is_read(step: Step, due: bool) -> bool
     ensures { result ≡ (goes_on (outcome step) && due) }
@@ -26,6 +27,7 @@ pub fn is_read(step: Step, due: bool) -> bool
 }
 
 // The totals with those of a file more, a sheet or a script.
+// Two kinds of file by a flag, here and below; the specs (`file_step`, `with_file`) take the same one.
 fn add_read(totals: Totals, sheet: bool, script: &[u8; SCRIPT], input: Input) -> Step
     ensures result_value { outcome result ≡ file_step sheet input script.now (summed (said totals)) }
     ensures result_value_2 { (t : Text) → (input.failed ≡ false → Reads t script.now input) → outcome result ≡ with_file sheet input t (summed (said totals)) }
@@ -42,10 +44,7 @@ pub fn with_file(step: Step, sheet: bool, script: &[u8; SCRIPT], input: Input) -
     ensures result_value { outcome result ≡ file_step sheet input script.now (outcome step) }
     ensures result_value_2 { (t : Text) → (input.failed ≡ false → Reads t script.now input) → outcome result ≡ with_file sheet input t (outcome step) }
 {
-    match step {
-        Ok(totals) => add_read(totals, sheet, script, input),
-        Err(stop) => Err(stop),
-    }
+    add_read(step?, sheet, script, input)
 }
 
 /// Puts what is said of a file at the front, and answers its length: nothing if it was read to its end.

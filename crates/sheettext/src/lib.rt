@@ -1,6 +1,7 @@
 #![tactic(auto)]
 
 //! What `plantsheet` prints, and what a step of it comes to: a script or a sheet that was read is added to the totals (W-214).
+//! There is no heap: a text is put at the front of a slice that is lent.
 ghost use Rattle.std.specs.Prelude.{◌≡◌, ◌≤◌, length as len, take};
 ghost use Rattle.rules.specs.Text.{Text};
 ghost use Rattle.requests.specs.Sheet.{no_totals, add_source};
@@ -30,6 +31,7 @@ pub mod files; // files.rt: one file after another
 pub const SHEET: usize = 512;
 
 /// Why there is no going on.
+// No `Result` or `Option` in it: the three reasons are alike, and `Step` is the `Result` over them.
 #[derive(Clone, Copy, Debug, PartialEq, Eq, Hash)]
 pub enum Stop {
     /// By 20 or 21.
@@ -55,20 +57,16 @@ pub fn no_sources() -> Step
 fn step_of(added: Result<Totals, Refusal>) -> Step
     ensures { outcome result ≡ outcome_of (answered added) }
 {
-    match added {
-        Ok(totals) => Ok(totals),
-        Err(refusal) => Err(Stop::Refused(refusal)),
-    }
+    added.map_err(Stop::Refused)
 }
 
 // ---- A script.
 
-// The totals with a script more, the first `length` bytes.
-fn add_bytes(totals: Totals, bytes: &[u8], length: usize) -> Step
-    requires { length ≤ len bytes.now }
-    ensures { outcome result ≡ outcome_of (add_source (said totals) (take length bytes.now)) }
+// The totals with a script more.
+fn add_bytes(totals: Totals, bytes: &[u8]) -> Step
+    ensures { outcome result ≡ outcome_of (add_source (said totals) bytes.now) }
 {
-    step_of(add_source(totals, &bytes[..length]))
+    step_of(add_source(totals, bytes))
 }
 
 // The totals with a script more that is over the limit: whatever its bytes, it is refused.
@@ -91,20 +89,18 @@ pub fn add_script(totals: Totals, script: &[u8; SCRIPT], input: Input) -> Step
     if MAX_SOURCE < total {
         return add_long(totals);
     }
-    add_bytes(totals, script, total)
+    add_bytes(totals, &script[..total])
 }
 
 // ---- A sheet.
 
-// The totals with those of the sheet in a text, the first `length` bytes.
-fn add_text(totals: Totals, bytes: &[u8], length: usize) -> Step
-    requires { (length ≤ len bytes.now) × (length ≤ 32768) }
-    ensures { outcome result ≡ sheet_answer (said totals) (sheet_in (take length bytes.now)) }
+// The totals with those of the sheet in a text.
+fn add_text(totals: Totals, bytes: &[u8]) -> Step
+    requires { len bytes.now ≤ 32768 }
+    ensures { outcome result ≡ sheet_answer (said totals) (sheet_in bytes.now) }
 {
-    match read_sheet(&bytes[..length]) {
-        Ok(sheet) => step_of(add_sheet(totals, sheet)),
-        Err(line) => Err(Stop::Wrong(line)),
-    }
+    let sheet = read_sheet(bytes).map_err(Stop::Wrong)?;
+    step_of(add_sheet(totals, sheet))
 }
 
 /// The totals with those of a sheet's text that was read chunk by chunk; it is judged by its first 32,768 bytes, for no sheet has more.
@@ -117,9 +113,9 @@ pub fn add_sheet_text(totals: Totals, script: &[u8; SCRIPT], input: Input) -> St
     }
     let total = input.total;
     if SCRIPT < total {
-        return add_text(totals, script, SCRIPT);
+        return add_text(totals, script);
     }
-    add_text(totals, script, total)
+    add_text(totals, &script[..total])
 }
 
 // ---- What is printed.
@@ -144,6 +140,7 @@ pub fn step_text(step: Step, out: &mut [u8; SHEET]) -> usize
         Err(Stop::Refused(refusal)) => write_refusal(refusal, out),
         Err(Stop::Wrong(line)) => {
             let mut text = Writer::new(out);
+            // By `as`: `u64` has no `From<usize>`.
             push_part(b"not a sheet: line ", line.number as u64, b'\n', &mut text);
             text.len
         }

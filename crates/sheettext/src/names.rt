@@ -1,14 +1,16 @@
-// The names of files on standard input, one a line, taken out of chunks of any size.
+//! The names of files on standard input, one a line, taken out of chunks of any size.
 ghost use Rattle.std.specs.Prelude.{◌≡◌, ◌+◌, min, eqb};
 ghost use Rattle.text.specs.Pieces.{until};
 ghost use Rattle.sheettext.specs.Names.{taken_of, name_after, held_on};
 
 use station::input::keep;
+use text::find_byte;
 
 /// As much of a name as is kept: more than any file's has, so that what is kept of a longer one is no file's name either.
 pub const NAME: usize = 4097;
 
 /// What is taken from the front of a chunk.
+// The flag stays beside the counts: a line that ends here uses and keeps bytes as well, so all three are told at once.
 #[derive(Clone, Copy, Debug, PartialEq, Eq, Hash)]
 pub struct Taken {
     /// How many bytes of the chunk.
@@ -20,22 +22,18 @@ pub struct Taken {
 }
 
 // How many bytes stand before the first byte 10.
+#[tactic(auto, using(crate::proofs::Lines::line_end_is))]
 fn line_end(t: &[u8]) -> usize
     ensures { result ≡ until (eqb 10) t.now }
 {
-    for i in 0..t.len() {
-        if t[i] == b'\n' {
-            return i;
-        }
-    }
-    t.len()
+    find_byte(t, b'\n').unwrap_or(t.len())
 }
 
 // How many bytes a line uses that ends before `end`: byte 10 too, where there is one.
 fn used_by(end: usize, length: usize) -> usize
     ensures { result ≡ min length (end + 1) }
 {
-    if end < length { end + 1 } else { length }
+    length.min(end.saturating_add(1))
 }
 
 // How many bytes of a name are kept after `more` bytes.

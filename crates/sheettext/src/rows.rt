@@ -1,4 +1,4 @@
-// A sheet's text, row by row: a name, a space, the total in decimal; then the mean as words and accepted scripts.
+//! A sheet's text, row by row: a name, a space, the total in decimal; then the mean as words and accepted scripts.
 ghost use Rattle.std.specs.Prelude.{◌+◌, ◌≤◌, length};
 ghost use Rattle.requests.specs.Sheet.{mean_of};
 ghost use Rattle.listing.specs.Writer.{Adds};

@@ -1,10 +1,8 @@
 -- `agrees` meets its contract: a call that is not whole, an answer that is another, and then the places. Assumes nothing.
-use Rattle.std.proofs.Common.{sym, ◌∙◌, arith}
-use mathlib.Core.Bool.{false≢true}
+use Rattle.std.proofs.Common.{arith}
 use borrow.Author.Tests.{not-true, not-false}
 use Rattle.rules.specs.Assemble.{Slices, slices}
 use Rattle.answer.specs.Refusal.{answer_of}
-use Rattle.calls.proofs.Compared.{refuses}
 use Rattle.recorded.specs.Recorded.{WholeRecord}
 use Rattle.recorded.proofs.Bytes.{one_byte}
 use Rattle.recorded.proofs.Parts.{whole_within}
@@ -24,47 +22,17 @@ abbrev recorded : After-read_list → Slices
 recorded c = slices c.read_list.new.a c.read_list.new.w c.read_list.new.m
 
 call : (c : After-assemble_lent-answer) → Made c.args.source.now c.args.terms.now (answer_of c.assemble_lent-answer.result) (after c)
-call c = made _ _ _ _ _ _ _ _ c.number_at-base.ensures c.number_at-la.ensures c.number_at-lw.ensures c.number_at-lm.ensures c.assemble_lent-answer.ensures
-
-pub returns-then-not-is_whole : goal.returns-then-not-is_whole
-returns-then-not-is_whole c = refuses (λ g. false≢true (sym (not-true _ (ap not c.if-not-is_whole.true)) ∙ c.is_whole.ensures.1 g.whole))
-
-pub number_at-la-requires : goal.number_at-la-requires
-number_at-la-requires c = omega (arith, (whole c).terms)
-
-pub number_at-lw-requires : goal.number_at-lw-requires
-number_at-lw-requires c = omega (arith, (whole (goal.at.number_at-lw-requires c).Else-not-is_whole).terms)
-
-pub number_at-lm-requires : goal.number_at-lm-requires
-number_at-lm-requires c = omega (arith, (whole (goal.at.number_at-lm-requires c).Else-not-is_whole).terms)
-
-pub number_at-base-requires : goal.number_at-base-requires
-number_at-base-requires c = omega (arith, (whole (goal.at.number_at-base-requires c).Else-not-is_whole).terms)
+call c = made _ _ _ _ _ _ _ _ c.number_at-base.ensures c.size_at-la.ensures.value c.size_at-lw.ensures.value c.size_at-lm.ensures.value c.assemble_lent-answer.ensures
 
 pub assemble_lent-answer-requires : goal.assemble_lent-answer-requires
 assemble_lent-answer-requires c =
     let w = whole_within (whole (goal.at.assemble_lent-answer-requires c).Else-not-is_whole) in
-    (omega (arith, w.addresses, c.number_at-la.ensures), omega (arith, w.words, c.number_at-lw.ensures), omega (arith, w.marks, c.number_at-lm.ensures))
-
-pub bounds-terms-20 : goal.bounds-terms-20
-bounds-terms-20 c = omega (arith, (whole (goal.at.bounds-terms-20 c).Else-not-is_whole).terms)
-
-pub number_at-requires : goal.number_at-requires
-number_at-requires c = omega (arith, (whole (goal.at.number_at-requires c).Else-not-is_whole).terms)
+    (omega (arith, w.addresses, c.size_at-la.ensures.value), omega (arith, w.words, c.size_at-lw.ensures.value), omega (arith, w.marks, c.size_at-lm.ensures.value))
 
 pub returns-then-not-same_answer : goal.returns-then-not-same_answer
 returns-then-not-same_answer c =
     let w = whole (goal.at.returns-then-not-same_answer c).Else-not-is_whole in
     differs _ _ _ _ _ (call (goal.at.returns-then-not-same_answer c).After-assemble_lent-answer) _ _ (one_byte _ 20 (omega (arith, w.terms))) c.number_at.ensures _ c.same_answer.ensures (not-true _ (ap not c.if-not-same_answer.true))
-
-pub count-requires : goal.count-requires
-count-requires c = (whole (goal.at.count-requires c).Else-not-is_whole).terms
-
-pub read_list-requires : goal.read_list-requires
-read_list-requires c =
-    let w = whole (goal.at.read_list-requires c).Else-not-is_whole in
-    let n = c.count.ensures in
-    (omega (arith, w.rows, n), omega (arith, w.count, n), omega (arith, w.count, n), omega (arith, w.count, n))
 
 pub returns : goal.returns
 returns c =

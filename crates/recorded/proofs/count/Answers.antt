@@ -4,10 +4,10 @@ use Rattle.recorded.specs.Recorded.{terms_in, count_of}
 use Rattle.recorded.proofs.Bytes.{one_byte}
 use Rattle.recorded.proofs.count.Goals as goal
 
-pub returns-then-terms-ne0 : goal.returns-then-terms-ne0
+pub returns-else-terms-eq0 : goal.returns-else-terms-eq0
 unfolding count_of terms_in
-returns-then-terms-ne0 c = rw (← (one_byte c.args.terms.now 20 (omega arith)), ne_eqb _ _ c.if-terms-ne0.true)
+returns-else-terms-eq0 c = rw (← (one_byte c.args.terms.now 20 (omega arith)), ne_eqb _ _ c.if-terms-eq0.false)
 
-pub returns : goal.returns
+pub returns-then-terms-eq0 : goal.returns-then-terms-eq0
 unfolding count_of terms_in
-returns c = rw (← (one_byte c.args.terms.now 20 (omega arith)), eq-eqb _ _ c.if-terms-ne0.false) c.number_at.ensures
+returns-then-terms-eq0 c = rw (← (one_byte c.args.terms.now 20 (omega arith)), eq-eqb _ _ c.if-terms-eq0.true) c.size_at.ensures.value

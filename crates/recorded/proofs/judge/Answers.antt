@@ -15,10 +15,10 @@ pub returns-then-bytes-lt-FRONT : goal.returns-then-bytes-lt-FRONT
 returns-then-bytes-lt-FRONT c = judge_no_terms c.args.bytes.now c.if-bytes-lt-CALL_FRONT.false (omega arith) c.if-bytes-lt-FRONT.true
 
 pub returns-then-bytes-end : goal.returns-then-bytes-end
-returns-then-bytes-end c = judge_terms c.args.bytes.now c.if-bytes-lt-CALL_FRONT.false (omega arith) c.if-bytes-lt-FRONT.false _ c.number_at.ensures (assembly_cut _ _ c.if-bytes-end.true)
+returns-then-bytes-end c = judge_terms c.args.bytes.now c.if-bytes-lt-CALL_FRONT.false (omega arith) c.if-bytes-lt-FRONT.false _ c.size_at-end.ensures.value (assembly_cut _ _ c.if-bytes-end.true)
 
 pub returns-then-not-agrees : goal.returns-then-not-agrees
-returns-then-not-agrees c = judge_terms c.args.bytes.now c.if-bytes-lt-CALL_FRONT.false (omega arith) c.if-bytes-lt-FRONT.false _ c.number_at.ensures (assembly_differs _ _ c.if-bytes-end.false _ c.agrees.ensures (not-true _ (ap not c.if-not-agrees.true)))
+returns-then-not-agrees c = judge_terms c.args.bytes.now c.if-bytes-lt-CALL_FRONT.false (omega arith) c.if-bytes-lt-FRONT.false _ c.size_at-end.ensures.value (assembly_differs _ _ c.if-bytes-end.false _ c.agrees.ensures (not-true _ (ap not c.if-not-agrees.true)))
 
 pub returns : goal.returns
-returns c = judge_terms c.args.bytes.now c.if-bytes-lt-CALL_FRONT.false (omega arith) c.if-bytes-lt-FRONT.false _ c.number_at.ensures (assembly_agrees _ _ c.if-bytes-end.false _ c.agrees.ensures (not-false _ (ap not c.if-not-agrees.false)) _ c.count.ensures)
+returns c = judge_terms c.args.bytes.now c.if-bytes-lt-CALL_FRONT.false (omega arith) c.if-bytes-lt-FRONT.false _ c.size_at-end.ensures.value (assembly_agrees _ _ c.if-bytes-end.false _ c.agrees.ensures (not-false _ (ap not c.if-not-agrees.false)) _ c.count.ensures)

@@ -2,11 +2,8 @@
 use Rattle.std.proofs.Common.{◌+◌, ◌*◌, ◌∙◌, arith}
 use Rattle.rules.specs.Assemble.{holding}
 use Rattle.recorded.proofs.Bytes.{one_byte, two_bytes}
-use Rattle.recorded.proofs.Rows.{part_none, part_more, part_all, row_address, row_word, row_mark}
+use Rattle.recorded.proofs.Rows.{part_more, part_all, row_address, row_word, row_mark}
 use Rattle.recorded.proofs.read_list.Goals as goal
-
-pub loop-i-init : goal.loop-i-init
-loop-i-init c = (part_none _ _ _ _, part_none _ _ _ _, part_none _ _ _ _)
 
 pub loop-i-preserved : goal.loop-i-preserved
 loop-i-preserved c =

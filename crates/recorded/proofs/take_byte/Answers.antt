@@ -1,22 +1,13 @@
 -- `take_byte` meets its contract: the record is not yet whole, too long, or judged. Assumes nothing.
-use Rattle.std.proofs.Common.{refl, sym, arith, length-set, length-take-le}
+use Rattle.std.proofs.Common.{refl}
 use Rattle.recorded.proofs.Fed.{byte_part, byte_long, byte_last}
 use Rattle.recorded.proofs.take_byte.Goals as goal
-
-pub record_size-requires : goal.record_size-requires
-record_size-requires c = simp length-set (omega arith)
 
 pub returns-then-n-record_size : goal.returns-then-n-record_size
 returns-then-n-record_size c = byte_part _ _ _ _ c.min-at.ensures _ refl _ c.record_size.ensures c.if-n-record_size.true
 
 pub returns-then-n-gt-RECORD : goal.returns-then-n-gt-RECORD
 returns-then-n-gt-RECORD c = byte_long _ _ _ _ c.min-at.ensures _ refl _ c.record_size.ensures c.if-n-record_size.false c.if-n-gt-RECORD.true _ c.counted.ensures
-
-pub slice_bounds-judge-end : goal.slice_bounds-judge-end
-slice_bounds-judge-end c = simp length-set (omega arith)
-
-pub slice_bounds-judge-end-2 : goal.slice_bounds-judge-end-2
-slice_bounds-judge-end-2 c = sym (length-take-le _ _ (simp length-set (omega arith)))
 
 pub returns : goal.returns
 returns c = byte_last _ _ _ _ c.min-at.ensures _ refl _ c.record_size.ensures c.if-n-record_size.false c.if-n-gt-RECORD.false _ c.judge.ensures _ c.counted-2.ensures

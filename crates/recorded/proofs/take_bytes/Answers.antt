@@ -1,10 +1,7 @@
 -- `take_bytes` meets its contract: the bytes that are left are still to be taken. Assumes nothing.
 use Rattle.std.proofs.Common.{arith, rules}
-use Rattle.recorded.proofs.Fed.{feeding_none, feeding_more, feeding_all}
+use Rattle.recorded.proofs.Fed.{feeding_more, feeding_all}
 use Rattle.recorded.proofs.take_bytes.Goals as goal
-
-pub loop-byte-init : goal.loop-byte-init
-loop-byte-init c = (c.requires, feeding_none _ _ (omega arith))
 
 pub loop-byte-preserved : goal.loop-byte-preserved
 loop-byte-preserved c = (search rules, feeding_more c.loop-byte.invariant.1 _ (omega arith) (omega arith) c.take_byte-state.ensures)

@@ -1,8 +1,13 @@
 -- `totals_in` goes by what the first pass answered. Assumes nothing.
 use Rattle.std.proofs.Common.{ap, ◌∙◌}
+use Rattle.std.proofs.lemmas.List.{take-replicate}
+use Rattle.label.specs.Table.{hashes}
 use Rattle.label.specs.Labelled.{Labelled}
 use Rattle.sheet.proofs.Owning.{pass_refused, pass_needs, pass_counted}
 use Rattle.sheet.proofs.totals_in.Goals as goal
+
+pub new-labels-requires : goal.new-labels-requires
+new-labels-requires g c = take-replicate hashes _ 0 c.requires.heads
 
 pub returns-in-Err : goal.returns-in-Err
 returns-in-Err g c = pass_refused c.requires.starting (rw c.new-labels.ensures.source at c.in-Err.ensures.answer)

@@ -13,9 +13,6 @@ returns-then-total-gt-SCRIPT c =
     let both = sheet_long _ _ _ (omega arith) c.if-input.false c.if-total-gt-SCRIPT.true c.add_text.ensures in
     record { result_value = both.0; script_value = both.1 }
 
-pub add_text-requires-2 : goal.add_text-requires-2
-add_text-requires-2 c = (omega arith, omega arith)
-
 pub returns : goal.returns
 returns c =
     let both = sheet_read _ _ _ (omega arith) c.if-input.false c.add_text-2.ensures in

@@ -1,26 +1,11 @@
 -- `add_line` adds to the totals by the kind of the line. Assumes nothing.
 use Rattle.sheet.specs.Totals.{said}
 use Rattle.sheet.proofs.Tallies.{with_line, with_line_lem}
-use Rattle.sheet.proofs.Reading.{span_in, code_needs, code_added, code_more}
+use Rattle.sheet.proofs.Reading.{code_added, code_more}
 use mathlib.Core.Logic.{inl, inr}
 use mathlib.Core.Path.{sym, ap, ◌∙◌}
 use Rattle.branches.specs.Branch.{names_in}
 use Rattle.sheet.proofs.lines.add_line.Goals as goal
-
-pub slice_bounds-instruction-count : goal.slice_bounds-instruction-count
-slice_bounds-instruction-count c = (span_in c.requires c.in-Instruction.is).ordered
-
-pub slice_bounds-instruction-start : goal.slice_bounds-instruction-start
-slice_bounds-instruction-start c = (span_in c.requires c.in-Instruction.is).ordered
-
-pub slice_bounds-instruction-end : goal.slice_bounds-instruction-end
-slice_bounds-instruction-end c = rw c.source.ensures (span_in c.requires c.in-Instruction.is).inside
-
-pub encode_instruction-requires : goal.encode_instruction-requires
-encode_instruction-requires c = rw c.source.ensures (code_needs c.requires c.in-Instruction.is)
-
-pub add_code-requires : goal.add_code-requires
-add_code-requires c = c.requires.low
 
 pub returns-in-Instruction : goal.returns-in-Instruction
 unfolding names_in

@@ -2,5 +2,5 @@
 use Rattle.sheettext.proofs.ReadBack.{Rowed}
 use Rattle.sheettext.proofs.back.read_rows.Given as goal
 
-abbrev pub invariant-loop-i : goal.invariant-loop-i
-invariant-loop-i l = Rowed l.t l.initial.numbers l.row l.i l.numbers
+abbrev pub invariant-loop-byte : goal.invariant-loop-byte
+invariant-loop-byte l = Rowed l.t l.initial.numbers l.row l.byte-index l.numbers

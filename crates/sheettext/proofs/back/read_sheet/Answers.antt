@@ -1,15 +1,12 @@
 -- `read_sheet` writes what it reads, and compares. Assumes nothing.
 use mathlib.Core.Path.{ap, ◌∙◌}
 use Rattle.sheettext.specs.Back.{same_front}
-use Rattle.sheettext.proofs.ReadBack.{read_wrong, read_whole, common_long, common_short}
+use Rattle.sheettext.proofs.ReadBack.{read_wrong, read_whole, common_long}
 use Rattle.sheettext.proofs.back.read_sheet.Goals as goal
 use Rattle.sheettext.proofs.back.read_sheet.Goals.{then-common-size-via-then-common-size, then-common-size-via-else-common-size+then-common-t}
 
 pub slice_bounds-count_lines-end : goal.slice_bounds-count_lines-end
 slice_bounds-count_lines-end c = common_long _ _ c.same_front-common.ensures
-
-pub count_lines-requires : goal.count_lines-requires
-count_lines-requires c = common_short _ _ c.same_front-common.ensures c.requires
 
 pub returns-then-common-size : goal.returns-then-common-size
 returns-then-common-size c =

@@ -1,10 +1,7 @@
 -- `same_front` compares byte by byte. Assumes nothing.
 use native.Mathlib.Omega.{arith}
-use Rattle.sheettext.proofs.ReadBack.{fronted_start, fronted_more, fronted_differ, fronted_short, fronted_all}
+use Rattle.sheettext.proofs.ReadBack.{fronted_more, fronted_differ, fronted_short, fronted_all}
 use Rattle.sheettext.proofs.back.same_front.Goals as goal
-
-pub loop-i-init : goal.loop-i-init
-loop-i-init c = fronted_start _ _
 
 pub returns-then-t-i : goal.returns-then-t-i
 returns-then-t-i c = fronted_short c.loop-i.invariant (omega arith) c.if-t-i.true

@@ -1,7 +1,6 @@
 -- `unread_text` puts the words, the name after them, and byte 10. Assumes nothing.
-use Rattle.std.proofs.Common.{rules, sym, arith}
+use Rattle.std.proofs.Common.{rules}
 use borrow.Author.Tests.{not-true, not-false}
-use lib.Seq.{length-take-le}
 use Rattle.rules.specs.Text.{bytes}
 use Rattle.listing.proofs.Adding.{adds_both, adds_all}
 use Rattle.station.proofs.Printed.{printed, printed_none}

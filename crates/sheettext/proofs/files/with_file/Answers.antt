@@ -1,13 +1,12 @@
 -- `with_file` meets its contract, by the step. Assumes nothing.
-use Rattle.sheettext.proofs.Filing.{owed_sum, owed_stop}
+use Rattle.std.proofs.Common.{rules}
+use Rattle.sheettext.specs.Files.{file_step, with_file}
 use Rattle.sheettext.proofs.files.with_file.Goals as goal
 
-pub returns-in-Ok : goal.returns-in-Ok
-returns-in-Ok c =
-    let both = owed_sum _ _ _ _ c.in-Ok.is (c.add_read.ensures.result_value, c.add_read.ensures.result_value_2) in
-    record { result_value = both.0; result_value_2 = both.1 }
+pub returns-in_err-step-clause-result_value : goal.returns-in_err-step-clause-result_value
+unfolding file_step
+returns-in_err-step-clause-result_value c = search rules
 
-pub returns-in-Err : goal.returns-in-Err
-returns-in-Err c =
-    let both = owed_stop _ _ _ _ c.in-Err.is in
-    record { result_value = both.0; result_value_2 = both.1 }
+pub returns-in_err-step-clause-result_value_2 : goal.returns-in_err-step-clause-result_value_2
+unfolding with_file
+returns-in_err-step-clause-result_value_2 c = search rules
