@@ -38,9 +38,6 @@ pub record Spelling (start base count n : ℕ) (first : List ℕ) (i rest : ℕ)
   pub long : length l ≡ length first
   pub same : over_from start (digits_of base count n) first ≡ over_from start (digits_of base i rest) l
 
-pub spelling_start : (start base count n : ℕ) (l : List ℕ) → Spelling start base count n l count n l
-spelling_start start base count n l = record { upto = le_refl count; long = refl; same = refl }
-
 module _ {start base count n : ℕ} {first : List ℕ} {i rest : ℕ} {l : List ℕ} (r : Spelling start base count n first i rest l) where
   pub spelling_more : (b : ℕ) → start + count ≤ length l → 0 < i → b ≡ digit_byte (rest % base)
       → Spelling start base count n first (i - 1) (rest / base) (set l (start + (i - 1)) b)
@@ -112,7 +109,7 @@ pub dividing_start : (n : ℕ) → n < 2 ^ 64 → Dividing n 1 n
 dividing_start n h = record { few = few_places 19 n (omega arith); same = refl }
 
 module _ {n count rest : ℕ} (r : Dividing n count rest) where
-  pub dividing_few : count ≤ 20
+  dividing_few : count ≤ 20
   dividing_few = omega (arith, r.few, r.same, some_place rest rest)
 
   pub dividing_more : 10 ≤ rest → Dividing n (count + 1) (rest / 10)

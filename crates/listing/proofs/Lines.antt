@@ -8,13 +8,13 @@ use native.Mathlib.Numerals.{add-one}
 use native.Mathlib.Omega.{arith}
 use borrow.Author.Tests.{eq-eqb, eqb-true, ltb-true, ltb-false}
 use lib.Dec.{eqb, ltb}
-use lib.ListN.{length, take, drop, get_or, length-append, length-drop, drop_of_length-le}
+use lib.ListN.{length, take, drop, replicate, length-append, length-replicate, length-drop, drop_of_length-le}
 use lib.Seq.{drop-drop, take_all}
 use Rattle.rules.specs.Text.{Text, starts}
-use Rattle.rules.specs.Assemble.{Place, place, over}
+use Rattle.rules.specs.Assemble.{Place, over}
 use Rattle.text.proofs.Compare.{starts_equal, starts_unequal, starts_short}
 use Rattle.listing.specs.Listing.{place_text}
-use Rattle.listing.specs.Reading.{digit_in, hex_in, place_in, is_line, bad, read_lines, read_list}
+use Rattle.listing.specs.Reading.{place_in, is_line, bad, read_lines, read_list}
 use Rattle.std.specs.Prelude.{Ok}
 use Rattle.listing.proofs.Digits.{length_digits}
 
@@ -42,18 +42,14 @@ starts_split (a ∷ p) (b ∷ t) e = go (eqb a b) refl (λ u. starts_split p t u
     go true q ih = let d = eqb-true a b q in let rest = ih (sym (starts_equal a p b t q) ∙ e) in cc
     go false q ih = absurd (false≢true (sym (starts_unequal a p b t q) ∙ e))
 
--- ---- the line that is compared is that of the place shown
+-- ---- the line that is compared
 -- a line over all of a list of its length
-pub put_whole : (s l : List ℕ) → length s ≡ length l → over s l ≡ s
+put_whole : (s l : List ℕ) → length s ≡ length l → over s l ≡ s
 unfolding over
 put_whole s l e = rw (drop_of_length-le l {i = length s} (omega arith)) (append-nil s)
 
-pub line_shown : (t l line : Text) (a w m : ℕ) → length l ≡ 16 → line ≡ over (place_text (place a w m)) l
-    → a ≡ hex_in 0 (take 8 t) → w ≡ hex_in 0 (take 4 (drop 9 t)) → m ≡ digit_in 10 (get_or t 14 0)
-    → starts line t ≡ is_line t
-unfolding is_line place_in
-line_shown t l line a w m h e ea ew em =
-    rw (e ∙ put_whole (place_text (place a w m)) l (length_place (place a w m) ∙ sym h), ea, ew, em)
+pub line_written : (p : Place) {line : List ℕ} → line ≡ over (place_text p) (replicate 16 0) → line ≡ place_text p
+line_written p e = e ∙ put_whole (place_text p) (replicate 16 0) (length_place p ∙ sym (length-replicate {A = ℕ} 16 0))
 
 pub no_line : (t : Text) → length t < 16 → is_line t ≡ false
 unfolding is_line

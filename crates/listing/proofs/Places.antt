@@ -16,9 +16,6 @@ abbrev pub shown_from : (Place → ℕ) → Text → ℕ → ℕ → List ℕ
 shown_from f t count i = map f (places_in (count - i) (drop (16 * i) t))
 
 module _ (f : Place → ℕ) (t : Text) (count : ℕ) where
-  pub shown_start : shown_from f t count 0 ≡ map f (places_in count t)
-  shown_start = let all : count - 0 ≡ count = omega arith in rw all
-
   pub shown_more : (i v : ℕ) → i < count → v ≡ f (place_in (drop (16 * i) t)) → shown_from f t count i ≡ v ∷ shown_from f t count (i + 1)
   unfolding places_in
   shown_more i v h e =

@@ -1,5 +1,6 @@
 pub mod Writer
 pub mod Listing
 pub mod Reading
+pub mod Shown
 pub mod RoundTrip
 pub mod Examples

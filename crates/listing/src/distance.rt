@@ -1,4 +1,4 @@
-// A distance for the mover, in decimal and with an optional sign.
+//! A distance for the mover, in decimal and with an optional sign.
 ghost use Rattle.std.specs.Prelude.{◌≡◌, ◌^◌};
 ghost use Rattle.rules.specs.Number.{signed};
 

@@ -1,6 +1,6 @@
 #![tactic(auto)]
 
-// The text of a list, by paper 01's station examples: written, and read back.
+//! The text of a list, as the station shows it: written, and read back.
 pub mod writer; // writer.rt: a text put over the front of a lent slice, part after part
 pub mod writing; // writing.rt: a line for each word, and the line of a refusal
 pub mod reading; // reading.rt: the list of a text in that form

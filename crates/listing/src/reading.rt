@@ -1,7 +1,9 @@
-// The list of a text that `writing` writes, and of no other text.
+//! The list of a text that `writing` writes, and of no other text.
 ghost use Rattle.std.specs.Prelude.{◌≡◌, ◌*◌, ◌<◌, ◌≤◌, ◌^◌, length, IfOk, OnErr};
 ghost use Rattle.rules.specs.Assemble.{slices, holding};
-ghost use Rattle.listing.specs.Reading.{digit_in, hex_in, is_line, read_list, places_in, room_in};
+ghost use Rattle.listing.specs.Listing.{place_text};
+ghost use Rattle.listing.specs.Reading.{digit_in, hex_in, place_in, is_line, read_list, places_in, room_in};
+ghost use Rattle.listing.specs.Shown.{place_of};
 
 use crate::writer::Writer;
 use crate::writing::LINE;
@@ -35,24 +37,52 @@ fn number_in(t: &[u8]) -> u32
     v
 }
 
+// What a line shows: a word, its address and its mark.
+#[derive(Clone, Copy, Debug, PartialEq, Eq, Hash)]
+struct Shown {
+    address: u32,
+    word: u16,
+    mark: u8,
+}
+
+// What the front of a text shows, whatever stands there.
+#[tactic(auto, unfolding(crate::specs::Reading::place_in))]
+fn read_shown(t: &[u8]) -> Shown
+    requires { 16 ≤ length t.now }
+    ensures { place_of result ≡ place_in t.now }
+{
+    // Four digits are a word, so the cast loses nothing.
+    let word = number_in(&t[9..13]) as u16;
+    Shown {
+        address: number_in(&t[..8]),
+        word,
+        mark: digit_in(t[14], 10),
+    }
+}
+
+// The line that shows it.
+fn line_of(shown: Shown) -> [u8; LINE]
+    ensures { result ≡ place_text (place_of shown) }
+{
+    let mut line = [0u8; LINE];
+    let mut written = Writer::new(&mut line);
+    written.push_place(shown.address, shown.word, shown.mark);
+    line
+}
+
 // Whether a text begins with a line: the one that the word it shows is written as.
+#[tactic(auto, using(crate::proofs::Lines::no_line), unfolding(crate::specs::Reading::is_line))]
 fn is_line(t: &[u8]) -> bool
     ensures { result ≡ is_line t.now }
 {
-    if t.len() < LINE {
-        return false;
-    }
-    let mut line = [0u8; LINE];
-    let mut written = Writer::new(&mut line);
-    let word = number_in(&t[9..13]) as u16;
-    written.push_place(number_in(&t[..8]), word, digit_in(t[14], 10));
-    starts_with(t, &line)
+    t.len() >= LINE && starts_with(t, &line_of(read_shown(t)))
 }
 
 // How many lines there are, if there is room for as many.
 fn count_lines(t: &[u8], room: usize) -> Result<usize, BadLine>
     ensures { result ≡ read_list room t.now }
 {
+    // The number is what is answered, so this counts.
     for n in 0..room {
         let at = LINE * n;
         if at == t.len() {
@@ -68,20 +98,22 @@ fn count_lines(t: &[u8], room: usize) -> Result<usize, BadLine>
     Ok(room)
 }
 
-// Puts the words of the first `count` lines into the slices.
+// Puts the words of the first `count` lines into the slices, which stand side by side, here and below, as C lends them.
 fn fill(t: &[u8], count: usize, addresses: &mut [u32], words: &mut [u16], marks: &mut [u8])
     requires { (16 * count ≤ length t.now) × (count ≤ length addresses.old) × (count ≤ length words.old) × (count ≤ length marks.old) }
     ensures { slices addresses.new words.new marks.new ≡ holding (places_in count t.now) (slices addresses.old words.old marks.old) }
 {
+    // By index: after `iter_mut().zip(..)` nothing is known of the slices.
     for i in 0..count {
-        let at = LINE * i;
-        addresses[i] = number_in(&t[at..at + 8]);
-        words[i] = number_in(&t[at + 9..at + 13]) as u16;
-        marks[i] = digit_in(t[at + 14], 10);
+        let shown = read_shown(&t[LINE * i..]);
+        addresses[i] = shown.address;
+        words[i] = shown.word;
+        marks[i] = shown.mark;
     }
 }
 
-/// Reads a list into the slices, once all lines are seen to be right: nothing is written otherwise.
+/// Reads a list into the slices, once all lines are seen to be right, and answers how many words there are; or the first line that is
+/// wrong, with nothing written.
 pub fn read_list(
     t: &[u8],
     addresses: &mut [u32],

@@ -1,4 +1,4 @@
-// A text that is put over the front of a lent slice, part after part.
+//! A text that is put over the front of a lent slice, part after part.
 ghost use Rattle.std.specs.Prelude.{◌≡◌, ◌+◌, ◌*◌, ◌<◌, ◌≤◌, ◌∷◌, [], length};
 ghost use Rattle.rules.specs.Assemble.{place};
 ghost use Rattle.rules.specs.Tally.{list_in};
@@ -8,10 +8,12 @@ ghost use Rattle.listing.specs.Writer.{Begins, Adds};
 use crate::writing::{decimal_places, mark_byte, write_bytes, write_digits};
 
 /// A lent slice, and how many bytes of a text are put over its front. It has no model: with one a caller no longer learns what stands in
-/// the slice that it lent.
+/// the slice that it lent. The slice is open to who writes in place behind the text and counts it in `len`: a method that lends that rest
+/// gets no proof, since it passes a `&mut` on through a field that is one.
+// No `==`: it holds a `&mut`.
 #[derive(Drop)]
 pub struct Writer<'a> {
-    out: &'a mut [u8],
+    pub out: &'a mut [u8],
     pub len: usize,
 }
 
@@ -76,12 +78,14 @@ impl<'a> Writer<'a> {
     }
 
     /// Writes the text of a list.
+    // The slices and `count` side by side, as C lends them.
     pub fn push_list(&mut self, addresses: &[u32], words: &[u16], marks: &[u8], count: usize)
         requires lengths { (count ≤ length addresses.now) × (count ≤ length words.now) × (count ≤ length marks.now) }
         requires room { self.old.len + 16 * count ≤ length self.old.out.now }
         ensures text { Adds (list_text (list_in count addresses.now words.now marks.now)) self.old self.new }
         ensures len { self.new.len ≡ self.old.len + 16 * count }
     {
+        // One index for three slices: a `zip` of a `zip` is no plainer.
         for i in 0..count {
             self.push_place(addresses[i], words[i], marks[i]);
         }
@@ -96,6 +100,7 @@ impl<'a> Writer<'a> {
         self.push_bytes(b"refused ");
         self.push_decimal(u64::from(number));
         self.push(b' ');
+        // No `From` widens a `usize`.
         self.push_decimal(place as u64);
         self.push(b'\n');
     }

@@ -1,4 +1,4 @@
-// A list as text, a line for each word; and the line of a refusal.
+//! A list as text, a line for each word; and the line of a refusal.
 ghost use Rattle.std.specs.Prelude.{◌≡◌, ◌+◌, ◌*◌, ◌<◌, ◌≤◌, length};
 ghost use Rattle.rules.specs.Assemble.{over};
 ghost use Rattle.rules.specs.Tally.{list_in};
@@ -16,7 +16,9 @@ fn digit_byte(d: u64) -> u8
     requires { d < 16 }
     ensures { result ≡ digit_byte d }
 {
-    if d < 10 { 48 + d as u8 } else { 55 + d as u8 }
+    // It is below 16, so the cast loses nothing.
+    let d = d as u8;
+    if d < 10 { b'0' + d } else { b'A' - 10 + d }
 }
 
 /// Puts the last `count` digits of n at an index, from the last one on.
@@ -24,10 +26,9 @@ pub fn write_digits(out: &mut [u8], at: usize, base: u64, count: usize, n: u64)
     requires { (0 < base) × (base ≤ 16) × (at + count ≤ length out.old) }
     ensures { out.new ≡ over_from at (digits_of base count n) out.old }
 {
-    let mut i = count;
     let mut rest = n;
-    while i > 0 {
-        i -= 1;
+    // By index: after `iter_mut().rev()` nothing is known of the slice.
+    for i in (0..count).rev() {
         out[at + i] = digit_byte(rest % base);
         rest /= base;
     }
@@ -47,10 +48,11 @@ pub fn write_bytes(out: &mut [u8], at: usize, text: &[u8])
 pub(crate) fn mark_byte(mark: u8) -> u8
     ensures { result ≡ mark_byte mark }
 {
-    if mark < 10 { 48 + mark } else { b'?' }
+    if mark < 10 { b'0' + mark } else { b'?' }
 }
 
 /// Puts the text of a list at the front, and answers its length.
+// The slices and `count` side by side, as C lends them.
 pub fn write_list(
     addresses: &[u32],
     words: &[u16],
@@ -72,6 +74,7 @@ pub(crate) fn decimal_places(n: u64) -> usize
 {
     let mut count = 1;
     let mut rest = n;
+    // How often it divides is what is answered, so this is no `for`.
     while rest >= 10 {
         count += 1;
         rest /= 10;

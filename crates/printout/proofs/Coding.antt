@@ -1,12 +1,11 @@
 -- A line that is read: the code of its task, and the verdict that is shown of it. Assumes nothing.
 use Rattle.std.specs.Prelude.{Option, None, Some}
-use Prim.Native.Nat.{ℕ, ◌+◌, ◌-◌, ◌≤◌}
+use Prim.Native.Nat.{ℕ, ◌-◌, ◌≤◌}
 use mathlib.Core.Path.{◌≡◌, refl, ap}
 use mathlib.Core.List.{List}
 use native.Mathlib.Omega.{arith}
 use lib.Dec.{eqb}
-use lib.ListN.{length, take, drop, length-drop}
-use lib.Seq.{length-take-le}
+use lib.ListN.{length, take, drop}
 use Rattle.rules.specs.Text.{Text}
 use Rattle.rules.specs.Number.{Reading, read, failed, no_digits, bad_digit, out_of_range}
 use Rattle.rules.specs.Number.{Failure as Fault}
@@ -31,12 +30,14 @@ use Rattle.encode.specs.Code.{code_of, places_of}
 use Rattle.encode.specs.declared.Code.{Code}
 use Rattle.encode.proofs.Callers.{encode_places}
 use Rattle.directive.specs.Directive.{line_number_of}
+use Rattle.listing.specs.Writer.{Adds}
+use Rattle.listing.specs.declared.writer.Writer.{Writer}
 use Rattle.explain.specs.Verdict.{verdict_of, failure_verdict}
 use Rattle.explain.specs.Lines.{verdict_on}
 use Rattle.explain.specs.declared.Verdict.{Verdict}
 use Rattle.whytext.specs.Verdicts.{said_of}
 use Rattle.printout.specs.Printout.{row_text, reason_of, places_of_put, read_row, unread_row}
-use Rattle.printout.specs.Rows.{Puts, shown_verdict, put_of, line_at, LineNeeds}
+use Rattle.printout.specs.Rows.{shown_verdict, put_of, line_at, LineNeeds}
 
 -- ---- the code of a task
 module _ (names : List Mnemonic) (t : Table) (source : Text) (a : ℕ) where
@@ -70,37 +71,25 @@ reason_back (Some (read n)) v = said_back v
 reason_back (Some (failed f)) v = failed_back f
 
 -- ---- the row of a line
--- it ends within the source, and its part has so many bytes
-module _ {source : Text} {line start end at : ℕ} {out : List ℕ} (n : LineNeeds source line start end at out) where
-  pub line_within : end ≤ length source
-  line_within = rw n.ends (line_end_le source start n.inside)
+-- it ends within the source
+module _ {source : Text} {line : ℕ} {span : Span} {w : Writer} (n : LineNeeds source line span w) where
+  pub line_within : span.end ≤ length source
+  line_within = rw n.ends (line_end_le source span.start n.inside)
 
-  line_ordered : start ≤ end
-  line_ordered = omega (arith, n.ends)
+module _ (source : Text) (span : Span) (e : span.end ≡ line_end source span.start) where
+  part_line : span_text source span ≡ line_from source span.start
+  part_line = let z : line_end source span.start - span.start ≡ until (eqb 10) (drop span.start source) = omega arith in rw e (ap (λ (n : ℕ). take n (drop span.start source)) z)
 
-  part_long : length (take (end - start) (drop start source)) ≡ end - start
-  part_long = length-take-le (end - start) (drop start source) (omega (arith, length-drop start source, line_within, n.inside))
-
-  pub row_low : {r : ℕ} → r ≤ at + 58 + length (take (end - start) (drop start source)) → r + start ≤ at + 58 + end
-  row_low h = omega (arith, part_long, line_ordered)
-
-  pub row_room : at + 58 + length (take (end - start) (drop start source)) ≤ length out
-  row_room = omega (arith, part_long, n.room)
-
-module _ (source : Text) (start end : ℕ) (e : end ≡ line_end source start) where
-  part_line : take (end - start) (drop start source) ≡ line_from source start
-  part_line = let z : line_end source start - start ≡ until (eqb 10) (drop start source) = omega arith in rw e (ap (λ (n : ℕ). take n (drop start source)) z)
-
-  pub unread_row_lem : (line : ℕ) {at r : ℕ} {x y : List ℕ} → Puts (unread_row (record { number = line; start = start; text = take (end - start) (drop start source) })) at r x y
-      → Puts (unread_row (line_at source line start)) at r x y
+  pub unread_row_lem : (line : ℕ) {w v : Writer} → Adds (unread_row (record { number = line; start = span.start; text = span_text source span })) w v
+      → Adds (unread_row (line_at source line span.start)) w v
   unread_row_lem line p = rw part_line at p
 
-pub read_row_lem : (names : List Mnemonic) (labels : Labelled) (address : ℕ) (task : Task) (line start end : ℕ) → end ≡ line_end labels.source start
+pub read_row_lem : (names : List Mnemonic) (labels : Labelled) (address : ℕ) (task : Task) (line : ℕ) (span : Span) → span.end ≡ line_end labels.source span.start
     → (code : Option Code) (verdict reason : Verdict) → places_of address code ≡ places_of_put names labels.table (put_of labels.source address task) → verdict ≡ verdict_on names labels address task
-    → reason ≡ shown_verdict (line_number_of (line_reading (take (end - start) (drop start labels.source)))) verdict
-    → {at r : ℕ} {x y : List ℕ} → Puts (row_text line address (places_of address code) (said_of reason) (take (end - start) (drop start labels.source))) at r x y
-    → Puts (read_row names labels.table (put_of labels.source address task) (line_at labels.source line start)) at r x y
+    → reason ≡ shown_verdict (line_number_of (line_reading (span_text labels.source span))) verdict
+    → {w v : Writer} → Adds (row_text line address (places_of address code) (said_of reason) (span_text labels.source span)) w v
+    → Adds (read_row names labels.table (put_of labels.source address task) (line_at labels.source line span.start)) w v
 unfolding read_row
-read_row_lem names labels address task line start end e code verdict reason places told shown p =
-    let shows : said_of reason ≡ reason_of (line_reading (take (end - start) (drop start labels.source))) (why_task names labels.table address (task_at labels.source task)) = rw (shown, told) (reason_back _ _) in
-    rw (places, shows, part_line labels.source start end e) at p
+read_row_lem names labels address task line span e code verdict reason places told shown p =
+    let shows : said_of reason ≡ reason_of (line_reading (span_text labels.source span)) (why_task names labels.table address (task_at labels.source task)) = rw (shown, told) (reason_back _ _) in
+    rw (places, shows, part_line labels.source span e) at p

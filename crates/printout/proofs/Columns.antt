@@ -1,27 +1,24 @@
--- The columns of a row: how they are put, and how long they are. Assumes nothing.
-use Rattle.std.specs.Prelude.{Some}
+-- The columns of a row: how they are written, and how long they are. Assumes nothing.
 use Prim.Native.Nat.{ℕ, ◌+◌, ◌-◌, ◌≤◌}
-use mathlib.Core.Path.{◌≡◌, refl}
+use mathlib.Core.Path.{◌≡◌, refl, sym, ap}
 use mathlib.Core.Bool.{cond}
 use mathlib.Core.List.{List, [], ◌∷◌, append_assoc}
 use native.Mathlib.Omega.{arith}
 use lib.Dec.{eqb}
-use lib.ListN.{length, take, drop, set, length-append, length-drop}
+use lib.ListN.{length, take, drop, length-append, length-drop}
 use lib.Seq.{take_at, take_all}
 use Rattle.rules.specs.Text.{Text, bytes}
-use Rattle.rules.specs.Assemble.{Place}
+use Rattle.rules.specs.Assemble.{Place, over}
 use Rattle.rules.specs.Number.{no_digits, bad_digit, out_of_range}
 use Rattle.requests.specs.Explain.{not_instruction, unknown_mnemonic, wrong_count, wrong_kinds, bad_number, not_recorded, out_of_reach, Verdict, emitted, because}
-use Rattle.text.specs.Spans.{over_from}
-use Rattle.encode.specs.Code.{places_of}
-use Rattle.encode.specs.declared.Code.{Code}
-use Rattle.encode.specs.declared.Code.TheVariants.{Word, Value, Label}
 use Rattle.listing.specs.Listing.{digits_of, decimal}
+use Rattle.std.specs.Borrow.{MutBor}
+use Rattle.listing.specs.Writer.{Begins, Adds}
+use Rattle.listing.specs.declared.writer.Writer.{Writer}
 use Rattle.listing.proofs.Digits.{length_digits, few_places, decimal_length}
+use Rattle.listing.proofs.Adding.{adds_as, adds_both, adds_all}
 use Rattle.whytext.specs.WhyLine.{verdict_text}
 use Rattle.printout.specs.Printout.{padded, word_text, words_text, front_text, end_text, row_text, unread_row}
-use Rattle.printout.specs.Rows.{Puts}
-use Rattle.printout.proofs.Putting.{puts_as, puts_one, puts_more, puts_both, puts_byte}
 
 -- the part of a text from n to its end
 pub to_end : (t : Text) (n : ℕ) → take (length t - n) (drop n t) ≡ drop n t
@@ -39,38 +36,31 @@ module _ (line : ℕ) (h : line ≤ 9999) where
   unfolding padded bytes
   padded_length = rw (length-append (drop (length (decimal line)) spaces) (decimal line), length-drop (length (decimal line)) spaces) (omega (arith, four))
 
-  -- d is the array in which the n digits stand in front
-  module _ (n : ℕ) (o d : List ℕ) (e : n ≡ 0 + length (decimal line)) (g : d ≡ over_from 0 (decimal line) o) where
-    pub digits_few : n ≤ 4
-    digits_few = omega (arith, four)
+  -- v has written the digits into a slice, and d is what stands there
+  module _ {x : MutBor (List ℕ)} {w v : Writer} (b : Begins x w) (a : Adds (decimal line) w v) where
+    pub digits_few : v.len ≤ 4
+    digits_few = omega (arith, four, (adds_all b a).0)
 
-    pub digits_front : take n d ≡ decimal line
-    unfolding over_from
-    digits_front = rw g (take_at (decimal line) (drop (0 + length (decimal line)) o) n (omega arith))
+    spaces_left : length (take (4 - v.len) (drop v.len spaces)) ≡ 4 - v.len
+    spaces_left = rw (to_end spaces v.len) (length-drop v.len spaces)
 
-    pub digits_taken : n ≡ length (take n d)
-    digits_taken = rw digits_front (omega arith)
+    module _ {d : List ℕ} (g : d ≡ v.out.now) where
+      digits_front : take v.len d ≡ decimal line
+      unfolding over
+      digits_front = rw (g, (adds_all b a).1) (take_at (decimal line) (drop (length (decimal line)) x.now) v.len (sym (adds_all b a).0))
 
-    pub spaces_left : length (take (4 - n) (drop n spaces)) ≡ 4 - n
-    spaces_left = rw (to_end spaces n) (length-drop n spaces)
+      pub digits_room : {p q : Writer} → Adds (take (4 - v.len) (drop v.len spaces)) p q → p.len + 4 ≤ length p.out.now → q.len + length (take v.len d) ≤ length q.out.now
+      digits_room r h = omega (arith, four, (adds_all b a).0, ap length digits_front, spaces_left, r.len, r.room)
 
-    -- the spaces that are left, and then the digits
-    pub number_put : (i m r : ℕ) (x z y : List ℕ) → i ≤ length x → Puts (take (4 - n) (drop n spaces)) i m x z → Puts (take n d) m r z y → Puts (padded line) i r x y
-    unfolding padded bytes
-    number_put i m r x z y l p q =
-        let long : n ≡ length (decimal line) = omega arith in
-        puts_both (rw (to_end spaces n, long) at p) l (rw digits_front at q)
+      -- the spaces that are left, and then the digits
+      pub number_adds : {p q r : Writer} → Adds (take (4 - v.len) (drop v.len spaces)) p q → Adds (take v.len d) q r → Adds (padded line) p r
+      unfolding padded bytes
+      number_adds f h = adds_both (rw (to_end spaces v.len, (adds_all b a).0) at f) (rw digits_front at h)
 
 -- ---- words
 pub word_length : (w m : ℕ) → length (word_text w m) ≡ 5
 unfolding word_text
 word_length w m = rw (length-append (digits_of 16 4 w) (cond (eqb m 0) 32 42 ∷ []), length_digits 16 4 w)
-
-pub word_put : (w m b i : ℕ) (x z : List ℕ) → b ≡ cond (eqb m 0) 32 42 → i + 5 ≤ length x → length z ≡ length x → z ≡ over_from i (digits_of 16 4 w) x
-    → Puts (word_text w m) i (i + 5) x (set z (i + 4) b)
-unfolding word_text
-word_put w m b i x z e h l f =
-    rw (← e) (puts_byte (puts_one (digits_of 16 4 w) i (i + 4) x z (rw (length_digits 16 4 w)) f) (omega arith) b (i + 5) (omega arith) (omega arith))
 
 pub words_length : (ps : List Place) → length (words_text ps) ≡ 10
 unfolding words_text bytes
@@ -101,43 +91,25 @@ unfolding end_text bytes
 end_length [] v = simp length-append (omega (arith, verdict_short v))
 end_length (p ∷ ps) v = omega arith
 
-pub end_some : (a : ℕ) (code : Code) (v : Verdict) → 10 ∷ [] ≡ end_text (places_of a (Some code)) v
-unfolding end_text
-end_some a (Word w) v = refl
-end_some a (Value w x) v = refl
-end_some a (Label w x) v = refl
-
 pub row_length : (n a : ℕ) (ps : List Place) (v : Verdict) (l : Text) → n ≤ 9999 → length (row_text n a ps v l) ≤ 58 + length l
 unfolding row_text
 row_length n a ps v l h =
     let front = front_length n (digits_of 16 8 a) (words_text ps) h (length_digits 16 8 a) (words_length ps) in
     simp length-append (omega (arith, front, end_length ps v))
 
--- ---- where a part ends
-pub number_ends : (n : ℕ) {i r : ℕ} {x y : List ℕ} → Puts (padded n) i r x y → n ≤ 9999 → r ≡ i + 4
-number_ends n p h = omega (arith, p.ends, padded_length n h)
-
--- ---- parts put together
-pub front_put : (line address : ℕ) (w : Text) {i a b c d r : ℕ} {x x₁ x₂ x₃ x₄ x₅ y : List ℕ} → i ≤ length x → Puts (padded line) i a x x₁
-    → Puts (bytes "  ") a b x₁ x₂ → x₃ ≡ over_from b (digits_of 16 8 address) x₂ → Puts (bytes "  ") (b + 8) c x₃ x₄ → Puts w c d x₄ x₅ → Puts (bytes " ") d r x₅ y
-    → Puts (front_text line (digits_of 16 8 address) w) i r x y
-unfolding front_text bytes
-front_put line address w {b = b} h p q f t u v =
-    let eight : b + 8 ≡ b + length (digits_of 16 8 address) = rw (length_digits 16 8 address) in
-    puts_both (puts_both (puts_both (puts_more (puts_both p h q) h (digits_of 16 8 address) _ _ eight f) h t) h u) h v
-
-pub row_put : (n a : ℕ) (ps : List Place) (v : Verdict) (l : Text) {i f e r : ℕ} {x x₁ x₂ y : List ℕ} → n ≤ 9999 → i ≤ length x
-    → Puts (front_text n (digits_of 16 8 a) (words_text ps)) i f x x₁ → Puts l f e x₁ x₂ → Puts (end_text ps v) e r x₂ y
-    → Puts (row_text n a ps v l) i r x y × (r ≤ i + 58 + length l)
+-- ---- parts one after another
+pub row_adds : (n a : ℕ) (ps : List Place) (v : Verdict) (l : Text) {w w₁ w₂ w₃ : Writer} → n ≤ 9999
+    → Adds (front_text n (digits_of 16 8 a) (words_text ps)) w w₁ → Adds l w₁ w₂ → Adds (end_text ps v) w₂ w₃
+    → Adds (row_text n a ps v l) w w₃ × (w₃.len ≤ w.len + 58 + length l)
 unfolding row_text
-row_put n a ps v l g h p o q =
-    let row = puts_both (puts_both p h o) h q in
-    (row, omega (arith, row.ends, row_length n a ps v l g))
+row_adds n a ps v l g p o q =
+    let row = adds_both (adds_both p o) q in
+    (row, omega (arith, row.len, row_length n a ps v l g))
 
 -- behind END: the 23 bytes between the number and the line
-pub unread_put : (line start : ℕ) (l : Text) {i a b c r : ℕ} {x x₁ x₂ x₃ y : List ℕ} → line ≤ 9999 → i ≤ length x → Puts (padded line) i a x x₁
-    → Puts (bytes "  not read             ") a b x₁ x₂ → Puts l b c x₂ x₃ → Puts (10 ∷ []) c r x₃ y
-    → Puts (unread_row (record { number = line; start = start; text = l })) i r x y × (r ≤ i + 58 + length l)
+pub unread_adds : (line start : ℕ) (l : Text) {w w₁ w₂ w₃ w₄ : Writer} → line ≤ 9999 → Adds (padded line) w w₁
+    → Adds (bytes "  not read             ") w₁ w₂ → Adds l w₂ w₃ → Adds (10 ∷ []) w₃ w₄
+    → Adds (unread_row (record { number = line; start = start; text = l })) w w₄ × (w₄.len ≤ w.len + 58 + length l)
 unfolding unread_row front_text bytes
-unread_put line start l g h p q t u =
-    (puts_as _ _ (simp append_assoc) (puts_both (puts_both (puts_both p h q) h t) h u), omega (arith, number_ends line p g, q.ends, t.ends, u.ends))
+unread_adds line start l g p q t u =
+    (adds_as (adds_both (adds_both (adds_both p q) t) u) (simp append_assoc), omega (arith, p.len, padded_length line g, q.len, t.len, u.len))

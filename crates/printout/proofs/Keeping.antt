@@ -32,8 +32,10 @@ use Rattle.first.proofs.Bounds.{within}
 use Rattle.first.proofs.Callers.{bounded}
 use Rattle.explain.specs.Lines.{WhyTaskNeeds}
 use Rattle.explain.proofs.Lines.{after_low, task_needs}
+use Rattle.listing.specs.Writer.{Adds}
+use Rattle.listing.specs.declared.writer.Writer.{Writer}
 use Rattle.printout.specs.Printout.{read_row, rows_from}
-use Rattle.printout.specs.Rows.{Puts, put_of, line_at, LineNeeds, LinesNeeds, RowsGive}
+use Rattle.printout.specs.Rows.{put_of, line_at, LineNeeds, LinesNeeds, RowsGive}
 use Rattle.printout.proofs.Rowing.{Rowing, rowing_start, rowing_needs, rowing_line, rowing_more, rowing_rest}
 
 -- ---- each line asks at most once
@@ -79,24 +81,24 @@ module _ (names : List Mnemonic) (labels : Labelled) (cells : List ℕ) (pass : 
   abbrev pub left_rows : ℕ → ℕ → ℕ → Text
   left_rows a k i = rows_from names labels.table pass.base a (drop k asked) (lines_from labels.source (k + 1) i)
 
--- the rows of k lines are put into first, which gives out
-pub record Keeping (names : List Mnemonic) (labels : Labelled) (cells : List ℕ) (pass : Pass) (first : List ℕ) (address k i to : ℕ) (out : List ℕ) : Type 0 where
+-- the rows of k lines are written by first, which gives at
+pub record Keeping (names : List Mnemonic) (labels : Labelled) (cells : List ℕ) (pass : Pass) (first : Writer) (address k i : ℕ) (at : Writer) : Type 0 where
   pub among : k ≤ pass.lines
   pub here : address ≡ address_at pass.base cells k
-  pub rows : Rowing labels.source 1 0 0 (all_rows names labels cells pass) first (k + 1) i to (left_rows names labels cells pass address k i) out
+  pub rows : Rowing labels.source 1 0 (all_rows names labels cells pass) first (k + 1) i (left_rows names labels cells pass address k i) at
 
-pub keeping_start : (names : List Mnemonic) (labels : Labelled) (cells : List ℕ) (pass : Pass) (first : List ℕ) → Keeping names labels cells pass first pass.base 0 0 0 first
+pub keeping_start : (names : List Mnemonic) (labels : Labelled) (cells : List ℕ) (pass : Pass) {first : Writer} → LinesNeeds labels.source 1 0 first → Keeping names labels cells pass first pass.base 0 0 first
 unfolding address_at
-keeping_start names labels cells pass first =
+keeping_start names labels cells pass {first} needs =
     record {
       among = omega arith;
       here = refl;
-      rows = rowing_start labels.source 1 0 0 (all_rows names labels cells pass) (left_rows names labels cells pass pass.base 0 0) first (omega arith)
+      rows = rowing_start labels.source 1 0 (all_rows names labels cells pass) (left_rows names labels cells pass pass.base 0 0) first (omega arith) (omega (arith, needs.room))
           (ap (rows_from names labels.table pass.base pass.base (asked names labels cells pass)) (sym (lines_all labels.source)));
     }
 
-module _ {names : List Mnemonic} {labels : Labelled} {cells : List ℕ} {pass : Pass} {first : List ℕ} {address k i to : ℕ} {out : List ℕ} (w : Keeping names labels cells pass first address k i to out)
-    (h : Holds labels cells pass) (needs : LinesNeeds labels.source 1 0 0 first) where
+module _ {names : List Mnemonic} {labels : Labelled} {cells : List ℕ} {pass : Pass} {first : Writer} {address k i : ℕ} {at : Writer} (w : Keeping names labels cells pass first address k i at)
+    (h : Holds labels cells pass) (needs : LinesNeeds labels.source 1 0 first) where
   -- a line is left
   pub keeping_inside : k < pass.lines → i ≤ length labels.source
   keeping_inside l = go (leb i (length labels.source)) refl
@@ -113,7 +115,7 @@ module _ {names : List Mnemonic} {labels : Labelled} {cells : List ℕ} {pass : 
     keeping_fits = rw (w.here, e) (after_low h k l)
 
     module _ {end : ℕ} (q : end ≡ line_end labels.source i) where
-      pub keeping_line : LineNeeds labels.source (k + 1) i end to out
+      pub keeping_line : LineNeeds labels.source (k + 1) (record { start = i; end = end }) at
       keeping_line = rowing_line w.rows needs (keeping_inside l) end q
 
       step : {a : ℕ} → a ≡ after_by pass.base address kept
@@ -123,33 +125,33 @@ module _ {names : List Mnemonic} {labels : Labelled} {cells : List ℕ} {pass : 
           let f : a ≡ address_after size pass.base (address_at pass.base cells k) (put_at labels.source pass.base cells k).task = p ∙ (rw (w.here, e) (after_kept size labels.source pass.base (address_at pass.base cells k) (kept_at cells k) (h.lines.line k l).sized)) in
           rw (puts_next labels.source pass.base cells pass.lines k l, lines_step labels.source (k + 1) i (keeping_inside l), f, w.here, e, q, add-one (line_end labels.source i), add-one (k + 1), add-one k)
 
-      pub keeping_more : {a r : ℕ} {last : List ℕ} → a ≡ after_by pass.base address kept
-          → Puts (read_row names labels.table (put_of labels.source address kept.task) (line_at labels.source (k + 1) i)) to r out last
-          → r + i ≤ to + 58 + end → length last ≡ length out → Keeping names labels cells pass first a (k + 1) (end + 1) r last
+      pub keeping_more : {a : ℕ} {last : Writer} → a ≡ after_by pass.base address kept
+          → Adds (read_row names labels.table (put_of labels.source address kept.task) (line_at labels.source (k + 1) i)) at last
+          → last.len + i ≤ at.len + 58 + end → Keeping names labels cells pass first a (k + 1) (end + 1) last
       unfolding address_at
-      keeping_more p g b c =
+      keeping_more p g b =
           record {
             among = omega arith;
             here = p ∙ rw (w.here, e, add-one k);
-            rows = rowing_more w.rows needs (keeping_inside l) end q _ _ _ _ (step p) g b c;
+            rows = rowing_more w.rows needs (keeping_inside l) end q _ _ _ (step p) g b;
           }
 
   -- behind them
   pub keeping_end : WhyTaskNeeds labels address End
   keeping_end = end_needs h k address w.among w.here
 
-  pub keeping_left : LinesNeeds labels.source (k + 1) i to out
+  pub keeping_left : LinesNeeds labels.source (k + 1) i at
   keeping_left = rowing_needs w.rows needs
 
   -- and all kept ones are put
-  pub keeping_done : pass.lines ≤ k → Keeping names labels cells pass first address pass.lines i to out
+  pub keeping_done : pass.lines ≤ k → Keeping names labels cells pass first address pass.lines i at
   keeping_done l = let z : k ≡ pass.lines = omega (arith, w.among) in rw z at w
 
-  pub keeping_rest : pass.lines ≤ k → {r : ℕ} {last : List ℕ}
-      → RowsGive labels.source (k + 1) i (rows_from names labels.table pass.base address [] (lines_from labels.source (k + 1) i)) to r out last → length last ≡ length out
-      → RowsGive labels.source 1 0 (all_rows names labels cells pass) 0 r first last
-  keeping_rest l {r} {last} g c =
+  pub keeping_rest : pass.lines ≤ k → {last : Writer}
+      → RowsGive labels.source (k + 1) i (rows_from names labels.table pass.base address [] (lines_from labels.source (k + 1) i)) at last
+      → RowsGive labels.source 1 0 (all_rows names labels cells pass) first last
+  keeping_rest l {last} g =
       let past : length (puts_of labels.source pass.base cells pass.lines) ≤ k = omega (arith, puts_length labels.source pass.base cells pass.lines) in
       let none : drop k (puts_of labels.source pass.base cells pass.lines) ≡ [] = drop_of_length-le (puts_of labels.source pass.base cells pass.lines) past in
-      let g' : RowsGive labels.source (k + 1) i (left_rows names labels cells pass address k i) to r out last = rw none g in
-      rowing_rest w.rows needs g' c
+      let g' : RowsGive labels.source (k + 1) i (left_rows names labels cells pass address k i) at last = rw none g in
+      rowing_rest w.rows needs g'

@@ -1,4 +1,3 @@
-pub mod Putting
 pub mod Columns
 pub mod Coding
 pub mod Rowing

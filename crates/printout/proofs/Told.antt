@@ -26,12 +26,15 @@ use Rattle.first.specs.Pass.{pass_in, Holds}
 use Rattle.first.specs.declared.Pass.{Pass}
 use Rattle.first.proofs.Bounds.{InLimits, within}
 use Rattle.listing.specs.Listing.{refused_text}
+use Rattle.listing.specs.Writer.{Begins, Adds}
+use Rattle.listing.specs.declared.writer.Writer.{Writer}
+use Rattle.listing.proofs.Adding.{adds_both}
+use Rattle.std.specs.Borrow.{MutBor}
 use Rattle.station.specs.Printed.{Printed}
 use Rattle.symtext.specs.Symlist.{symbols_text, told_text as told}
 use Rattle.symtext.proofs.Told.{lines_fit}
 use Rattle.printout.specs.Printout.{under_rows, page_text, printout_by, told_text, printout_under}
-use Rattle.printout.specs.Rows.{Puts, LinesNeeds, RowsGive}
-use Rattle.printout.proofs.Putting.{puts_both, puts_all}
+use Rattle.printout.specs.Rows.{LinesNeeds, RowsGive}
 use Rattle.printout.proofs.Keeping.{all_rows}
 
 -- no labels, and nothing under the rows
@@ -41,11 +44,11 @@ none_under [] s e = refl
 none_under (x ∷ t) s e = absurd (omega arith)
 
 -- some labels: byte 10, and the text that stands in front of d
-pub labels_put : (t : Table) → (length t ≡ 0 → ⊥) → {s : Text} {i j r k : ℕ} {x x₁ y o d : List ℕ} → Printed s k o d → i ≤ length x → Puts (10 ∷ []) i j x x₁ → Puts (take k d) j r x₁ y
-    → Puts (under_rows t s) i r x y
+pub labels_add : (t : Table) → (length t ≡ 0 → ⊥) → {s : Text} {k : ℕ} {o d : List ℕ} {w v u : Writer} → Printed s k o d → Adds (10 ∷ []) w v → Adds (take k d) v u
+    → Adds (under_rows t s) w u
 unfolding under_rows
-labels_put [] z p h f g = absurd (z refl)
-labels_put (l ∷ t) z p h f g = puts_both f h (rw p.front at g)
+labels_add [] z p f g = absurd (z refl)
+labels_add (l ∷ t) z p f g = adds_both f (rw p.front at g)
 
 -- ---- the pass that the labels and the cells hold
 module _ {labels : Labelled} {cells : List ℕ} {pass : Pass} (h : Holds labels cells pass) where
@@ -55,11 +58,11 @@ module _ {labels : Labelled} {cells : List ℕ} {pass : Pass} (h : Holds labels 
   lines : length (lines_from labels.source 1 0) ≡ length (cut_at 10 labels.source)
   lines = ap length (sym (lines_all labels.source)) ∙ lines_count labels.source
 
-  pub page_needs : (out : List ℕ) → 401410 ≤ length out → LinesNeeds labels.source 1 0 0 out
-  page_needs out l = record { numbers = omega (arith, limits.few, lines); near = omega arith; room = omega (arith, limits.few, limits.short, lines) }
+  pub page_needs : {x : MutBor (List ℕ)} {w : Writer} → Begins x w → 401410 ≤ length x.now → LinesNeeds labels.source 1 0 w
+  page_needs b l = record { numbers = omega (arith, limits.few, lines); near = omega arith; room = omega (arith, b.len, ap length b.now, limits.few, limits.short, lines) }
 
-  pub labels_room : {s : Text} {r : ℕ} {x y : List ℕ} → RowsGive labels.source 1 0 s 0 r x y → 401410 ≤ length y → r + 131073 ≤ length y
-  labels_room g l = omega (arith, g.low, limits.few, limits.short, lines)
+  pub labels_room : {s : Text} {x : MutBor (List ℕ)} {w v : Writer} → Begins x w → 401410 ≤ length x.now → RowsGive labels.source 1 0 s w v → v.len + 131073 ≤ length v.out.now
+  labels_room b l g = omega (arith, b.len, ap length b.now, g.adds.room, g.low, limits.few, limits.short, lines)
 
 -- the labels' lines
 pub symbols_short : {labels : Labelled} {cells : List ℕ} {pass : Pass} → Holds labels cells pass → length (symbols_text pass.base labels.source) ≤ 131072
@@ -72,10 +75,10 @@ symbols_short {labels} {cells} {pass} h =
     rw is (omega (arith, lines_fit list (λ m i. (fits.entry i).line), fits.names, fits.count, w.short))
 
 module _ (names : List Mnemonic) (labels : Labelled) (cells : List ℕ) (pass : Pass) where
-  pub page_put : {r m : ℕ} {x y z : List ℕ} → RowsGive labels.source 1 0 (all_rows names labels cells pass) 0 r x y → Puts (under_rows labels.table (symbols_text pass.base labels.source)) r m y z
-      → Printed (page_text names pass.base labels.source (pass_in labels cells pass)) m x z
+  pub page_adds : {w v u : Writer} → RowsGive labels.source 1 0 (all_rows names labels cells pass) w v → Adds (under_rows labels.table (symbols_text pass.base labels.source)) v u
+      → Adds (page_text names pass.base labels.source (pass_in labels cells pass)) w u
   unfolding page_text
-  page_put g p = puts_all (puts_both g.puts (omega arith) p)
+  page_adds g p = adds_both g.adds p
 
 -- ---- by the first pass
 module _ (names : List Mnemonic) (base : ℕ) (source : Text) where

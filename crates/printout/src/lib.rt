@@ -2,6 +2,7 @@
 
 //! What `lagvettu list` prints for a source, an assembly listing for people: a row for each line with its address and its words, or
 //! why it has none, and the labels under the rows. It goes by the lines that the first pass kept, by the names in use, as in `branches`.
+//! A text is put at the front of a slice that is lent: there is no heap.
 ghost use Rattle.std.specs.Prelude.{◌≡◌, cond, ℕ, ◌+◌, ◌≤◌, eqb, length as len, []};
 ghost use mathlib.Core.List.{flat_map};
 ghost use Rattle.std.specs.Option.{option_copied};
@@ -16,11 +17,12 @@ ghost use Rattle.encode.specs.Code.{places_of};
 ghost use Rattle.directive.specs.Directive.{line_number_of};
 ghost use Rattle.explain.specs.Lines.{WhyTaskNeeds};
 ghost use Rattle.listing.specs.Listing.{digits_of};
+ghost use Rattle.listing.specs.Writer.{Adds};
 ghost use Rattle.station.specs.Printed.{Printed};
 ghost use Rattle.symtext.specs.Symlist.{symbols_text};
-ghost use Rattle.whytext.specs.Verdicts.{said_of, line_of};
+ghost use Rattle.whytext.specs.Verdicts.{said_of};
 ghost use Rattle.printout.specs.Printout.{padded, word_text, words_text, front_text, end_text, row_text, places_of_put, read_row, unread_row, rows_from, under_rows, page_text, printout_by, told_text, printout_text, printout_under};
-ghost use Rattle.printout.specs.Rows.{Puts, shown_verdict, put_of, line_at, LineNeeds, LinesNeeds, RowsGive};
+ghost use Rattle.printout.specs.Rows.{shown_verdict, put_of, line_at, LineNeeds, LinesNeeds, RowsGive};
 
 use encode::Code;
 use explain::Verdict;
@@ -28,8 +30,8 @@ use first::Pass;
 use label::Labels;
 use line::Task;
 use listing::writer::Writer;
-use listing::writing::{write_bytes, write_decimal, write_digits};
 use station::{TEXT, write_refusal};
+use text::Span;
 use whytext::push_verdict;
 
 /// As many bytes as a row has at most besides those of its line.
@@ -43,26 +45,21 @@ pub const PRINTOUT: usize = ROW * rules::MAX_LINES + rules::MAX_SOURCE + 2 + SYM
 
 // ---- Columns.
 
-// Puts a text at an index, and answers the index after it.
-fn write_words(words: &[u8], at: usize, out: &mut [u8]) -> usize
-    requires { at + len words.now ≤ len out.old }
-    ensures { Puts words.now at result out.old out.new }
+// Writes a line's number in 4 columns.
+fn push_number(line: usize, text: &mut Writer<'_>)
+    requires { (line ≤ 9999) × (text.old.len + 4 ≤ len text.old.out.now) }
+    ensures text { Adds (padded line) text.old text.new }
+    ensures len { text.new.len ≡ text.old.len + 4 }
 {
-    write_bytes(out, at, words);
-    at + words.len()
-}
-
-// Puts a line's number into 4 columns, and answers the index after them.
-fn write_number(line: usize, at: usize, out: &mut [u8]) -> usize
-    requires { (line ≤ 9999) × (at + 4 ≤ len out.old) }
-    ensures puts { Puts (padded line) at result out.old out.new }
-    ensures end { result ≡ at + 4 }
-{
+    // Written apart, since their count says how many spaces stand before them.
     let mut digits = [0u8; 20];
-    let n = write_decimal(&mut digits, 0, line as u64);
+    let mut number = Writer::new(&mut digits);
+    // By `as`: `u64` has no `From<usize>`.
+    number.push_decimal(line as u64);
+    let n = number.len;
     let spaces: &[u8] = b"    ";
-    let next = write_words(&spaces[n..], at, out);
-    write_words(&digits[..n], next, out)
+    text.push_bytes(&spaces[n..]);
+    text.push_bytes(&digits[..n]);
 }
 
 // What stands behind a word: `*` if its mark is not 0.
@@ -72,105 +69,87 @@ fn mark_sign(mark: u8) -> u8
     if mark == 0 { b' ' } else { b'*' }
 }
 
-// Puts a word into 5 columns, and answers the index after them.
-fn write_word(word: u16, mark: u8, at: usize, out: &mut [u8]) -> usize
-    requires { at + 5 ≤ len out.old }
-    ensures puts { Puts (word_text word mark) at result out.old out.new }
-    ensures end { result ≡ at + 5 }
+// Writes a word in 5 columns.
+fn push_word(word: u16, mark: u8, text: &mut Writer<'_>)
+    requires { text.old.len + 5 ≤ len text.old.out.now }
+    ensures text { Adds (word_text word mark) text.old text.new }
+    ensures len { text.new.len ≡ text.old.len + 5 }
 {
-    write_digits(out, at, 16, 4, u64::from(word));
-    out[at + 4] = mark_sign(mark);
-    at + 5
+    text.push_digits(16, 4, u64::from(word));
+    text.push(mark_sign(mark));
 }
 
-// Puts a code's words into 10 columns, and answers the index after them.
-fn write_code(code: Option<Code>, at: usize, out: &mut [u8]) -> usize
-    requires { at + 10 ≤ len out.old }
-    ensures puts { (a : ℕ) → Puts (words_text (places_of a code)) at result out.old out.new }
-    ensures end { result ≡ at + 10 }
+// Writes a code's words in 10 columns.
+#[tactic(auto, unfolding(crate::specs::Printout::words_text, rules::specs::Text::bytes))]
+fn push_code(code: Option<Code>, text: &mut Writer<'_>)
+    requires { text.old.len + 10 ≤ len text.old.out.now }
+    ensures text { (a : ℕ) → Adds (words_text (places_of a code)) text.old text.new }
+    ensures len { text.new.len ≡ text.old.len + 10 }
 {
     match code {
-        None => write_words(b"          ", at, out),
+        None => text.push_bytes(b"          "),
         Some(Code::Word(w)) => {
-            let next = write_word(w, 0, at, out);
-            write_words(b"     ", next, out)
+            push_word(w, 0, text);
+            text.push_bytes(b"     ");
         }
         Some(Code::Value(w, v)) => {
-            let next = write_word(w, 0, at, out);
-            write_word(v, 0, next, out)
+            push_word(w, 0, text);
+            push_word(v, 0, text);
         }
         Some(Code::Label(w, x)) => {
-            let next = write_word(w, 0, at, out);
-            write_word(x, 1, next, out)
+            push_word(w, 0, text);
+            push_word(x, 1, text);
         }
     }
-}
-
-// Puts the line of a verdict at the front, and answers its length.
-fn put_verdict(verdict: Verdict, out: &mut [u8]) -> usize
-    requires { 26 ≤ len out.old }
-    ensures { Printed (line_of verdict) result out.old out.new }
-{
-    let mut text = Writer::new(out);
-    push_verdict(verdict, &mut text);
-    text.len
-}
-
-// Puts it at an index, and answers the index after it.
-fn write_verdict(verdict: Verdict, at: usize, out: &mut [u8]) -> usize
-    requires { at + 26 ≤ len out.old }
-    ensures { Puts (line_of verdict) at result out.old out.new }
-{
-    at + put_verdict(verdict, &mut out[at..])
 }
 
 // ---- Rows.
 
-// Puts what stands before a line's own bytes, and answers the index after it.
-fn write_front(line: usize, address: u32, code: Option<Code>, at: usize, out: &mut [u8]) -> usize
-    requires { (line ≤ 9999) × (at + 27 ≤ len out.old) }
-    ensures puts { Puts (front_text line (digits_of 16 8 address) (words_text (places_of address code))) at result out.old out.new }
-    ensures end { result ≡ at + 27 }
+// Writes what stands before a line's own bytes.
+fn push_front(line: usize, address: u32, code: Option<Code>, text: &mut Writer<'_>)
+    requires { (line ≤ 9999) × (text.old.len + 27 ≤ len text.old.out.now) }
+    ensures text { Adds (front_text line (digits_of 16 8 address) (words_text (places_of address code))) text.old text.new }
+    ensures len { text.new.len ≡ text.old.len + 27 }
 {
-    let a = write_number(line, at, out);
-    let b = write_words(b"  ", a, out);
-    write_digits(out, b, 16, 8, u64::from(address));
-    let c = write_words(b"  ", b + 8, out);
-    let d = write_code(code, c, out);
-    write_words(b" ", d, out)
+    push_number(line, text);
+    text.push_bytes(b"  ");
+    text.push_digits(16, 8, u64::from(address));
+    text.push_bytes(b"  ");
+    push_code(code, text);
+    text.push(b' ');
 }
 
-// Puts what stands behind them, and answers the index after it.
-fn write_end(code: Option<Code>, reason: Verdict, at: usize, out: &mut [u8]) -> usize
-    requires { at + 31 ≤ len out.old }
-    ensures { (a : ℕ) → Puts (end_text (places_of a code) (said_of reason)) at result out.old out.new }
+// Writes what stands behind them.
+#[tactic(auto, unfolding(crate::specs::Printout::end_text))]
+fn push_end(code: Option<Code>, reason: Verdict, text: &mut Writer<'_>)
+    requires { text.old.len + 31 ≤ len text.old.out.now }
+    ensures { (a : ℕ) → Adds (end_text (places_of a code) (said_of reason)) text.old text.new }
 {
     match code {
-        Some(_) => write_words(b"\n", at, out),
+        Some(_) => text.push(b'\n'),
         None => {
-            let next = write_words(b"  <- ", at, out);
-            write_verdict(reason, next, out)
+            text.push_bytes(b"  <- ");
+            push_verdict(reason, text);
         }
     }
 }
 
-// Puts the row of the line `text`, and answers the index after it.
-fn write_row(
+// Writes the row of a line, given its bytes.
+fn push_row(
     line: usize,
     address: u32,
     code: Option<Code>,
     reason: Verdict,
-    text: &[u8],
-    at: usize,
-    out: &mut [u8],
-) -> usize
-    requires { (line ≤ 9999) × (at + 58 + len text.now ≤ len out.old) }
-    ensures puts { Puts (row_text line address (places_of address code) (said_of reason) text.now) at result out.old out.new }
-    ensures upper_bound { result ≤ at + 58 + len text.now }
+    bytes: &[u8],
+    text: &mut Writer<'_>,
+)
+    requires { (line ≤ 9999) × (text.old.len + 58 + len bytes.now ≤ len text.old.out.now) }
+    ensures text { Adds (row_text line address (places_of address code) (said_of reason) bytes.now) text.old text.new }
+    ensures upper_bound { text.new.len ≤ text.old.len + 58 + len bytes.now }
 {
-    let front = write_front(line, address, code, at, out);
-    let end = write_words(text, front, out);
-    write_end(code, reason, end, out)
+    push_front(line, address, code, text);
+    text.push_bytes(bytes);
+    push_end(code, reason, text);
 }
 
 // ---- A line that is read.
@@ -205,130 +184,122 @@ fn task_code(names: Option<&[u8]>, labels: &Labels<'_>, address: u32, task: Task
     }
 }
 
-// Puts the row of the line from `start` to before `end`, whose task is read at an address, and answers the index after it.
-fn write_read(
+// Writes the row of the line in a span, whose task is read at an address. A struct of these parameters would be taken apart at once.
+fn push_read(
     names: Option<&[u8]>,
     labels: &Labels<'_>,
     address: u32,
     task: Task,
     line: usize,
-    start: usize,
-    end: usize,
-    at: usize,
-    out: &mut [u8],
-) -> usize
-    requires { WhyTaskNeeds labels.now address task × LineNeeds labels.now.source line start end at out.old }
-    ensures puts { Puts (read_row (names_in (option_copied names.entry)) labels.now.table (put_of labels.now.source address task) (line_at labels.now.source line start)) at result out.old out.new }
-    ensures start_bound { result + start ≤ at + 58 + end }
+    span: Span,
+    text: &mut Writer<'_>,
+)
+    requires { WhyTaskNeeds labels.now address task × LineNeeds labels.now.source line span text.old }
+    ensures text { Adds (read_row (names_in (option_copied names.entry)) labels.now.table (put_of labels.now.source address task) (line_at labels.now.source line span.start)) text.old text.new }
+    ensures start_bound { text.new.len + span.start ≤ text.old.len + 58 + span.end }
 {
     let code = task_code(names, labels, address, task);
-    let text = &labels.source()[start..end];
-    let reason = line_reason(text, explain::why_task(names, labels, address, task));
-    write_row(line, address, code, reason, text, at, out)
+    let bytes = &labels.source()[span.start..span.end];
+    let reason = line_reason(bytes, explain::why_task(names, labels, address, task));
+    push_row(line, address, code, reason, bytes, text);
 }
 
 // ---- Lines that are not read.
 
-// Puts the row of a line behind END, and answers the index after it.
-fn write_unread(
-    source: &[u8],
-    line: usize,
-    start: usize,
-    end: usize,
-    at: usize,
-    out: &mut [u8],
-) -> usize
-    requires { LineNeeds source.now line start end at out.old }
-    ensures puts { Puts (unread_row (line_at source.now line start)) at result out.old out.new }
-    ensures start_bound { result + start ≤ at + 58 + end }
+// Writes the row of a line behind END.
+fn push_unread(source: &[u8], line: usize, span: Span, text: &mut Writer<'_>)
+    requires { LineNeeds source.now line span text.old }
+    ensures text { Adds (unread_row (line_at source.now line span.start)) text.old text.new }
+    ensures start_bound { text.new.len + span.start ≤ text.old.len + 58 + span.end }
 {
-    let a = write_number(line, at, out);
-    let b = write_words(b"  not read             ", a, out);
-    let c = write_words(&source[start..end], b, out);
-    write_words(b"\n", c, out)
+    push_number(line, text);
+    text.push_bytes(b"  not read             ");
+    text.push_bytes(&source[span.start..span.end]);
+    text.push(b'\n');
 }
 
-// Puts the rows of the lines from the one at `start` on, none of which is read, and answers the index after them.
-fn write_unread_rows(source: &[u8], line: usize, start: usize, at: usize, out: &mut [u8]) -> usize
-    requires { LinesNeeds source.now line start at out.old }
-    ensures { RowsGive source.now line start (flat_map unread_row (lines_from source.now line start)) at result out.old out.new }
+// Writes the rows of the lines from the one at `start` on, none of which is read.
+fn push_unread_rows(source: &[u8], line: usize, start: usize, text: &mut Writer<'_>)
+    requires { LinesNeeds source.now line start text.old }
+    ensures { RowsGive source.now line start (flat_map unread_row (lines_from source.now line start)) text.old text.new }
 {
     let mut k = line;
     let mut i = start;
-    let mut to = at;
-    // No `for`: only a line's end says where the next one starts.
+    // No `for` over the numbers `k` either: only a line's end says where the next one starts, and so how many there are.
     while i <= source.len() {
         let end = outline::outline_line(source, i).end;
-        to = write_unread(source, k, i, end, to, out);
+        push_unread(source, k, Span { start: i, end }, text);
         i = end + 1;
         k += 1;
     }
-    to
 }
 
 // ---- All lines.
 
-// Puts the rows of the lines behind the kept ones, from END on, which is read at an address; answers the index after them.
-fn write_rest(
+// Writes the rows of the lines behind the kept ones, from END on, which is read at an address.
+fn push_rest(
     names: Option<&[u8]>,
     labels: &Labels<'_>,
     address: u32,
     line: usize,
     start: usize,
-    at: usize,
-    out: &mut [u8],
-) -> usize
-    requires { WhyTaskNeeds labels.now address End × LinesNeeds labels.now.source line start at out.old }
-    ensures { (base : ℕ) → RowsGive labels.now.source line start (rows_from (names_in (option_copied names.entry)) labels.now.table base address [] (lines_from labels.now.source line start)) at result out.old out.new }
+    text: &mut Writer<'_>,
+)
+    requires { WhyTaskNeeds labels.now address End × LinesNeeds labels.now.source line start text.old }
+    ensures { (base : ℕ) → RowsGive labels.now.source line start (rows_from (names_in (option_copied names.entry)) labels.now.table base address [] (lines_from labels.now.source line start)) text.old text.new }
 {
     let source = labels.source();
     if source.len() < start {
-        return at;
+        return;
     }
     let end = outline::outline_line(source, start).end;
-    let to = write_read(names, labels, address, Task::End, line, start, end, at, out);
-    write_unread_rows(source, line + 1, end + 1, to, out)
+    let span = Span { start, end };
+    push_read(names, labels, address, Task::End, line, span, text);
+    push_unread_rows(source, line + 1, end + 1, text);
 }
 
-// Puts the rows of all lines at the front, and answers the index after them.
-fn write_rows(
+// Writes the rows of all lines.
+fn push_rows(
     names: Option<&[u8]>,
     labels: &Labels<'_>,
     cells: &[u32],
     pass: Pass,
-    out: &mut [u8],
-) -> usize
-    requires { Holds labels.now cells.now pass × LinesNeeds labels.now.source 1 0 0 out.old }
-    ensures { RowsGive labels.now.source 1 0 (rows_from (names_in (option_copied names.entry)) labels.now.table pass.base pass.base (puts_of labels.now.source pass.base cells.now pass.lines) (lines_of labels.now.source)) 0 result out.old out.new }
+    text: &mut Writer<'_>,
+)
+    requires { Holds labels.now cells.now pass × LinesNeeds labels.now.source 1 0 text.old }
+    ensures { RowsGive labels.now.source 1 0 (rows_from (names_in (option_copied names.entry)) labels.now.table pass.base pass.base (puts_of labels.now.source pass.base cells.now pass.lines) (lines_of labels.now.source)) text.old text.new }
 {
     let mut address = pass.base;
     let source = labels.source();
     let mut i = 0;
-    let mut to = 0;
+    // By index: a line's cells are read at its number, and only its end says where the next one starts.
     for k in 0..pass.lines {
         let kept = cells::kept_line(cells, k);
         let end = outline::outline_line(source, i).end;
-        to = write_read(names, labels, address, kept.task, k + 1, i, end, to, out);
+        let span = Span { start: i, end };
+        push_read(names, labels, address, kept.task, k + 1, span, text);
+        // By `as`: a kept line's address has 32 bits.
         address = cells::address_after(kept, pass.base, address) as u32;
         i = end + 1;
     }
-    write_rest(names, labels, address, pass.lines + 1, i, to, out)
+    push_rest(names, labels, address, pass.lines + 1, i, text);
 }
 
 // ---- The printout.
 
-// Puts an empty line and the labels at an index, if there are labels, and answers the index after them.
-fn write_labels(labels: &Labels<'_>, base: u32, at: usize, out: &mut [u8]) -> usize
-    requires { (at + 131073 ≤ len out.old) × (len (symbols_text base labels.now.source) ≤ 131072) }
-    ensures { Puts (under_rows labels.now.table (symbols_text base labels.now.source)) at result out.old out.new }
+// Writes an empty line and the labels, if there are labels.
+fn push_labels(labels: &Labels<'_>, base: u32, text: &mut Writer<'_>)
+    requires { (text.old.len + 131073 ≤ len text.old.out.now) × (len (symbols_text base labels.now.source) ≤ 131072) }
+    ensures { Adds (under_rows labels.now.table (symbols_text base labels.now.source)) text.old text.new }
 {
     if labels.len() == 0 {
-        return at;
+        return;
     }
+    // Put apart: `write_symbols` puts its text at an array's front.
     let mut symbols = [0u8; TEXT];
     let n = symtext::write_symbols(labels.source(), base, &mut symbols);
-    let next = write_words(b"\n", at, out);
-    write_words(&symbols[..n], next, out)
+    text.push(b'\n');
+    text.push_bytes(&symbols[..n]);
 }
 
 // Puts the printout of a source whose pass is kept at the front, and answers its length.
@@ -342,8 +313,10 @@ fn write_page(
     requires { Holds labels.now cells.now pass × (401410 ≤ len out.old) }
     ensures { Printed (page_text (names_in (option_copied names.entry)) pass.base labels.now.source (pass_in labels.now cells.now pass)) result out.old out.new }
 {
-    let at = write_rows(names, labels, cells, pass, out);
-    write_labels(labels, pass.base, at, out)
+    let mut text = Writer::new(out);
+    push_rows(names, labels, cells, pass, &mut text);
+    push_labels(labels, pass.base, &mut text);
+    text.len
 }
 
 // Puts the printout of a source at a base, by the names in use, or the line of its refusal, at the front, and answers its length.
@@ -373,6 +346,7 @@ pub fn write_printout(source: &[u8], base: u32, out: &mut [u8; PRINTOUT]) -> usi
 }
 
 /// The same under the branch table `names`, which is refused before all else.
+// Two calls, and no `Option` of a table: the public calls keep what they take.
 pub fn write_printout_branches(
     names: &[u8],
     source: &[u8],

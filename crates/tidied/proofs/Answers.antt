@@ -16,7 +16,6 @@ use Rattle.source.proofs.Callers.{checks_clear, stopped}
 use Rattle.requests.specs.Tidy.{tidy, room_for, tidy_answer, write_copy, tidy_slice}
 use Rattle.promises.specs.Tidy.{CopyIsShort}
 use Rattle.tidylaws.proofs.Short.{copy_is_short}
-use Rattle.tidied.specs.Copy.{Adds}
 
 -- ---- by the room
 module _ (t old : Text) where
@@ -41,20 +40,14 @@ module _ (t old : Text) where
 pub apart_room : (s : Text) → length s ≤ max_source → length s ≤ length (replicate {A = ℕ} 32768 0)
 apart_room s h = rw (length-replicate {A = ℕ} 32768 0) h
 
-module _ {t old : Text} {n : ℕ} {copy : Text} (a : Adds t 0 old n copy) where
-  pub front_counted : n ≡ length t
-  front_counted = omega (arith, a.counted)
-
-  front_over : copy ≡ over t old
-  front_over = a.after ∙ put_over t old
-
-  pub front_is : take n copy ≡ t
+module _ (t old : Text) {n : ℕ} {copy : Text} (e : n ≡ length t) (g : copy ≡ over t old) where
+  front_is : take n copy ≡ t
   unfolding over
-  front_is = rw front_over (take_at t _ n (sym front_counted))
+  front_is = rw g (take_at t _ n (sym e))
 
   pub front_within : n ≤ length copy
   unfolding over
-  front_within = omega (arith, ap length front_over, length-append t (drop (length t) old), front_counted)
+  front_within = omega (arith, ap length g, length-append t (drop (length t) old))
 
   pub front_length : n ≡ length (take n copy)
   front_length = sym (length-take-le n copy front_within)
@@ -64,10 +57,10 @@ module _ {t old : Text} {n : ℕ} {copy : Text} (a : Adds t 0 old n copy) where
     front_fits = omega (arith, front_length)
 
     pub apart_answer : {last : Text} → last ≡ over_from 0 (take n copy) out → (accepted n ≡ (room_for (length out) t)) × (last ≡ write_copy (room_for (length out) t) t out)
-    apart_answer g = copied_answer t out front_counted h (g ∙ rw front_is (put_over t out))
+    apart_answer f = copied_answer t out e h (f ∙ rw front_is (put_over t out))
 
   pub apart_short : (out : Text) → length out < n → (refused 18 n ≡ (room_for (length out) t)) × (out ≡ write_copy (room_for (length out) t) t out)
-  apart_short out h = short_answer t out front_counted h
+  apart_short out h = short_answer t out e h
 
 -- ---- `tidy_copy`
 module _ (s out : Text) where
@@ -84,7 +77,7 @@ module _ (s out : Text) where
     unfolding tidy_answer tidy_slice
     cleared_answer a = rw (checks_clear s c (room_for (length out) (tidy s))) a
 
-  pub in_place : length s ≤ length out → {n : ℕ} {last : Text} → Adds (tidy s) 0 out n last
+  pub in_place : length s ≤ length out → {n : ℕ} {last : Text} → n ≡ length (tidy s) → last ≡ over (tidy s) out
       → (accepted n ≡ (room_for (length out) (tidy s))) × (last ≡ write_copy (room_for (length out) (tidy s)) (tidy s) out)
   unfolding CopyIsShort
-  in_place h a = copied_answer (tidy s) out (front_counted a) (omega (arith, front_counted a, copy_is_short s)) (a.after ∙ put_over (tidy s) out)
+  in_place h e g = copied_answer (tidy s) out e (omega (arith, copy_is_short s)) g

@@ -1,14 +1,14 @@
--- What the copy gains by a line, and what the loop of `write_lines` keeps. Assumes nothing.
+-- What a line adds to the copy, and what the loop of `write_lines` keeps. Assumes nothing.
 use Rattle.std.specs.Prelude.{Option, None, Some}
 use mathlib.Core.Path.{◌≡◌, refl, sym, ap, ◌∙◌}
-use mathlib.Core.Bool.{Bool, true, false, not}
+use mathlib.Core.Bool.{Bool, true, false}
 use mathlib.Core.List.{List, [], ◌∷◌, ◌++◌, append-nil, append_assoc}
 use Prim.Native.Nat.{ℕ, zero, suc, ◌+◌, ◌-◌, ◌≤◌, ◌<◌}
 use native.Mathlib.Numerals.{add-one}
 use native.Mathlib.Omega.{arith}
-use borrow.Author.Tests.{not-true, not-false, eqb-true, eqb-false}
+use borrow.Author.Tests.{eqb-true, eqb-false}
 use lib.Dec.{eqb}
-use lib.ListN.{length, take, drop, get_or, set, length-append, drop_of_length-le}
+use lib.ListN.{length, take, drop, get_or, length-append, drop_of_length-le}
 use lib.Seq.{drop-drop, drop-cons, length-take-le}
 use Rattle.rules.specs.Text.{Text, leading, trim, cut_where, cut_at, other_texts}
 use Rattle.rules.specs.Line.{Task, Line as Said, line_of}
@@ -28,44 +28,21 @@ use Rattle.tidylaws.proofs.Shapes.{open_of, Fits, fits_skip, fits_end, fits_org,
 use Rattle.tidylaws.proofs.Reading.{some_open}
 use Rattle.tidied.specs.declared.Way.{Way}
 use Rattle.tidied.specs.declared.Way.TheVariants.{Squeezed, Parted as InParts}
-use Rattle.tidied.specs.Copy.{Adds, way_of, line_break, copy_text, addition}
-use Rattle.tidied.proofs.Adding.{adds_none, adds_one, adds_as, adds_long, adds_both}
+use Rattle.listing.specs.declared.writer.Writer.{Writer}
+use Rattle.listing.specs.Writer.{Adds}
+use Rattle.listing.proofs.Adding.{adds_none, adds_as, adds_both}
+use Rattle.tidied.specs.Copy.{way_of, line_break, copy_text, addition}
 
--- ---- `put_break`
-pub break_zero : (n : ℕ) (old : Text) → n ≡ 0 → Adds (line_break n) n old 0 old
-break_zero zero old e = adds_none 0 old
-break_zero (suc n) old e = absurd (omega arith)
-
-module _ (n : ℕ) (old : Text) (h : n + length (line_break n) ≤ length old) (d : n ≡ 0 → ⊥) where
-  pub break_fits : n < length old
-  break_fits = go n h d
-    where
-      go : (n : ℕ) → n + length (line_break n) ≤ length old → (n ≡ 0 → ⊥) → n < length old
-      go zero h d = absurd (d refl)
-      go (suc n) h d = omega arith
-
-  pub break_put : Adds (line_break n) n old (n + 1) (set old n 10)
-  break_put = go n d (adds_one 10 n old break_fits)
-    where
-      go : (n : ℕ) → (n ≡ 0 → ⊥) → Adds (10 ∷ []) n old (n + 1) (set old n 10) → Adds (line_break n) n old (n + 1) (set old n 10)
-      go zero d a = absurd (d refl)
-      go (suc n) d a = a
-
--- ---- `add_line`
--- after the break
-module _ {n : ℕ} {old : Text} {m : ℕ} {mid : Text} (a : Adds (line_break n) n old m mid) (s : Text) (h : n + length (line_break n) + length s ≤ length old) where
-  pub line_room : m + length s ≤ length mid
-  line_room = omega (arith, a.counted, adds_long a (omega arith))
-
-  pub line_added : (w : Way) {r : ℕ} {last : Text} → Adds (copy_text w s) m mid r last → Adds (addition (Some w) n s) n old r last
-  line_added w b = adds_both a (copy_text w s) (addition (Some w) n s) refl (omega arith) b
+-- no break is put where nothing is written
+pub break_none : (w : Writer) → w.len ≡ 0 → Adds (line_break w.len) w w
+break_none w e = adds_as (adds_none w (rw e (omega arith))) (sym (ap line_break e))
 
 -- no line adds more than itself and a break
 copy_le : (w : Way) (s : Text) → length (copy_text w s) ≤ length s
 copy_le InParts s = open_le (open_of s)
 copy_le Squeezed s = squeezed_le s
 
-pub addition_le : (o : Option Way) (n : ℕ) (s : Text) → length (addition o n s) ≤ length (line_break n) + length s
+addition_le : (o : Option Way) (n : ℕ) (s : Text) → length (addition o n s) ≤ length (line_break n) + length s
 addition_le (Some w) n s = rw (length-append (line_break n) (copy_text w s)) (omega (arith, copy_le w s))
 addition_le None n s = omega arith
 
@@ -148,30 +125,30 @@ module _ (t : Text) (i : ℕ) (l : i ≤ length t) where
       cut_line ∙ rw (drop-cons t (line_end t i) 0 h, cut_here (eqb 10) (get_or t (line_end t i) 0) (drop (suc (line_end t i)) t) b, add-one (line_end t i))
 
 -- ---- the loop of `write_lines`
--- after n bytes, before the line that starts at i: so far the copy is not longer than the source, and what is still to come
-pub record Copying (source old : Text) (i n : ℕ) (out : Text) : Type 0 where
+-- by the writer v, which was w at first, before the line that starts at i: so far the copy is not longer than the source, and what is
+-- still to come
+pub record Copying (source : Text) (w : Writer) (i : ℕ) (v : Writer) : Type 0 where
   pub upto : i ≤ length source
-  pub room : length source ≤ length old
-  pub behind : n + length (line_break n) ≤ i
-  pub long : length out ≡ length old
+  pub room : length source ≤ length w.out.now
+  pub behind : v.len + length (line_break v.len) ≤ i
   pub done : Text
-  pub adds : Adds done 0 old n out
-  pub left : done ++ rest n (tidy_lines (cut_at 10 (drop i source))) ≡ tidy source
+  pub adds : Adds done w v
+  pub left : done ++ rest v.len (tidy_lines (cut_at 10 (drop i source))) ≡ tidy source
 
-pub copying_start : (source old : Text) → length source ≤ length old → Copying source old 0 0 old
+pub copying_start : (source : Text) (w : Writer) → w.len ≡ 0 → length source ≤ length w.out.now → Copying source w 0 w
 unfolding tidy rest
-copying_start source old h = record { upto = omega arith; room = h; behind = omega arith; long = refl; done = []; adds = adds_none 0 old; left = refl }
+copying_start source w z h = record { upto = omega arith; room = h; behind = rw z (omega arith); done = []; adds = adds_none w (omega arith); left = rw z }
 
 break_le : (m : ℕ) → length (line_break m) ≤ 1
 break_le zero = omega arith
 break_le (suc m) = omega arith
 
 -- the line at i, which ends at e: its text s, what it says, and the way that it is copied
-module _ {source old : Text} {i n : ℕ} {out : Text} (w : Copying source old i n out)
+module _ {source : Text} {w : Writer} {i : ℕ} {v : Writer} (o : Copying source w i v)
     {e : ℕ} (q : e ≡ line_end source i) {r : Line} (g : ReadLineGives source i r) {s : Text} (p : s ≡ trim (take (e - i) (drop i source)))
     {x : Option Way} (f : x ≡ way_of (task_at source r.task)) where
   pub copying_within : (i ≤ e) × (e ≤ length source)
-  copying_within = (omega arith, omega (arith, line_end_le source i w.upto))
+  copying_within = (omega arith, omega (arith, line_end_le source i o.upto))
 
   abbrev line : Text
   line = line_from source i
@@ -188,71 +165,64 @@ module _ {source old : Text} {i n : ℕ} {out : Text} (w : Copying source old i 
   task_is : k ≡ (line_of line).task
   task_is = ap (λ (l : Said). l.task) g.says
 
-  pub adding_room : n + length (line_break n) + length s ≤ length out
-  adding_room = omega (arith, w.behind, w.long, w.room, s_le, copying_within)
+  pub adding_room : v.len + length (line_break v.len) + length s ≤ length v.out.now
+  adding_room = omega (arith, o.behind, o.adds.room, o.room, s_le, copying_within)
 
   -- the lines after this one
   later : List Text → Text
-  later ls = after (is_end k) (n + length (addition x n s)) (tidy_lines ls)
+  later ls = after (is_end k) (v.len + length (addition x v.len s)) (tidy_lines ls)
 
-  split : (ls : List Text) → rest n (tidy_lines (line ∷ ls)) ≡ addition x n s ++ later ls
+  split : (ls : List Text) → rest v.len (tidy_lines (line ∷ ls)) ≡ addition x v.len s ++ later ls
   unfolding later
-  split ls = step_line n line ls k task_is ∙ rw (f, s_is)
+  split ls = step_line v.len line ls k task_is ∙ rw (f, s_is)
 
-  split_last : e ≡ length source → rest n (tidy_lines (cut_at 10 (drop i source))) ≡ addition x n s ++ later []
-  split_last h = rw (last_line source i w.upto (sym q ∙ h)) (split [])
+  split_last : e ≡ length source → rest v.len (tidy_lines (cut_at 10 (drop i source))) ≡ addition x v.len s ++ later []
+  split_last h = rw (last_line source i o.upto (sym q ∙ h)) (split [])
 
-  split_next : (e ≡ length source → ⊥) → rest n (tidy_lines (cut_at 10 (drop i source))) ≡ addition x n s ++ later (cut_at 10 (drop (e + 1) source))
+  split_next : (e ≡ length source → ⊥) → rest v.len (tidy_lines (cut_at 10 (drop i source))) ≡ addition x v.len s ++ later (cut_at 10 (drop (e + 1) source))
   split_next d =
-      let c : cut_at 10 (drop i source) ≡ line ∷ cut_at 10 (drop (e + 1) source) = rw q (next_line source i w.upto (λ z. d (q ∙ z))) in
+      let c : cut_at 10 (drop i source) ≡ line ∷ cut_at 10 (drop (e + 1) source) = rw q (next_line source i o.upto (λ z. d (q ∙ z))) in
       rw c (split (cut_at 10 (drop (e + 1) source)))
 
-  module _ {m : ℕ} {out' : Text} (a : Adds (addition x n s) n out m out') where
-    added_le : length (addition x n s) ≤ length (line_break n) + length s
-    added_le = addition_le x n s
-
-    pub copying_long : length out' ≡ length old
-    copying_long = adds_long a (omega (arith, added_le, adding_room)) ∙ w.long
-
-    so_far : Adds (w.done ++ addition x n s) 0 old m out'
-    so_far = adds_both w.adds (addition x n s) (w.done ++ addition x n s) refl (omega arith) a
+  module _ {u : Writer} (a : Adds (addition x v.len s) v u) where
+    so_far : Adds (o.done ++ addition x v.len s) w u
+    so_far = adds_both o.adds a
 
     -- with nothing after this line the copy is written
-    finished : {y : Text} → rest n (tidy_lines (cut_at 10 (drop i source))) ≡ addition x n s ++ y → y ≡ [] → Adds (tidy source) 0 old m out'
-    finished {y} h z = adds_as so_far (sym w.left ∙ rw (h, z, append-nil (addition x n s)))
+    finished : {y : Text} → rest v.len (tidy_lines (cut_at 10 (drop i source))) ≡ addition x v.len s ++ y → y ≡ [] → Adds (tidy source) w u
+    finished {y} h z = adds_as so_far (sym (sym o.left ∙ rw (h, z, append-nil (addition x v.len s))))
 
-    pub copying_end : e ≡ length source → Adds (tidy source) 0 old m out'
+    pub copying_end : e ≡ length source → Adds (tidy source) w u
     unfolding later after tidy_lines
     copying_end h = finished (split_last h) (go (is_end k))
       where
-        go : (y : Bool) → after y (n + length (addition x n s)) [] ≡ []
+        go : (y : Bool) → after y (v.len + length (addition x v.len s)) [] ≡ []
         go true = refl
-        go false = rest_none (n + length (addition x n s))
+        go false = rest_none (v.len + length (addition x v.len s))
 
-    module _ {b : Bool} (v : b ≡ is_end k) where
-      pub copying_last : b ≡ true → Adds (tidy source) 0 old m out'
+    module _ {b : Bool} (m : b ≡ is_end k) where
+      pub copying_last : b ≡ true → Adds (tidy source) w u
       unfolding later after
       copying_last t = go (eqb e (length source)) refl
         where
           nothing : (ls : List Text) → later ls ≡ []
-          nothing ls = rw (sym v ∙ t)
+          nothing ls = rw (sym m ∙ t)
 
-          go : (y : Bool) → eqb e (length source) ≡ y → Adds (tidy source) 0 old m out'
+          go : (y : Bool) → eqb e (length source) ≡ y → Adds (tidy source) w u
           go true z = copying_end (eqb-true e (length source) z)
           go false z = finished (split_next (eqb-false e (length source) z)) (nothing (cut_at 10 (drop (e + 1) source)))
 
       module _ (t : b ≡ false) (d : e ≡ length source → ⊥) where
-        pub copying_more : Copying source old (e + 1) m out'
+        pub copying_more : Copying source w (e + 1) u
         unfolding later after
         copying_more =
             record {
               upto = omega (arith, copying_within);
-              room = w.room;
-              behind = omega (arith, a.counted, added_le, s_le, w.behind, break_le m, copying_within);
-              long = copying_long;
-              done = w.done ++ addition x n s;
+              room = o.room;
+              behind = omega (arith, a.len, addition_le x v.len s, s_le, o.behind, break_le u.len, copying_within);
+              done = o.done ++ addition x v.len s;
               adds = so_far;
-              left = append_assoc w.done (addition x n s) _ ∙ (rw (split_next d, ← v, t, ← a.counted) at w.left);
+              left = append_assoc o.done (addition x v.len s) _ ∙ (rw (split_next d, ← m, t, ← a.len) at o.left);
             }
 
         pub copying_less : length source - (e + 1) < length source - i

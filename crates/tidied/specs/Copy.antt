@@ -1,20 +1,19 @@
--- What the writers of a tidy copy hand to each other: a text written after others, how a line is copied, what it adds. Assumes nothing.
-use Rattle.std.specs.Prelude.{ℕ, zero, suc, ◌+◌, ◌≡◌, [], ◌∷◌, ◌++◌, length, Option, None, Some}
+-- What the writers of a tidy copy hand to each other: a name, the colon of data, how a line is copied, what it adds. Assumes nothing.
+use Rattle.std.specs.Prelude.{ℕ, zero, suc, cond, [], ◌∷◌, ◌++◌, Option, None, Some}
 use Rattle.rules.specs.Text.{Text, trim}
-use Rattle.rules.specs.Line.{Task, skipped, end, org, no_org, label_only, instruction, value, space}
-use Rattle.text.specs.Spans.{over_from}
+use Rattle.rules.specs.Line.{Task, skipped, end, org, no_org, label_only, instruction, value, space, is_data}
+use Rattle.text.specs.Find.{index_of}
 use Rattle.requests.specs.Tidy.{squeezed, around_colon, tidy_rest}
 use Rattle.tidied.specs.declared.Way.{Way}
 use Rattle.tidied.specs.declared.Way.TheVariants.{Squeezed, Parted}
 
--- t is written after the first n bytes of a slice; r is the length with it, and the slice afterwards is new
-pub record Adds (t : Text) (n : ℕ) (old : Text) (r : ℕ) (new : Text) : Type 0 where
-  pub counted : r ≡ n + length t
-  pub after : new ≡ over_from n t old
-
 -- a name without outer blanks, and the colon after it
 abbrev pub named : Text → Text
 named l = trim l ++ (58 ∷ [])
+
+-- where the colon stands that is treated in what follows the first one
+unfoldable pub second_colon : Text → Option ℕ
+second_colon s = cond (is_data s) (index_of 58 s) None
 
 -- how a line of a task is copied, if it is: one that reaches step 4 by its colons
 unfoldable pub way_of : Task → Option Way

@@ -1,30 +1,31 @@
 #![tactic(auto)]
 
 //! The tidy copy of a source (W-212): each line that is read, written one after another. A copy is never longer than its source, so the
-//! writers ask for as much room as the text that they copy has.
-// A text is written into the slice that is lent, after its first n bytes, and no `Writer` of `listing` is used: its slice is its own, and
-// `join_pieces` joins in place, in the rest of the slice.
+//! writers ask for as much room as the text that they copy has. There is no heap: the copy is put at the front of a slice that is lent.
 ghost use Rattle.std.specs.Prelude.{◌≡◌, ◌+◌, ◌<◌, ◌≤◌, length, take};
 ghost use Rattle.rules.specs.Limits.{max_source};
 ghost use Rattle.rules.specs.Text.{Text};
 ghost use Rattle.rules.specs.Line.{is_data};
+ghost use Rattle.rules.specs.Assemble.{over};
 ghost use Rattle.answer.specs.Refusal.{answer_of};
 ghost use Rattle.line.specs.Line.{task_at};
+ghost use Rattle.listing.specs.Writer.{Adds};
 ghost use Rattle.requests.specs.Tidy.{squeezed, around_colon, tidy_rest, tidy, room_for, tidy_answer, write_copy, tidy_slice};
-ghost use Rattle.tidied.specs.Copy.{Adds, named, way_of, line_break, addition};
+ghost use Rattle.tidied.specs.Copy.{named, second_colon, way_of, line_break, addition};
 
 use answer::Refusal;
 use line::Task;
+use listing::writer::Writer;
 
 // ---- One line.
 
-// The pieces of a text, joined by one space, after the first n bytes of `out`; the length with them.
-fn squeeze(t: &[u8], out: &mut [u8], n: usize) -> usize
-    requires { n + length t.now ≤ length out.old }
-    ensures { Adds (squeezed t.now) n out.old result out.new }
+// The pieces of a text, joined by one space in the rest of the slice.
+fn squeeze(t: &[u8], copy: &mut Writer<'_>)
+    requires { copy.old.len + length t.now ≤ length copy.old.out.now }
+    ensures { Adds (squeezed t.now) copy.old copy.new }
 {
-    let m = instruction::join_pieces(t, 0, &mut out[n..]);
-    n + m
+    let m = instruction::join_pieces(t, 0, &mut copy.out[copy.len..]);
+    copy.len += m;
 }
 
 // Upper-cased, the text contains `DC.` or `DS.`.
@@ -36,46 +37,54 @@ fn is_data(s: &[u8]) -> bool
 }
 
 // The name before the colon at c, without the blanks around it, and the colon.
-fn write_name(s: &[u8], c: usize, out: &mut [u8], n: usize) -> usize
-    requires { (c < length s.now) × (n + length s.now ≤ length out.old) }
-    ensures { Adds (named (take c s.now)) n out.old result out.new }
+fn write_name(s: &[u8], c: usize, copy: &mut Writer<'_>)
+    requires { (c < length s.now) × (copy.old.len + length s.now ≤ length copy.old.out.now) }
+    ensures { Adds (named (take c s.now)) copy.old copy.new }
 {
-    let name = text::trimmed(&s[..c]);
-    let m = n + name.len();
-    listing::writing::write_bytes(out, n, name);
-    out[m] = b':';
-    m + 1
+    copy.push_bytes(text::trimmed(&s[..c]));
+    copy.push(b':');
 }
 
-// What follows the first colon: the second one is treated so only where this is data. One function with `write_parts` by a closure for the
-// rest is no plainer: the test and the trim differ.
-fn write_rest(s: &[u8], out: &mut [u8], n: usize) -> usize
-    requires { n + length s.now ≤ length out.old }
-    ensures { Adds (tidy_rest s.now) n out.old result out.new }
+// The first colon of what follows a colon, which is looked for only where this is data. No `then`: what is found is an `Option` itself.
+#[tactic(auto, unfolding(crate::specs::Copy::second_colon))]
+fn second_colon(s: &[u8]) -> Option<usize>
+    ensures { result ≡ second_colon s.now }
 {
-    if !is_data(s) {
-        return squeeze(s, out, n);
+    if is_data(s) {
+        text::find_byte(s, b':')
+    } else {
+        None
     }
-    let Some(c) = text::find_byte(s, b':') else {
-        return squeeze(s, out, n);
-    };
-    let m = write_name(s, c, out, n);
-    let after = c + 1;
-    squeeze(&s[after..], out, m)
+}
+
+// What follows the first colon. One function with `write_parts` by a closure for the rest is no plainer: the colon and the trim differ.
+#[tactic(auto, using(crate::proofs::Colons::second_within))]
+fn write_rest(s: &[u8], copy: &mut Writer<'_>)
+    requires { copy.old.len + length s.now ≤ length copy.old.out.now }
+    ensures { Adds (tidy_rest s.now) copy.old copy.new }
+{
+    match second_colon(s) {
+        Some(c) => {
+            write_name(s, c, copy);
+            squeeze(&s[c + 1..], copy);
+        }
+        None => squeeze(s, copy),
+    }
 }
 
 // A line that reaches step 4, without its outer blanks: the texts around its first colon.
-fn write_parts(s: &[u8], out: &mut [u8], n: usize) -> usize
-    requires { n + length s.now ≤ length out.old }
-    ensures { Adds (around_colon tidy_rest s.now) n out.old result out.new }
+#[tactic(auto, using(crate::proofs::Colons::colon_within))]
+fn write_parts(s: &[u8], copy: &mut Writer<'_>)
+    requires { copy.old.len + length s.now ≤ length copy.old.out.now }
+    ensures { Adds (around_colon tidy_rest s.now) copy.old copy.new }
 {
-    let Some(c) = text::find_byte(s, b':') else {
-        return squeeze(s, out, n);
-    };
-    let m = write_name(s, c, out, n);
-    let after = c + 1;
-    let rest = text::trimmed(&s[after..]);
-    write_rest(rest, out, m)
+    match text::find_byte(s, b':') {
+        Some(c) => {
+            write_name(s, c, copy);
+            write_rest(text::trimmed(&s[c + 1..]), copy);
+        }
+        None => squeeze(s, copy),
+    }
 }
 
 // ---- The lines.
@@ -103,39 +112,36 @@ fn way_of(task: Task) -> Option<Way>
     }
 }
 
-// A byte 10 after the first n bytes of `out`, unless there are none; the length with it.
-fn put_break(out: &mut [u8], n: usize) -> usize
-    requires { n + length (line_break n) ≤ length out.old }
-    ensures { Adds (line_break n) n out.old result out.new }
+// A byte 10, unless nothing is written yet.
+fn put_break(copy: &mut Writer<'_>)
+    requires { copy.old.len + length (line_break copy.old.len) ≤ length copy.old.out.now }
+    ensures { Adds (line_break copy.old.len) copy.old copy.new }
 {
-    if n == 0 {
-        return 0;
-    }
-    out[n] = 10;
-    n + 1
-}
-
-// A line's copy after the first n bytes of `out`, if it has a way; s has no outer blanks.
-fn add_line(s: &[u8], way: Option<Way>, out: &mut [u8], n: usize) -> usize
-    requires { n + length (line_break n) + length s.now ≤ length out.old }
-    ensures { Adds (addition way n s.now) n out.old result out.new }
-{
-    let Some(way) = way else {
-        return n;
-    };
-    let m = put_break(out, n);
-    match way {
-        Way::Squeezed => squeeze(s, out, m),
-        Way::Parted => write_parts(s, out, m),
+    if copy.len != 0 {
+        copy.push(b'\n');
     }
 }
 
-// The copy of a source at the front of `out`; its length.
-fn write_lines(source: &[u8], out: &mut [u8]) -> usize
-    requires { length source.now ≤ length out.old }
-    ensures { Adds (tidy source.now) 0 out.old result out.new }
+// A line's copy, if it has a way; s has no outer blanks.
+fn add_line(s: &[u8], way: Option<Way>, copy: &mut Writer<'_>)
+    requires { copy.old.len + length (line_break copy.old.len) + length s.now ≤ length copy.old.out.now }
+    ensures { Adds (addition way copy.old.len s.now) copy.old copy.new }
 {
-    let mut n = 0;
+    if let Some(way) = way {
+        put_break(copy);
+        match way {
+            Way::Squeezed => squeeze(s, copy),
+            Way::Parted => write_parts(s, copy),
+        }
+    }
+}
+
+// The copies of a source's lines, where nothing is written yet.
+fn write_lines(source: &[u8], copy: &mut Writer<'_>)
+    requires empty { copy.old.len ≡ 0 }
+    requires room { length source.now ≤ length copy.old.out.now }
+    ensures { Adds (tidy source.now) copy.old copy.new }
+{
     let mut at = 0;
     // Where the next line starts comes of this one, so this is no `for`.
     loop {
@@ -145,15 +151,26 @@ fn write_lines(source: &[u8], out: &mut [u8]) -> usize
         let task = line.task;
         let way = way_of(task);
         let s = text::trimmed(&source[at..end]);
-        n = add_line(s, way, out, n);
+        add_line(s, way, copy);
         if line::is_end(task) || end == source.len() {
-            return n;
+            return;
         }
         at = end + 1;
     }
 }
 
 // ---- The call.
+
+// The copy of a source at the front of `out`; its length.
+fn write_source(source: &[u8], out: &mut [u8]) -> usize
+    requires { length source.now ≤ length out.old }
+    ensures value { result ≡ length (tidy source.now) }
+    ensures out_after { out.new ≡ over (tidy source.now) out.old }
+{
+    let mut copy = Writer::new(out);
+    write_lines(source, &mut copy);
+    copy.len
+}
 
 // The copy of a source for which `out` may be too short: it is made apart first.
 fn copy_apart(source: &[u8], out: &mut [u8]) -> Result<usize, Refusal>
@@ -162,7 +179,7 @@ fn copy_apart(source: &[u8], out: &mut [u8]) -> Result<usize, Refusal>
     ensures out_after { out.new ≡ write_copy (room_for (length out.old) (tidy source.now)) (tidy source.now) out.old }
 {
     let mut copy = [0u8; rules::MAX_SOURCE];
-    let n = write_lines(source, &mut copy);
+    let n = write_source(source, &mut copy);
     if out.len() < n {
         return Err(Refusal::LongCopy(n));
     }
@@ -178,7 +195,7 @@ pub fn tidy_copy(source: &[u8], out: &mut [u8]) -> Result<usize, Refusal>
 {
     source::check_source(source)?;
     if source.len() <= out.len() {
-        return Ok(write_lines(source, out));
+        return Ok(write_source(source, out));
     }
     copy_apart(source, out)
 }

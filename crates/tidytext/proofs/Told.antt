@@ -1,5 +1,5 @@
 -- From the call's answer to what is printed and said; and an input that is a script, by where its reader stands. Assumes nothing.
-use Prim.Native.Nat.{ℕ, ◌+◌, ◌<◌, ◌≤◌, min}
+use Prim.Native.Nat.{ℕ, ◌+◌, ◌-◌, ◌<◌, ◌≤◌, min}
 use mathlib.Core.Path.{◌≡◌, refl, sym, ap, ◌∙◌}
 use mathlib.Core.Bool.{Bool, true, false, false≢true, cond}
 use mathlib.Core.List.{List, [], ◌++◌, append_assoc}
@@ -7,9 +7,10 @@ use native.Mathlib.Nat.{min-eq_left, min-eq_right}
 use native.Mathlib.Omega.{arith}
 use borrow.Author.Tests.{lt-ltb, le-ltb, ltb-true, ltb-false}
 use lib.Dec.{ltb}
-use lib.ListN.{length, take, drop, length-append}
-use lib.Seq.{take_all, take_at}
-use Rattle.rules.specs.Text.{Text, cut_at}
+use lib.ListN.{length, take, drop, take-append-drop}
+use lib.Seq.{take_all, drop-drop, length-take-le}
+use Rattle.std.proofs.lemmas.List.{drop-take}
+use Rattle.rules.specs.Text.{Text}
 use Rattle.rules.specs.Answer.{Answer, accepted, refused, refuse_if}
 use Rattle.rules.specs.Assemble.{checks, over}
 use Rattle.requests.specs.Tidy.{tidy, room_for, tidy_answer, write_copy, tidy_slice}
@@ -17,8 +18,6 @@ use Rattle.promises.specs.Tidy.{CopyIsShort}
 use Rattle.promises.proofs.Accepted.{not_refused, checks_passed}
 use Rattle.tidylaws.proofs.Short.{copy_is_short}
 use Rattle.tidylaws.proofs.Call.{tidy_writes}
-use Rattle.text.specs.Spans.{over_from}
-use Rattle.text.proofs.Over.{put_over}
 use Rattle.std.specs.Prelude.{Result, Ok, Err}
 use Rattle.std.specs.Result.{result_unwrap_or}
 use Rattle.answer.specs.declared.Refusal.{Refusal}
@@ -113,43 +112,46 @@ capped room s = go (ltb 32768 (length s)) refl
     go true e = let k = ltb-true 32768 (length s) e in checks_long s (room_for (min room 32768) (tidy s)) k ∙ sym (checks_long s (room_for room (tidy s)) k)
     go false e = ap (checks s) (room_capped room s (ltb-false 32768 (length s) e))
 
--- the part lent is y before the call and z after it
-module _ (room : ℕ) (s y z : Text) {r : Answer ℕ} (g : r ≡ tidy_answer (length y) s) (f : z ≡ tidy_slice s y) (l : length y ≡ min room 32768) where
+-- a text over a part is over the whole
+rest_of_part : (m j : ℕ) (l : Text) → drop m (take (m + j) l) ++ drop (m + j) l ≡ drop m l
+rest_of_part m j l = rw (drop-take m j l, ← (drop-drop j m l)) (take-append-drop j (drop m l))
+
+over_part : (t l : Text) (k : ℕ) → length t ≤ k → over t (take k l) ++ drop k l ≡ over t l
+unfolding over
+over_part t l k h =
+    let e : length t + (k - length t) ≡ k = omega arith in
+    append_assoc t (drop (length t) (take k l)) (drop k l) ∙ ap (λ (x : Text). t ++ x) (rw e at (rest_of_part (length t) (k - length t) l))
+
+-- the first k bytes of the array are lent, and are z after the call
+module _ (room k : ℕ) (s out z : Text) {r : Answer ℕ} (g : r ≡ tidy_answer (length (take k out)) s) (f : z ≡ tidy_slice s (take k out))
+    (m : k ≡ min room 32768) (h : k ≤ length out) where
+  lent : length (take k out) ≡ k
+  lent = length-take-le k out h
+
   answer_is : r ≡ tidy_answer room s
-  answer_is = g ∙ ap (λ (n : ℕ). tidy_answer n s) l ∙ capped room s
+  answer_is = g ∙ ap (λ (n : ℕ). tidy_answer n s) (lent ∙ m) ∙ capped room s
 
-  pub tidied_refused : (n p : ℕ) → r ≡ refused n p → refused_text n p ≡ tidied_text room s
+  pub tidied_refused : (n p : ℕ) → r ≡ refused n p → {q : ℕ} {last : Text} → Printed (refused_text n p) q (z ++ drop k out) last → Printed (tidied_text room s) q out last
   unfolding tidied_text answered_text
-  tidied_refused n p e = rw (← answer_is, e)
+  tidied_refused n p e {q} {last} w =
+      let same : z ++ drop k out ≡ out = ap (λ (x : Text). x ++ drop k out) (f ∙ tidy_writes.refusal s (take k out) n p (sym g ∙ e)) ∙ take-append-drop k out in
+      rw (sym answer_is ∙ e) (rw same at w)
 
-  -- accepted: x is what stands after the part in the array
-  module _ (n : ℕ) (e : r ≡ accepted n) (x : Text) where
-    accepts : tidy_answer (length y) s ≡ accepted n
+  -- accepted
+  module _ (n : ℕ) (e : r ≡ accepted n) where
+    accepts : tidy_answer (length (take k out)) s ≡ accepted n
     accepts = sym g ∙ e
 
-    counted_is : n ≡ length (tidy s)
-    counted_is = (tidy_writes.copied s y n accepts).0
-
-    after_is : z ≡ over (tidy s) y
+    after_is : z ≡ over (tidy s) (take k out)
     unfolding tidy_slice write_copy
     after_is = f ∙ rw accepts
 
-    fits : length (tidy s) ≤ 32768
+    fits : length (tidy s) ≤ k
     unfolding tidy_answer room_for
-    fits = omega (arith, l, ltb-false (length y) (length (tidy s)) (not_refused _ _ _ _ n (checks_passed s _ n accepts).1).0)
+    fits = omega (arith, lent, ltb-false (length (take k out)) (length (tidy s)) (not_refused _ _ _ _ n (checks_passed s _ n accepts).1).0)
 
-    front_is : take n (z ++ x) ≡ tidy s
-    unfolding over
-    front_is = rw (after_is, append_assoc (tidy s) (drop (length (tidy s)) y) x) (take_at (tidy s) _ n (sym counted_is))
-
-    pub tidied_within : n ≤ length (z ++ x)
-    unfolding over
-    tidied_within = omega (arith, length-append z x, ap length after_is, length-append (tidy s) (drop (length (tidy s)) y), counted_is)
-
-    pub tidied_fits : (k : ℕ) → 32768 ≤ k → 0 + length (take n (z ++ x)) ≤ k
-    tidied_fits k h = rw front_is (omega (arith, fits))
-
-    pub tidied_printed : (out : Text) {last : Text} → last ≡ over_from 0 (take n (z ++ x)) out → Printed (tidied_text room s) n out last
+    pub tidied_printed : Printed (tidied_text room s) n out (z ++ drop k out)
     unfolding tidied_text answered_text
-    tidied_printed out {last} h =
-        rw (sym answer_is ∙ e) (printed (tidy s) n out last counted_is (h ∙ rw front_is (put_over (tidy s) out)))
+    tidied_printed =
+        rw (sym answer_is ∙ e)
+        (printed (tidy s) n out (z ++ drop k out) (tidy_writes.copied s (take k out) n accepts).0 (ap (λ (x : Text). x ++ drop k out) after_is ∙ over_part (tidy s) out k fits))

@@ -1,7 +1,7 @@
 #![tactic(auto)]
 
 //! What `tidy` prints for a script that was read chunk by chunk, its tidy copy, and what it says of a script that is refused (W-212); and
-//! the answer of a call as a text.
+//! the answer of a call as a text. There is no heap: a text is put at the front of a slice that is lent.
 ghost use Rattle.std.specs.Prelude.{◌≡◌};
 ghost use Rattle.rules.specs.Text.{Text};
 ghost use Rattle.station.specs.Station.{unless_failed, input_text};
@@ -10,7 +10,6 @@ ghost use Rattle.station.specs.Reads.{Reads};
 ghost use Rattle.tidytext.specs.Tidy.{copy_text, refusal_text, copy_input_text, tidied_text};
 
 use answer::Refusal;
-use listing::writing::write_bytes;
 use rules::MAX_SOURCE;
 use source::check_source;
 use station::failure::SAID;
@@ -50,6 +49,8 @@ fn write_checked(script: &[u8], out: &mut [u8; SAID]) -> usize
     }
 }
 
+// One function with `station::script_text` would take what writes the text as a closure, with its clauses, and the array's size: no
+// plainer than the tests.
 /// Puts what is said of an input that is a script at the front, and answers its length: nothing if it was not read whole.
 pub fn refusal_text(script: &[u8; SCRIPT], input: Input, out: &mut [u8; SAID]) -> usize
     ensures printed { Printed (input_text refusal_text input script.now) result out.old out.new }
@@ -69,13 +70,10 @@ pub fn refusal_text(script: &[u8; SCRIPT], input: Input, out: &mut [u8; SAID]) -
 pub fn write_tidied(source: &[u8], room: usize, out: &mut [u8; TEXT]) -> usize
     ensures { Printed (tidied_text room source.now) result out.old out.new }
 {
-    let mut copy = [0u8; SCRIPT];
+    // No copy is longer than a script.
     let size = room.min(SCRIPT);
-    match tidy_copy(source, &mut copy[..size]) {
-        Ok(n) => {
-            write_bytes(out, 0, &copy[..n]);
-            n
-        }
+    match tidy_copy(source, &mut out[..size]) {
+        Ok(n) => n,
         Err(refusal) => write_refusal(refusal, out),
     }
 }

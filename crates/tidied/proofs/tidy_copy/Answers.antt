@@ -3,23 +3,26 @@ use Rattle.std.proofs.lemmas.Result.{err_from_is_err_and}
 use Rattle.tidied.proofs.Answers.{stopped_answer, cleared_answer, in_place}
 use Rattle.tidied.proofs.tidy_copy.Goals as goal
 
-pub returns-in_err-check_source : goal.returns-in_err-check_source
-returns-in_err-check_source c =
-    let a = stopped_answer c.args.source.now c.args.out.now _ _ c.in_err-check_source.ensures.answer in
+pub returns-in_err-check_source-clause-value : goal.returns-in_err-check_source-clause-value
+returns-in_err-check_source-clause-value c =
     let p = err_from_is_err_and c.from_residual.result c.from_residual.ensures.1 in
-    record { value = rw (p.1, p.2) a.0; out_after = a.1 }
+    rw (p.1, p.2) (stopped_answer c.args.source.now c.args.out.now _ _ c.in_err-check_source.ensures.answer).0
 
-pub returns-then-source-out : goal.returns-then-source-out
-returns-then-source-out c =
-    let b = in_place c.args.source.now c.args.out.now c.if-source-out.true c.write_lines.ensures in
-    let a = cleared_answer c.args.source.now c.args.out.now c.in_ok-check_source.ensures.clear b in
-    record { value = a.0; out_after = a.1 }
+pub returns-in_err-check_source-clause-out_after : goal.returns-in_err-check_source-clause-out_after
+returns-in_err-check_source-clause-out_after c = (stopped_answer c.args.source.now c.args.out.now _ _ c.in_err-check_source.ensures.answer).1
 
-pub copy_apart-requires : goal.copy_apart-requires
-copy_apart-requires c = c.in_ok-check_source.ensures.clear.short
+pub returns-then-source-out-clause-value : goal.returns-then-source-out-clause-value
+returns-then-source-out-clause-value c =
+    let b = in_place c.args.source.now c.args.out.now c.if-source-out.true c.write_source.ensures.value c.write_source.ensures.out_after in
+    (cleared_answer c.args.source.now c.args.out.now c.in_ok-check_source.ensures.clear b).0
 
-pub returns : goal.returns
-returns c =
-    let b = c.copy_apart.ensures in
-    let a = cleared_answer c.args.source.now c.args.out.now c.in_ok-check_source.ensures.clear (b.value, b.out_after) in
-    record { value = a.0; out_after = a.1 }
+pub returns-then-source-out-clause-out_after : goal.returns-then-source-out-clause-out_after
+returns-then-source-out-clause-out_after c =
+    let b = in_place c.args.source.now c.args.out.now c.if-source-out.true c.write_source.ensures.value c.write_source.ensures.out_after in
+    (cleared_answer c.args.source.now c.args.out.now c.in_ok-check_source.ensures.clear b).1
+
+pub returns-clause-value : goal.returns-clause-value
+returns-clause-value c = (cleared_answer c.args.source.now c.args.out.now c.in_ok-check_source.ensures.clear (c.copy_apart.ensures.value, c.copy_apart.ensures.out_after)).0
+
+pub returns-clause-out_after : goal.returns-clause-out_after
+returns-clause-out_after c = (cleared_answer c.args.source.now c.args.out.now c.in_ok-check_source.ensures.clear (c.copy_apart.ensures.value, c.copy_apart.ensures.out_after)).1

@@ -1,19 +1,14 @@
--- `write_name` puts the name, and the colon after it. Assumes nothing.
-use native.Mathlib.Omega.{arith}
-use Rattle.tidied.proofs.Colons.{name_part, name_fits, colon_fits, name_written}
+-- `write_name` writes the name, and the colon after it. Assumes nothing.
+use Rattle.std.proofs.Common.{arith}
+use Rattle.listing.proofs.Adding.{adds_as, adds_both}
+use Rattle.tidied.proofs.Colons.{name_short}
 use Rattle.tidied.proofs.write_name.Goals as goal
 
-pub slice_bounds-trimmed-end : goal.slice_bounds-trimmed-end
-slice_bounds-trimmed-end c = name_part c.args.s.now c.args.c c.args.out.now c.args.n c.requires
+pub push_bytes-requires : goal.push_bytes-requires
+push_bytes-requires c = omega (arith, name_short c.args.s.now c.args.c c.trimmed.ensures c.requires.0)
 
-pub overflow_add-m : goal.overflow_add-m
-overflow_add-m c = omega (arith, name_fits c.args.s.now c.args.c c.args.out.now c.args.n c.requires c.trimmed-name.ensures)
-
-pub write_bytes-requires : goal.write_bytes-requires
-write_bytes-requires c = name_fits c.args.s.now c.args.c c.args.out.now c.args.n c.requires c.trimmed-name.ensures
-
-pub bounds-out-m : goal.bounds-out-m
-bounds-out-m c = colon_fits c.args.s.now c.args.c c.args.out.now c.args.n c.requires c.trimmed-name.ensures c.write_bytes.ensures
+pub push-requires : goal.push-requires
+push-requires c = omega (arith, name_short c.args.s.now c.args.c c.trimmed.ensures c.requires.0)
 
 pub returns : goal.returns
-returns c = name_written c.args.s.now c.args.c c.args.out.now c.args.n c.requires c.trimmed-name.ensures c.write_bytes.ensures
+returns c = adds_both (adds_as c.push_bytes.ensures c.trimmed.ensures) c.push.ensures

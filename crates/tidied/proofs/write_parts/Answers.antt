@@ -1,32 +1,23 @@
 -- `write_parts` writes the name before the first colon, and what follows it. Assumes nothing.
-use mathlib.Core.Path.{sym, ◌∙◌}
-use Prim.Native.Nat.{◌+◌}
-use native.Mathlib.Omega.{arith}
-use lib.ListN.{drop}
+use Rattle.std.proofs.Common.{sym, drop, ◌+◌}
 use Rattle.rules.specs.Text.{trim}
-use Rattle.requests.specs.Tidy.{around_colon, tidy_rest}
+use Rattle.requests.specs.Tidy.{tidy_rest}
 use Rattle.text.proofs.Kept.{rest_is}
-use Rattle.tidied.proofs.Colons.{colon_within, rest_room, trimmed_le, no_colon, at_colon}
-use Rattle.tidied.proofs.Adding.{adds_as, adds_both}
+use Rattle.listing.proofs.Adding.{adds_as, adds_both}
+use Rattle.tidied.proofs.Colons.{rest_room, trimmed_le, colon_within, no_colon, at_colon}
 use Rattle.tidied.proofs.write_parts.Goals as goal
 
-pub returns-in_default : goal.returns-in_default
-returns-in_default c = adds_as c.squeeze.ensures (no_colon tidy_rest c.args.s.now (sym c.in_default.ensures))
-
-pub write_name-m-requires : goal.write_name-m-requires
-write_name-m-requires c = (colon_within c.args.s.now c.in-Some.c (sym c.in-Some.ensures), c.requires)
-
-pub overflow_add-after : goal.overflow_add-after
-overflow_add-after c = omega (arith, colon_within c.args.s.now c.in-Some.c (sym c.in-Some.ensures))
-
-pub slice_bounds-trimmed-count : goal.slice_bounds-trimmed-count
-slice_bounds-trimmed-count c = omega (arith, colon_within c.args.s.now c.in-Some.c (sym c.in-Some.ensures))
-
-pub slice_bounds-trimmed-start : goal.slice_bounds-trimmed-start
-slice_bounds-trimmed-start c = omega (arith, colon_within c.args.s.now c.in-Some.c (sym c.in-Some.ensures))
-
 pub write_rest-requires : goal.write_rest-requires
-write_rest-requires c = rw (rw (rest_is c.args.s.now (c.in-Some.c + 1)) at c.trimmed-rest.ensures) (rest_room c.args.s.now c.in-Some.c c.write_name-m.ensures (colon_within c.args.s.now c.in-Some.c (sym c.in-Some.ensures)) c.requires (trim (drop (c.in-Some.c + 1) c.args.s.now)) (trimmed_le c.args.s.now c.in-Some.c))
+write_rest-requires c =
+    let i = c.in-Some.c in
+    let s = c.args.s.now in
+    rw (rw (rest_is s (i + 1)) at c.trimmed.ensures) (rest_room s i c.write_name.ensures (colon_within s i (sym c.in-Some.ensures)) c.requires (trim (drop (i + 1) s)) (trimmed_le s i))
 
-pub returns : goal.returns
-returns c = adds_both c.write_name-m.ensures (tidy_rest (trim (drop (c.in-Some.c + 1) c.args.s.now))) (around_colon tidy_rest c.args.s.now) (at_colon tidy_rest c.args.s.now c.in-Some.c (sym c.in-Some.ensures)) (omega (arith, c.requires)) (rw (rw (rest_is c.args.s.now (c.in-Some.c + 1)) at c.trimmed-rest.ensures) at c.write_rest.ensures)
+pub returns-in-Some : goal.returns-in-Some
+returns-in-Some c =
+    let i = c.in-Some.c in
+    let s = c.args.s.now in
+    adds_as (adds_both c.write_name.ensures (rw (rw (rest_is s (i + 1)) at c.trimmed.ensures) at c.write_rest.ensures)) (at_colon tidy_rest s i (sym c.in-Some.ensures))
+
+pub returns-in-None : goal.returns-in-None
+returns-in-None c = adds_as c.squeeze.ensures (sym (no_colon tidy_rest c.args.s.now (sym c.in-None.ensures)))

@@ -1,35 +1,21 @@
--- `write_rest` treats the colon of data, and squeezes. Assumes nothing.
-use mathlib.Core.Path.{sym, ◌∙◌}
-use Prim.Native.Nat.{◌+◌}
-use native.Mathlib.Omega.{arith}
-use lib.ListN.{drop}
-use Rattle.requests.specs.Tidy.{squeezed, tidy_rest}
+-- `write_rest` writes the name before the colon of data, and squeezes. Assumes nothing.
+use Rattle.std.proofs.Common.{sym, drop, ◌+◌}
 use Rattle.text.proofs.Kept.{rest_is}
-use Rattle.tidied.proofs.Colons.{colon_within, rest_room, drop_le, not_data, data_no_colon, data_at_colon}
-use Rattle.tidied.proofs.Adding.{adds_as, adds_both}
-use Rattle.std.proofs.Common.{ap, not}
+use Rattle.listing.proofs.Adding.{adds_as, adds_both}
+use Rattle.tidied.proofs.Colons.{rest_room, drop_le, second_within, second_none, second_at}
 use Rattle.tidied.proofs.write_rest.Goals as goal
 
-pub returns-then-not-is_data : goal.returns-then-not-is_data
-returns-then-not-is_data c = adds_as c.squeeze.ensures (not_data c.args.s.now c.is_data.ensures (ap not c.if-not-is_data.true))
+pub squeeze-requires : goal.squeeze-requires
+squeeze-requires c =
+    let i = c.in-Some.c in
+    let s = c.args.s.now in
+    rw (rest_is s (i + 1)) (rest_room s i c.write_name.ensures (second_within s i (sym c.in-Some.ensures)) c.requires (drop (i + 1) s) (drop_le s i))
 
-pub returns-in_default : goal.returns-in_default
-returns-in_default c = adds_as c.squeeze-in_default.ensures (data_no_colon c.args.s.now c.is_data.ensures (ap not c.if-not-is_data.false) (sym c.in_default.ensures))
+pub returns-in-Some : goal.returns-in-Some
+returns-in-Some c =
+    let i = c.in-Some.c in
+    let s = c.args.s.now in
+    adds_as (adds_both c.write_name.ensures (rw (rest_is s (i + 1)) at c.squeeze.ensures)) (second_at s i (sym c.in-Some.ensures))
 
-pub write_name-m-requires : goal.write_name-m-requires
-write_name-m-requires c = (colon_within c.args.s.now c.in-Some.c (sym c.in-Some.ensures), c.requires)
-
-pub overflow_add-after : goal.overflow_add-after
-overflow_add-after c = omega (arith, colon_within c.args.s.now c.in-Some.c (sym c.in-Some.ensures))
-
-pub slice_bounds-squeeze-count : goal.slice_bounds-squeeze-count
-slice_bounds-squeeze-count c = omega (arith, colon_within c.args.s.now c.in-Some.c (sym c.in-Some.ensures))
-
-pub slice_bounds-squeeze-start : goal.slice_bounds-squeeze-start
-slice_bounds-squeeze-start c = omega (arith, colon_within c.args.s.now c.in-Some.c (sym c.in-Some.ensures))
-
-pub squeeze-requires-2 : goal.squeeze-requires-2
-squeeze-requires-2 c = rw (rest_is c.args.s.now (c.in-Some.c + 1)) (rest_room c.args.s.now c.in-Some.c c.write_name-m.ensures (colon_within c.args.s.now c.in-Some.c (sym c.in-Some.ensures)) c.requires (drop (c.in-Some.c + 1) c.args.s.now) (drop_le c.args.s.now c.in-Some.c))
-
-pub returns : goal.returns
-returns c = adds_both c.write_name-m.ensures (squeezed (drop (c.in-Some.c + 1) c.args.s.now)) (tidy_rest c.args.s.now) (data_at_colon c.args.s.now c.is_data.ensures (ap not c.if-not-is_data.false) c.in-Some.c (sym c.in-Some.ensures)) (omega (arith, c.requires)) (rw (rest_is c.args.s.now (c.in-Some.c + 1)) at c.squeeze-2.ensures)
+pub returns-in-None : goal.returns-in-None
+returns-in-None c = adds_as c.squeeze-in-None.ensures (second_none c.args.s.now (sym c.in-None.ensures))

@@ -1,13 +1,10 @@
 -- `decimal_places` meets its contract: each division takes one place off. Assumes nothing.
 use native.Mathlib.Omega.{arith}
-use Rattle.listing.proofs.Digits.{dividing_start, dividing_few, dividing_more, dividing_end}
+use Rattle.listing.proofs.Digits.{dividing_start, dividing_more, dividing_end}
 use Rattle.listing.proofs.writing.decimal_places.Goals as goal
 
 pub loop-rest-init : goal.loop-rest-init
 loop-rest-init c = dividing_start _ (omega arith)
-
-pub overflow_add-count : goal.overflow_add-count
-overflow_add-count c = omega (arith, dividing_few c.loop-rest.invariant)
 
 pub loop-rest-preserved : goal.loop-rest-preserved
 loop-rest-preserved c = dividing_more c.loop-rest.invariant c.loop-rest-test.true

@@ -4,6 +4,3 @@ use Rattle.listing.proofs.writing.write_digits.Given as goal
 
 abbrev pub invariant-loop-i : goal.invariant-loop-i
 invariant-loop-i l = Spelling l.at l.base l.count l.n l.initial.out l.i l.rest l.out
-
-abbrev pub decreases-loop-i : goal.decreases-loop-i
-decreases-loop-i l = l.i
