@@ -2,7 +2,7 @@
 -- come; the table goes before a script over the limit, and its front is enough. Assumes nothing.
 use Rattle.std.specs.Prelude.{Option, None, Some}
 use Prim.Native.Nat.{ℕ, ◌<◌, ◌≤◌}
-use mathlib.Core.Path.{◌≡◌, refl, sym, ap, ◌∙◌}
+use mathlib.Core.Path.{◌≡◌, refl, ap, ◌∙◌}
 use mathlib.Core.List.{List}
 use native.Mathlib.Omega.{arith}
 use lib.ListN.{length}
@@ -11,8 +11,8 @@ use Rattle.rules.specs.Line.{size}
 use Rattle.rules.specs.Encode.{Mnemonic, encode_by}
 use Rattle.rules.specs.Answer.{Answer as Ruled, accepted, refused, and_then}
 use Rattle.rules.specs.Assemble.{Place, Slices, pass_at_by, assemble_by}
-use Rattle.requests.specs.Explain.{Verdict, explain_all_by, explain_by}
-use Rattle.requests.specs.Branches.{checked, rows, loaded, names_with, under, assemble_under, assemble_under_answer, assemble_under_slices, explain_all_under}
+use Rattle.requests.specs.Explain.{explain_all_by, explain_by}
+use Rattle.requests.specs.Branches.{checked, rows, loaded, names_with, under, assemble_under, assemble_under_answer, assemble_under_slices}
 use Rattle.promises.specs.Lawful.{RulesAreLawful}
 use Rattle.promises.specs.Longest.{AtMostALine}
 use Rattle.promises.proofs.Compared.{clash}

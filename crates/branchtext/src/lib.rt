@@ -1,7 +1,7 @@
 #![tactic(auto)]
 
 //! What `asmlist` and `whyline` print for a script that was read chunk by chunk, and under a branch table that was read before it
-//! where one is lent (W-210).
+//! where one is lent (W-210). A text is put at the front of a slice that is lent: there is no heap.
 ghost use Rattle.std.specs.Prelude.{◌≡◌, min};
 ghost use Rattle.rules.specs.Text.{Text};
 ghost use Rattle.requests.specs.Branches.{checked};
@@ -22,7 +22,7 @@ use whytext::{LineAt, why_text, write_counted, write_explained};
 
 // ---- A source under a table.
 
-/// Puts the text for a source at a base, its list or its refusal, at the front, and answers its length.
+/// Puts the text for a source at a base under the table `names`, its list or the line of a refusal, at the front, and answers its length.
 pub fn write_list_under(names: &[u8], source: &[u8], base: u32, out: &mut [u8; TEXT]) -> usize
     ensures { Printed (list_under_text names.now base source.now) result out.old out.new }
 {
@@ -34,6 +34,7 @@ pub fn write_list_under(names: &[u8], source: &[u8], base: u32, out: &mut [u8; T
 }
 
 /// Puts the verdict's line on a line of a source, from 1, or that of a refusal, at the front, and answers its length.
+#[tactic(auto, using(whytext::proofs::Told::explained_text_lem), unfolding(crate::specs::BranchText::line_under_text))]
 pub fn write_line_under(
     names: &[u8],
     source: &[u8],
@@ -65,6 +66,7 @@ fn kept_size(table: Input) -> usize
 }
 
 // Puts the line for a script over the limit at the front, and answers its length: a table that is refused comes first.
+#[tactic(auto, using(crate::proofs::Under::long_accepted, crate::proofs::Under::long_refused))]
 fn write_long(table: &[u8], total: usize, out: &mut [u8; TEXT]) -> usize
     ensures { Printed (long_text (checked table.now) total) result out.old out.new }
 {
@@ -80,15 +82,17 @@ fn write_why(table: &[u8], script: &[u8], asked: Option<LineAt>, out: &mut [u8; 
     ensures { Printed (why_under_text asked table.now script.now) result out.old out.new }
 {
     match asked {
+        // `as`: usize has no From<u32>.
         Some(LineAt { line, base }) => write_line_under(table, script, base, line as usize, out),
         None => write_lines_under(table, script, 0, out),
     }
 }
 
 // ---- What the programs print, where a table is lent or not. The two are not one function over closures for what they print: each closure
-// would carry the contract of both prints, and the flag stands beside a buffer that the program always has.
+// would carry the contract of both prints. The flag is no Option of the table's Input: a program goes on by an Input, and says by it what
+// failed, with a table and without.
 
-/// Puts what `asmlist` prints at the front, and answers its length: nothing if the table or the script was not read whole.
+/// Puts what `asmlist` prints at the front, and answers its length: nothing if the script, or a table that is lent, was not read whole.
 pub fn tabled_script_text(
     lent: bool,
     table: &[u8; TABLE],
@@ -117,8 +121,9 @@ pub fn tabled_script_text(
     write_list_under(&table[..kept], &script[..total], 0, out)
 }
 
-/// Puts what `whyline` prints for the lines that are asked for at the front, and answers its length: nothing if the table or the
-/// script was not read whole.
+/// Puts what `whyline` prints for the lines that are asked for at the front, and answers its length: nothing if the script, or a table that
+/// is lent, was not read whole.
+// Seven parameters: the two arrays, with where their readers stand, are `main`'s, which lends them: there is no heap.
 pub fn tabled_why_text(
     lent: bool,
     table: &[u8; TABLE],

@@ -2,7 +2,7 @@
 use Rattle.std.specs.Prelude.{Option, None, Some, ℕ, ◌≡◌, Bool, true, false, ◌||◌, cond, ℤ, [], ◌∷◌}
 use Rattle.std.specs.Option.{option_map}
 use Rattle.rules.specs.Option.{bind, or_else}
-use mathlib.Core.Path.{refl, ap, ◌∙◌}
+use mathlib.Core.Path.{refl}
 use Rattle.rules.specs.Text.{Text, bytes, starts, after}
 use Rattle.rules.specs.Number.{no_digits, bad_digit, out_of_range, Reading, read, failed, value_of, reading8, reading16, signed_reading, immediate, imm8, imm16, number16, hex_tail}
 use Rattle.rules.specs.Label.{Table, find}
@@ -12,7 +12,6 @@ use Rattle.requests.specs.Explain.{not_recorded, out_of_reach, meets, fault, fai
 use Rattle.numeral.specs.Number.{result_of, number_of, signed_of, immediate_of, signed_immediate_of}
 use Rattle.explain.specs.Verdict.{fault_of}
 use Rattle.explain.specs.Operand.{fit_at, fit, read_fit, register_fit, label_fit, hash_fit, near_fit, reach_fit, signed_fit}
-use Rattle.explain.specs.declared.operand.Fit.{Fit}
 
 -- ---- numbers
 module _ {A : Type 0} where

@@ -1,10 +1,10 @@
 -- The calls under a branch table, by what loading it answered. Assumes nothing.
 use Rattle.std.specs.Prelude.{Some}
 use Prim.Native.Nat.{ℕ}
-use mathlib.Core.Path.{◌≡◌, sym, ap, ◌∙◌}
+use mathlib.Core.Path.{◌≡◌}
 use mathlib.Core.List.{List}
 use Rattle.rules.specs.Text.{Text}
-use Rattle.rules.specs.Answer.{Answer, accepted, refused, and_then}
+use Rattle.rules.specs.Answer.{accepted, refused, and_then}
 use Rattle.requests.specs.Explain.{explain_all_by, explain_by}
 use Rattle.requests.specs.Branches.{checked, loaded, under, explain_all_under, explain_under}
 use Rattle.branches.specs.Branch.{names_in}

@@ -3,16 +3,15 @@ use Rattle.std.specs.Prelude.{Option, None, Some, ℕ, ◌≡◌, Bool, true, fa
 use Rattle.std.specs.List.{list_any, find}
 use Rattle.std.specs.Option.{option_or, unwrap_or}
 use Rattle.rules.specs.Option.{or_else}
-use mathlib.Core.Path.{refl, ap, ◌∙◌}
+use mathlib.Core.Path.{refl, ap}
 use Rattle.rules.specs.Text.{Text}
 use Rattle.rules.specs.Label.{Table}
 use Rattle.rules.specs.Forms.{stand, form_with}
 use Rattle.rules.specs.Forms.{Operand as Ruled}
-use Rattle.requests.specs.Explain.{Reason, emitted, because, met, one_met, fault_in, unless, why_kinds, why_forms}
+use Rattle.requests.specs.Explain.{Reason, emitted, met, one_met, fault_in, unless, why_kinds, why_forms}
 use Rattle.explain.specs.Verdict.{verdict_of, fault_of}
 use Rattle.explain.specs.Operand.{place_at}
 use Rattle.explain.specs.Form.{form_at, blamed, told}
-use Rattle.explain.specs.declared.Verdict.{Verdict}
 use Rattle.explain.specs.declared.Verdict.TheVariants.{Emitted}
 use Rattle.explain.specs.declared.operand.Place.{Place}
 

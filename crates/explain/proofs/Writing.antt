@@ -4,7 +4,7 @@ use mathlib.Core.List.{List, [], ◌∷◌, ◌++◌, append-nil, append_assoc, 
 use Prim.Native.Nat.{ℕ, suc, ◌+◌, ◌*◌, ◌≤◌, ◌<◌}
 use native.Mathlib.Numerals.{add-one}
 use native.Mathlib.Omega.{arith}
-use lib.ListN.{length, get_or, drop, set, replicate, length-append, length-drop, length-map, length-replicate}
+use lib.ListN.{length, get_or, drop, set, length-append, length-drop, length-map}
 use lib.Seq.{set_at, drop-cons}
 use Rattle.rules.specs.Limits.{max_lines}
 use Rattle.rules.specs.Text.{Text, cut_at}
@@ -19,7 +19,7 @@ use Rattle.cells.specs.Puts.{address_at, puts_of}
 use Rattle.first.specs.Pass.{pass_in, Holds}
 use Rattle.first.specs.declared.Pass.{Pass}
 use Rattle.first.proofs.Bounds.{within}
-use Rattle.explain.specs.Verdict.{verdict_of, verdicts_of, count_of, put_over, written_over}
+use Rattle.explain.specs.Verdict.{verdicts_of, count_of, put_over, written_over}
 use Rattle.explain.specs.Lines.{verdict_on, verdicts_to, WriteNeeds, WriteGives}
 use Rattle.explain.specs.declared.Verdict.{Verdict}
 use Rattle.explain.specs.declared.Verdict.TheVariants.{Emitted, NotInstruction}

@@ -1,11 +1,13 @@
 #![tactic(auto)]
 
-//! Why a line has no word (W-205): the first pass, then the verdict on a line, or on each line that is read.
+//! Why a line has no word (W-205): the first pass, then the verdict on a line, or on each line that is read. The arrays that the first
+//! pass fills are a call's own: there is no heap.
 ghost use Rattle.std.specs.Prelude.{◌≡◌, ◌<◌, ◌≤◌, length, IfOk, OnOk};
 ghost use Rattle.requests.specs.Explain.{explain, explain_all, explain_by, explain_all_by};
 ghost use Rattle.requests.specs.Branches.{explain_under, explain_all_under};
 ghost use Rattle.rules.specs.Limits.{max_lines};
 ghost use Rattle.answer.specs.Refusal.{answer_of};
+ghost use Rattle.answer.specs.Told.{told_number};
 ghost use Rattle.text.specs.Spans.{span_text, SpanIn};
 ghost use Rattle.cells.specs.Cells.{kept_at};
 ghost use Rattle.cells.specs.Puts.{address_at};
@@ -13,6 +15,7 @@ ghost use Rattle.first.specs.Pass.{Holds};
 ghost use Rattle.std.specs.Option.{option_copied};
 ghost use Rattle.branches.specs.Branch.{names_in};
 ghost use Rattle.explain.specs.Verdict.{verdict_number, explained_of, verdicts_of, count_of, put_over, written_over};
+ghost use Rattle.explain.specs.Called.{told_verdict, refused_place};
 ghost use Rattle.explain.specs.Lines.{verdict_on, WhyTaskNeeds, Walks, verdicts_to, WriteNeeds, WriteGives};
 
 use answer::Refusal;
@@ -20,6 +23,7 @@ use first::Pass;
 use form::why_instruction;
 use label::Labels;
 use line::Task;
+use operand::Here;
 use text::Span;
 
 mod operand; // operand.rt: an operand in a place of a form
@@ -52,7 +56,29 @@ pub const NO_VERDICT: u8 = 255;
 pub fn verdict_number(v: Verdict) -> u8
     ensures { result ≡ verdict_number v }
 {
+    // `as` is how an enum without fields tells its number.
     v as u8
+}
+
+/// An answer on a line as C gets it: 0, with the verdict's number in `verdict` and 0 in `place`; or a refusal's number, with 255 in
+/// `verdict` and its place in `place`.
+pub fn tell(answer: Result<Verdict, Refusal>, verdict: &mut u8, place: &mut usize) -> u8
+    ensures number { result ≡ told_number (answer_of answer) }
+    ensures verdict { verdict.new ≡ told_verdict (answer_of answer) }
+    ensures place { place.new ≡ refused_place (answer_of answer) }
+{
+    match answer {
+        Ok(found) => {
+            *verdict = verdict_number(found);
+            *place = 0;
+            0
+        }
+        Err(refusal) => {
+            *verdict = NO_VERDICT;
+            *place = refusal.place();
+            refusal.number()
+        }
+    }
 }
 
 // The text that stands at a place.
@@ -65,7 +91,7 @@ fn part(t: &[u8], place: Span) -> &[u8]
 
 // ---- One line.
 
-/// The verdict on a line's task, read at `address`.
+/// The verdict on a line's task, read at `address`, by the branch names of a table where one is lent.
 #[tactic(auto, unfolding(requests::specs::Explain::why_task))]
 pub fn why_task(names: Option<&[u8]>, labels: &Labels<'_>, address: u32, task: Task) -> Verdict
     requires { WhyTaskNeeds labels.now address task }
@@ -74,8 +100,10 @@ pub fn why_task(names: Option<&[u8]>, labels: &Labels<'_>, address: u32, task: T
     match task {
         Task::Instruction(span) => why_instruction(
             names,
-            labels,
-            address,
+            Here {
+                labels: &*labels,
+                address,
+            },
             part(labels.source(), span),
         ),
         Task::Value(_, _) => Verdict::Emitted,
@@ -84,7 +112,8 @@ pub fn why_task(names: Option<&[u8]>, labels: &Labels<'_>, address: u32, task: T
     }
 }
 
-// The address of line k, from 0, of the lines that are kept.
+// The address of line k, from 0, of the lines that are kept. By index: a line's cells are read at its number.
+#[tactic(auto, unfolding(cells::specs::Puts::address_at))]
 fn line_address(cells: &[u32], base: u32, k: usize) -> u32
     requires { Walks cells.now base k }
     ensures { result ≡ address_at base cells.now k }
@@ -92,12 +121,14 @@ fn line_address(cells: &[u32], base: u32, k: usize) -> u32
     let mut address = base;
     for j in 0..k {
         let kept = cells::kept_line(cells, j);
+        // Below 2^32, as the first pass has found.
         address = cells::address_after(kept, base, address) as u32;
     }
     address
 }
 
 // The verdict on line k, from 0, of the lines that are kept.
+#[tactic(auto, using(crate::proofs::Lines::walks))]
 fn why_line(
     names: Option<&[u8]>,
     labels: &Labels<'_>,
@@ -114,6 +145,7 @@ fn why_line(
 }
 
 // The verdict on a line, from 1: a line that is kept, or END; any other is refused.
+#[tactic(auto, using(crate::proofs::Lines::told_none, crate::proofs::Lines::told_past, crate::proofs::Lines::told_missing, crate::proofs::Lines::told_end))]
 fn tell_line(
     names: Option<&[u8]>,
     labels: &Labels<'_>,
@@ -138,6 +170,7 @@ fn tell_line(
 }
 
 // The verdict on a line, from 1, by the names in use.
+#[tactic(auto, using(crate::proofs::Lines::line_refused))]
 fn explain_by(
     names: Option<&[u8]>,
     source: &[u8],
@@ -153,6 +186,8 @@ fn explain_by(
     tell_line(names, &labels, &cells, pass, line)
 }
 
+// The calls with and without a table, here and for all lines, are a line or two over one function each: no generic one is shorter.
+
 /// The verdict on a line, from 1, of a source assembled at `base`. Refuses by 1 to 6 as assembling does, then by 13, at the line,
 /// a line that there is not or that is never read.
 #[tactic(auto, unfolding(branches::specs::Branch::names_in))]
@@ -163,6 +198,7 @@ pub fn explain_line(source: &[u8], base: u32, line: usize) -> Result<Verdict, Re
 }
 
 /// The same under the branch table `names`; refuses it by 16 or 17 before all else.
+#[tactic(auto, using(crate::proofs::Tabled::line_unloaded))]
 pub fn explain_branches(
     names: &[u8],
     source: &[u8],
@@ -177,7 +213,8 @@ pub fn explain_branches(
 
 // ---- All lines.
 
-// The verdicts on the lines that are kept, into the first places.
+// The verdicts on the lines that are kept, into the first places. By index: a line's cells and its verdict stand at its number.
+#[tactic(auto, using(crate::proofs::Lines::after_low, crate::proofs::Writing::wrote_none, crate::proofs::Writing::wrote_on), unfolding(cells::specs::Puts::address_at))]
 fn write_kept(
     names: Option<&[u8]>,
     labels: &Labels<'_>,
@@ -192,6 +229,7 @@ fn write_kept(
     for k in 0..pass.lines {
         let kept = cells::kept_line(cells, k);
         verdicts[k] = why_task(names, labels, address, kept.task);
+        // Below 2^32, as the first pass has found.
         address = cells::address_after(kept, pass.base, address) as u32;
     }
 }
@@ -217,6 +255,7 @@ fn write_verdicts(
 }
 
 // The verdict on every line that is read, by the names in use, in the first places; how many there are.
+#[tactic(auto, using(crate::proofs::Writing::write_needs, crate::proofs::Writing::all_refused, crate::proofs::Writing::all_unwritten))]
 fn explain_lines_by(
     names: Option<&[u8]>,
     source: &[u8],
@@ -250,6 +289,7 @@ pub fn explain_lines(
 }
 
 /// The same under the branch table `names`; where that is refused, by 16 or 17 before all else, all places stay too.
+#[tactic(auto, using(crate::proofs::Tabled::all_unloaded, crate::proofs::Tabled::all_kept, crate::proofs::Tabled::all_loaded))]
 pub fn explain_lines_branches(
     names: &[u8],
     source: &[u8],

@@ -1,4 +1,4 @@
-// An operand in a place of a form: whether it makes the word there, what is wrong with it if its kind is right, and its kind.
+//! An operand in a place of a form: whether it makes the word there, what is wrong with it if its kind is right, and its kind.
 ghost use Rattle.std.specs.Prelude.{◌≡◌, false, None, Some, [], ◌∷◌, ◌||◌, cond};
 ghost use Rattle.rules.specs.Text.{after, starts};
 ghost use Rattle.rules.specs.Forms.{kind_for};
@@ -34,7 +34,16 @@ pub enum Operand {
     BranchTarget,
 }
 
+/// Where an operand is looked at: the labels, and the address of its instruction.
+// No `==`: `Labels`, which it borrows, holds a `&mut` and has none.
+#[derive(Clone, Copy)]
+pub struct Here<'a> {
+    pub labels: &'a Labels<'a>,
+    pub address: u32,
+}
+
 /// Whether an operand makes the word in its place, and what is wrong with it there.
+// `met` beside the Option: a signed operand may be met and have a fault (`fit_branch`).
 #[derive(Clone, Copy, Debug, PartialEq, Eq, Hash)]
 pub struct Fit {
     pub met: bool,
@@ -42,6 +51,7 @@ pub struct Fit {
 }
 
 /// The same, and whether its kind is that of the place; so of all operands of a form.
+// `met` beside the Option as in `Fit`.
 #[derive(Clone, Copy, Debug, PartialEq, Eq, Hash)]
 pub struct Place {
     pub met: bool,
@@ -153,25 +163,25 @@ fn fit_jump(labels: &Labels<'_>, s: &[u8]) -> Fit
 }
 
 // A label, and its displacement from the instruction.
-fn fit_reach(labels: &Labels<'_>, address: u32, s: &[u8]) -> Fit
-    requires { Near labels.now address }
-    ensures { result ≡ reach_fit address (find s.now labels.now.table) }
+#[tactic(auto, using(label::proofs::Rows::below_found))]
+fn fit_reach(here: Here<'_>, s: &[u8]) -> Fit
+    requires { Near here.labels.now here.address }
+    ensures { result ≡ reach_fit here.entry.address (find s.now here.entry.labels.now.table) }
 {
-    let Some(label) = labels.find(s) else {
-        return blamed(Verdict::NotRecorded);
-    };
-    match displacement(label, address) {
-        Some(_) => MADE,
-        None => blamed(Verdict::OutOfReach),
+    match here.labels.find(s) {
+        Some(label) if displacement(label, here.address).is_some() => MADE,
+        Some(_) => blamed(Verdict::OutOfReach),
+        None => blamed(Verdict::NotRecorded),
     }
 }
 
-// A branch's displacement. A signed operand is blamed as a number, though a label in reach makes the word.
-fn fit_branch(labels: &Labels<'_>, address: u32, s: &[u8]) -> Fit
-    requires { Near labels.now address }
-    ensures { result ≡ cond (starts (43 ∷ []) s.now || starts (45 ∷ []) s.now) (signed_fit (reach_fit address (find s.now labels.now.table)).met (signed_of (signed_reading 10 128 s.now))) (reach_fit address (find s.now labels.now.table)) }
+// A branch's displacement. A signed operand is blamed as a number, though a label in reach makes the word. `encode` and `encode_manual` ask
+// for a sign in the same words: a function for all three would have a contract as long as they are.
+fn fit_branch(here: Here<'_>, s: &[u8]) -> Fit
+    requires { Near here.labels.now here.address }
+    ensures { result ≡ cond (starts (43 ∷ []) s.now || starts (45 ∷ []) s.now) (signed_fit (reach_fit here.entry.address (find s.now here.entry.labels.now.table)).met (signed_of (signed_reading 10 128 s.now))) (reach_fit here.entry.address (find s.now here.entry.labels.now.table)) }
 {
-    let reach = fit_reach(labels, address, s);
+    let reach = fit_reach(here, s);
     let signed = text::starts_with(s, b"+") || text::starts_with(s, b"-");
     if !signed {
         return reach;
@@ -186,20 +196,21 @@ fn fit_branch(labels: &Labels<'_>, address: u32, s: &[u8]) -> Fit
 }
 
 // An operand in any place.
-fn fit_in(labels: &Labels<'_>, address: u32, x: Operand, s: &[u8]) -> Fit
-    requires { Near labels.now address }
-    ensures { result ≡ fit_at labels.now.table address (operand_of x) s.now }
+#[tactic(auto, using(crate::proofs::Fits::as_i8, crate::proofs::Fits::as_u16, crate::proofs::Fits::as_hash, crate::proofs::Fits::as_dn, crate::proofs::Fits::as_an, crate::proofs::Fits::as_at_an, crate::proofs::Fits::as_label, crate::proofs::Fits::as_jump, crate::proofs::Fits::as_branch))]
+fn fit_in(here: Here<'_>, x: Operand, s: &[u8]) -> Fit
+    requires { Near here.labels.now here.address }
+    ensures { result ≡ fit_at here.entry.labels.now.table here.entry.address (operand_of x) s.now }
 {
     match x {
         Operand::I8 => fit_read(parse_immediate(s)),
         Operand::U16 => fit_read(parse_immediate_u16(s)),
-        Operand::HashLabel => fit_hash(labels, s),
+        Operand::HashLabel => fit_hash(here.labels, s),
         Operand::Dn => fit_register(parse_data_register(s)),
         Operand::An => fit_register(parse_address_register(s)),
         Operand::AtAn => fit_register(parse_indirect_register(s)),
-        Operand::Label => fit_label(labels, s),
-        Operand::JumpTarget => fit_jump(labels, s),
-        Operand::BranchTarget => fit_branch(labels, address, s),
+        Operand::Label => fit_label(here.labels, s),
+        Operand::JumpTarget => fit_jump(here.labels, s),
+        Operand::BranchTarget => fit_branch(here, s),
     }
 }
 
@@ -221,12 +232,13 @@ fn kind_for(x: Operand) -> OperandKind
     }
 }
 
-/// An operand in a place, with its kind.
-pub fn place_of(labels: &Labels<'_>, address: u32, x: Operand, s: &[u8]) -> Place
-    requires { Near labels.now address }
-    ensures { result ≡ place_at labels.now.table address (operand_of x) s.now }
+/// An operand in a place, and whether its kind is that of the place.
+#[tactic(auto, using(crate::proofs::Placed::placed))]
+pub fn place_of(here: Here<'_>, x: Operand, s: &[u8]) -> Place
+    requires { Near here.labels.now here.address }
+    ensures { result ≡ place_at here.entry.labels.now.table here.entry.address (operand_of x) s.now }
 {
-    let Fit { met, fault } = fit_in(labels, address, x, s);
+    let Fit { met, fault } = fit_in(here, x, s);
     Place {
         met,
         stands: kind_of(s) == kind_for(x),

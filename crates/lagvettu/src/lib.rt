@@ -1,7 +1,7 @@
 #![tactic(auto)]
 
 //! The C interface: assembling at a base, and moving. An answer is the refusal's number, 0 for accepted, with its place or the count
-//! in a number that the caller lends. include/lagvettu.h declares the same functions.
+//! in a number that the caller lends. include/lagvettu.h declares the same functions. C lends each slice and number apart.
 ghost use Rattle.std.specs.Prelude.{◌≡◌};
 ghost use Rattle.rules.specs.Assemble.{slices, assemble_answer, assemble_slices};
 ghost use Rattle.rules.specs.Relocate.{move_answer, move_slices};

@@ -1,9 +1,9 @@
 #![tactic(auto)]
 
-//! The C interface of the calls that ask about a source, an archive of its own: so no second caller takes from the assembler's
-//! calls what the compiler inlines there. An answer is as in `lagvettu`'s interface; include/lagvettu.h declares both. The
-//! numbers that C lends stand for an answer's parts, and the four slices of the symbols for their rows.
-pub mod bench;
+//! The C interface of calls beside the assembler's two, an archive of its own: so no second caller takes from those what the
+//! compiler inlines there. A call that can refuse answers as in `lagvettu`'s interface; include/lagvettu.h declares both. C lends
+//! a number for each part of an answer and a slice for each column of rows: hence so many parameters.
+pub mod bench; // bench.rt: the bench from C
 
 ghost use Rattle.std.specs.Prelude.{◌≡◌, length};
 ghost use Rattle.rules.specs.Directive.{line_reading};
@@ -104,7 +104,9 @@ pub extern "C" fn lagvettu_line_number(line: &[u8], value: &mut u32) -> u8
     }
 }
 
-/// Why a line, from 1, of a source at a base has no word: its verdict's number, or a refusal.
+/// Why a line, from 1, of a source at a base has no word: its verdict's number in `verdict`. Where it is refused `verdict` is 255 and
+/// `place` has the refusal's, else 0.
+#[tactic(auto, using(explain::proofs::Called::explains_told))]
 #[unsafe(no_mangle)]
 pub extern "C" fn lagvettu_explain(
     source: &[u8],
@@ -115,18 +117,8 @@ pub extern "C" fn lagvettu_explain(
 ) -> u8
     ensures { Explains (explain base source.now line) result verdict.new place.new }
 {
-    match explain::explain_line(source, base, line) {
-        Ok(found) => {
-            *verdict = explain::verdict_number(found);
-            *place = 0;
-            0
-        }
-        Err(refusal) => {
-            *verdict = explain::NO_VERDICT;
-            *place = refusal.place();
-            refusal.number()
-        }
-    }
+    let answer = explain::explain_line(source, base, line);
+    explain::tell(answer, verdict, place)
 }
 
 /// Puts the tidy copy of a source at the front of `out`, its length in the number lent; or refuses, with nothing written.

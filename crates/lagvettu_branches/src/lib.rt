@@ -1,7 +1,8 @@
 #![tactic(auto)]
 
 //! The C interface of the calls under a branch table, in an archive of its own: so no second caller takes from the calls without one
-//! what the compiler inlines there. An answer is as in `lagvettu`; include/lagvettu.h declares them.
+//! what the compiler inlines there. An answer is as in `lagvettu`; include/lagvettu.h declares them. C lends each slice and number apart:
+//! hence so many parameters.
 ghost use Rattle.std.specs.Prelude.{◌≡◌};
 ghost use Rattle.rules.specs.Assemble.{slices};
 ghost use Rattle.requests.specs.Branches.{assemble_under_answer, assemble_under_slices, explain_under};
@@ -28,9 +29,10 @@ pub extern "C" fn lagvettu_assemble_branches(
     answer::tell(answer, place)
 }
 
-/// Says why a line has no word under a branch table, which is refused before all else.
+/// Says why a line, from 1, of a source at a base has no word under a branch table, which is refused before all else: its verdict's
+/// number in `verdict`. Where it is refused `verdict` is 255 and `place` has the refusal's, else 0.
+#[tactic(auto, using(explain::proofs::Called::explains_told))]
 #[unsafe(no_mangle)]
-#[tactic(auto, using(explain::proofs::Called::explains_line, explain::proofs::Called::explains_not))]
 pub extern "C" fn lagvettu_explain_branches(
     names: &[u8],
     source: &[u8],
@@ -41,16 +43,6 @@ pub extern "C" fn lagvettu_explain_branches(
 ) -> u8
     ensures { Explains (explain_under names.now base source.now line) result verdict.new place.new }
 {
-    match explain::explain_branches(names, source, base, line) {
-        Ok(told) => {
-            *verdict = explain::verdict_number(told);
-            *place = 0;
-            0
-        }
-        Err(refusal) => {
-            *verdict = explain::NO_VERDICT;
-            *place = refusal.place();
-            refusal.number()
-        }
-    }
+    let answer = explain::explain_branches(names, source, base, line);
+    explain::tell(answer, verdict, place)
 }

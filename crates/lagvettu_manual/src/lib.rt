@@ -1,7 +1,8 @@
 #![tactic(auto)]
 
 //! The C interface of the manual's own words, in an archive of its own: so no second caller of what it stands on takes from the other
-//! calls what the compiler inlines there. An answer is as in `lagvettu`; include/lagvettu.h declares it.
+//! calls what the compiler inlines there. An answer is as in `lagvettu`; include/lagvettu.h declares it. C lends
+//! each slice and number apart.
 ghost use Rattle.std.specs.Prelude.{◌≡◌};
 ghost use Rattle.rules.specs.Assemble.{slices};
 ghost use Rattle.requests.specs.ManualAssemble.{manual_answer, manual_slices};

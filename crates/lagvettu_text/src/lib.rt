@@ -1,7 +1,8 @@
 #![tactic(auto)]
 
 //! The C interface of the texts that the programs print, an archive of its own for the command `lagvettu`: so no text is made twice.
-//! A text is put at the front of `out`, which has room for the longest, and its length into `size`. include/lagvettu_text.h declares it.
+//! A text is put at the front of `out`, which has room for the longest, and its length into `size`: C lends both, and a list's three slices.
+//! include/lagvettu_text.h declares it.
 ghost use Rattle.std.specs.Prelude.{◌≡◌, take};
 ghost use Rattle.rules.specs.Assemble.{slices};
 ghost use Rattle.rules.specs.Tally.{held};
@@ -26,6 +27,7 @@ use station::{PLACES, SCRIPT, TEXT};
 // ---- Lists.
 
 /// Prints the list in the first `count` places.
+#[tactic(auto, unfolding(station::specs::Station::answer_text))]
 #[unsafe(no_mangle)]
 pub extern "C" fn lagvettu_text_list(
     addresses: &[u32; PLACES],
@@ -42,6 +44,7 @@ pub extern "C" fn lagvettu_text_list(
 
 /// Reads a list's text into the first places: 0, and how many there are; or 1, the number of the first line that is none, and nothing
 /// written.
+#[tactic(auto, using(crate::proofs::Called::reads_list))]
 #[unsafe(no_mangle)]
 pub extern "C" fn lagvettu_read_list(
     text: &[u8],
@@ -93,7 +96,8 @@ pub extern "C" fn lagvettu_text_nearest(
     *size = neartext::write_near(source, base, address, out);
 }
 
-// ---- Lines, under the branch table `names` where `lent` says so, which is refused before all else; else `names` is not read.
+// ---- Lines, under the branch table `names` where `lent` says so, which is refused before all else; else `names` is not read. C has no
+// Option, so a flag stands beside the table.
 
 /// Prints the verdict on a line, from 1, of a source at a base, or the line of a refusal.
 #[unsafe(no_mangle)]
@@ -108,11 +112,11 @@ pub extern "C" fn lagvettu_text_why(
 )
     ensures { Printed (line_for lent names.now base line source.now) size.new out.old out.new }
 {
-    if lent {
-        *size = branchtext::write_line_under(names, source, base, line, out);
-        return;
-    }
-    *size = whytext::write_line_verdict(source, base, line, out);
+    *size = if lent {
+        branchtext::write_line_under(names, source, base, line, out)
+    } else {
+        whytext::write_line_verdict(source, base, line, out)
+    };
 }
 
 /// Prints the verdict on every line that is read, or the line of a refusal.
@@ -127,11 +131,11 @@ pub extern "C" fn lagvettu_text_why_all(
 )
     ensures { Printed (lines_for lent names.now base source.now) size.new out.old out.new }
 {
-    if lent {
-        *size = branchtext::write_lines_under(names, source, base, out);
-        return;
-    }
-    *size = whytext::write_line_verdicts(source, base, out);
+    *size = if lent {
+        branchtext::write_lines_under(names, source, base, out)
+    } else {
+        whytext::write_line_verdicts(source, base, out)
+    };
 }
 
 /// Prints the printout of a source at a base, a row for each line and the labels under them, or the line of a refusal.
@@ -146,11 +150,11 @@ pub extern "C" fn lagvettu_text_printout(
 )
     ensures { Printed (printout_for lent names.now base source.now) size.new out.old out.new }
 {
-    if lent {
-        *size = printout::write_printout_branches(names, source, base, out);
-        return;
-    }
-    *size = printout::write_printout(source, base, out);
+    *size = if lent {
+        printout::write_printout_branches(names, source, base, out)
+    } else {
+        printout::write_printout(source, base, out)
+    };
 }
 
 // ---- The bench.
@@ -207,6 +211,7 @@ pub extern "C" fn lagvettu_text_sheet(totals: &[u64; 12], out: &mut [u8; SHEET],
 
 /// Reads a sheet's text, by its first 32,768 bytes: 0, with the totals and line 0; or 1, with the number of the first wrong line, and
 /// the totals as they were.
+#[tactic(auto, using(crate::proofs::Called::front_long, crate::proofs::Called::front_short))]
 #[unsafe(no_mangle)]
 pub extern "C" fn lagvettu_read_sheet(text: &[u8], totals: &mut [u64; 12], line: &mut usize) -> u8
     ensures { ReadsSheet (sheet_in (take 32768 text.now)) totals.old result line.new totals.new }

@@ -1,13 +1,17 @@
 -- From a call's answer to the text that is printed: a line's verdict, the rows of all lines, or a refusal. Assumes nothing.
-use Rattle.std.specs.Prelude.{ℕ, ◌≡◌, ◌+◌, ◌≤◌, Option, None, Some, List, [], ◌∷◌, map, length, take}
-use mathlib.Core.Path.{refl, ap, ◌∙◌}
-use lib.ListN.{length-map}
+use Rattle.std.specs.Prelude.{ℕ, ◌≡◌, ◌≤◌, Option, None, Some, Result, Ok, Err, IfOk, List, [], ◌∷◌, map, length, drop}
+use mathlib.Core.Path.{refl, ap}
+use native.Mathlib.Omega.{arith}
+use lib.ListN.{length-append, length-map}
 use lib.Seq.{take_at}
+use Rattle.rules.specs.Limits.{max_lines}
 use Rattle.rules.specs.Number.{no_digits, bad_digit, out_of_range}
 use Rattle.rules.specs.Answer.{Answer, accepted, refused, and_then}
 use Rattle.rules.specs.Assemble.{pass_at_by}
 use Rattle.requests.specs.Explain.{not_instruction, unknown_mnemonic, wrong_count, wrong_kinds, bad_number, not_recorded, out_of_reach, emitted, because, explain_all_by, explain_by}
 use Rattle.requests.specs.Explain.{Verdict as Said}
+use Rattle.answer.specs.Refusal.{answer_of}
+use Rattle.answer.specs.declared.Refusal.{Refusal}
 use Rattle.explain.specs.Verdict.{verdict_of, verdicts_of, explained_of, count_of, put_over, written_over}
 use Rattle.explain.specs.declared.Verdict.{Verdict}
 use Rattle.station.proofs.ScriptInput.{RefusesLong, checks_long}
@@ -52,3 +56,11 @@ pub counted_text_lem : (a : Answer (List Said)) (old : List Verdict) → counted
 unfolding all_text rows_of put_over
 counted_text_lem (accepted vs) old = rw (take_at (verdicts_of vs) _ (length vs) (length-map vs _), lines_back vs)
 counted_text_lem (refused n p) old = refl
+
+-- as many verdicts as the answer says stand in the slice
+pub rows_fit : (a : Answer (List Said)) (r : Result ℕ Refusal) → answer_of r ≡ count_of a → IfOk r (λ n. n ≤ max_lines)
+    → (old : List Verdict) {x : List Verdict} → x ≡ written_over a old → IfOk r (λ n. (n ≤ length x) × (n ≤ max_lines))
+unfolding put_over
+rows_fit (accepted vs) (Ok n) e few old w = let q : n ≡ length vs = cc in (rw w (omega (arith, q, length-append (verdicts_of vs) (drop (length (verdicts_of vs)) old), length-map vs verdict_of)), few)
+rows_fit (refused m p) (Ok n) e few old w = absurd cc
+rows_fit a (Err f) e few old w = few

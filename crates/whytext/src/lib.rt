@@ -1,7 +1,7 @@
 #![tactic(auto)]
 
 //! What `whyline` prints for a script that was read chunk by chunk: why its lines have no word (W-205); and what its arguments
-//! ask.
+//! ask. A text is put at the front of a slice that is lent: there is no heap.
 ghost use Rattle.std.specs.Prelude.{◌≡◌, ◌+◌, ◌*◌, ◌≤◌, Ok, length as len, take, IfOk};
 ghost use Rattle.rules.specs.Text.{Text};
 ghost use Rattle.rules.specs.Limits.{max_lines};
@@ -51,8 +51,9 @@ fn asked_at(
     }
 }
 
-/// The line that is asked for by its number, or by its number and a base; None where no argument asks for all lines, at base 0. `count`
-/// is that of the arguments with the program's own name.
+/// The line that is asked for by its number, or by its number and a base of 32 bits; None where there is no argument: all lines, at base 0.
+/// Refused are other numbers and more arguments. `count` is that of the arguments with the program's own name.
+#[tactic(auto, unfolding(crate::specs::WhyLine::asked_by, crate::specs::WhyLine::decimal_in))]
 pub fn asked_by(count: usize, line: &[u8], base: &[u8]) -> Result<Option<LineAt>, WrongArguments>
     ensures { result ≡ asked_by count line.now base.now }
 {
@@ -105,6 +106,7 @@ pub fn write_explained(explained: Result<Verdict, Refusal>, out: &mut [u8; TEXT]
 }
 
 /// Puts the verdict's line on a line of a source, from 1, or that of a refusal, at the front, and answers its length.
+#[tactic(auto, using(crate::proofs::Told::explained_text_lem), unfolding(crate::specs::WhyLine::line_text))]
 pub fn write_line_verdict(source: &[u8], base: u32, line: usize, out: &mut [u8; TEXT]) -> usize
     ensures { Printed (line_text base line source.now) result out.old out.new }
 {
@@ -118,6 +120,7 @@ fn push_row(line: usize, verdict: Verdict, text: &mut Writer<'_>)
     requires { text.old.len + 47 ≤ len text.old.out.now }
     ensures { Adds (row_text line (line_of verdict)) text.old text.new }
 {
+    // `as`: u64 has no From<usize>, and usize below none from u32.
     text.push_decimal(line as u64);
     text.push(b' ');
     push_verdict(verdict, text);
@@ -129,8 +132,8 @@ fn push_rows(verdicts: &[Verdict], text: &mut Writer<'_>)
     requires room { text.old.len + 131072 ≤ len text.old.out.now }
     ensures { Adds (rows_of verdicts.now) text.old text.new }
 {
-    for k in 0..verdicts.len() {
-        push_row(k + 1, verdicts[k], text);
+    for (k, verdict) in verdicts.iter().enumerate() {
+        push_row(k + 1, *verdict, text);
     }
 }
 
@@ -138,10 +141,10 @@ fn push_rows(verdicts: &[Verdict], text: &mut Writer<'_>)
 /// length.
 pub fn write_counted(
     answer: Result<usize, Refusal>,
-    verdicts: &[Verdict; MAX_LINES],
+    verdicts: &[Verdict],
     out: &mut [u8; TEXT],
 ) -> usize
-    requires { IfOk answer (λ n. n ≤ max_lines) }
+    requires { IfOk answer (λ n. (n ≤ len verdicts.now) × (n ≤ max_lines)) }
     ensures { Printed (counted_text (answer_of answer) verdicts.now) result out.old out.new }
 {
     match answer {
@@ -187,6 +190,7 @@ pub fn why_text(
     ensures printed { Printed (input_text (why_text asked) input script.now) result out.old out.new }
     ensures script_value { (t : Text) → Reads t script.now input → input_text (why_text asked) input script.now ≡ unless_failed input (why_text asked t) }
 {
+    // As `station`'s `script_text`, by a call of its own: why, stands there.
     if input.failed {
         return 0;
     }

@@ -1,9 +1,6 @@
 -- What reading answered is passed on.
-use Rattle.lagvettu_text.proofs.Called.{reads_list, reads_no_list}
+use Rattle.lagvettu_text.proofs.Called.{reads_no_list}
 use Rattle.lagvettu_text.proofs.lagvettu_read_list.Goals as goal
-
-pub returns-in-Ok : goal.returns-in-Ok
-returns-in-Ok c = reads_list _ c.in-Ok.ensures.answer c.in-Ok.ensures.filled
 
 pub returns-in-Err : goal.returns-in-Err
 returns-in-Err c = reads_no_list _ c.in-Err.ensures.answer c.in-Err.ensures.kept

@@ -2,8 +2,11 @@
 use Rattle.std.proofs.Common.{replicate}
 use Rattle.explain.specs.declared.Verdict.TheVariants.{Emitted}
 use Rattle.whytext.specs.WhyLine.{lines_text}
-use Rattle.whytext.proofs.Told.{counted_text_lem}
+use Rattle.whytext.proofs.Told.{counted_text_lem, rows_fit}
 use Rattle.whytext.proofs.write_line_verdicts.Goals as goal
+
+pub write_counted-requires : goal.write_counted-requires
+write_counted-requires c = let call = c.explain_lines-answer.ensures in rows_fit _ _ call.value call.count _ call.verdicts_after
 
 pub returns : goal.returns
 unfolding lines_text

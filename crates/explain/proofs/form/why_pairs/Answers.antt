@@ -1,7 +1,6 @@
 -- `form::why_pairs` tries the forms. Assumes nothing.
 use mathlib.Core.Path.{◌∙◌}
 use mathlib.Core.List.{[], ◌∷◌}
-use Rattle.explain.specs.Form.{pairs_of}
 use Rattle.explain.proofs.Trying.{told_all}
 use Rattle.explain.proofs.form.why_pairs.Goals as goal
 
