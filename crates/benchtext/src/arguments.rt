@@ -1,4 +1,4 @@
-// What the arguments of `bench` say.
+//! What the arguments of `bench` say.
 ghost use Rattle.std.specs.Prelude.{◌≡◌, ◌<◌, ◌^◌, ◌||◌, eqb};
 ghost use Rattle.benchtext.specs.Arguments.{decimal_in, number_at, no_argument, with_limit, with_number, placed_at, is_option, argued, with_argument, is_whole, whole};
 
@@ -11,8 +11,10 @@ use text::starts_with;
 #[derive(Clone, Copy, Debug, PartialEq, Eq, Hash)]
 pub struct Given {
     /// The place of the next one: 0 before the first.
+    // 0 and no `Option`: the specs (`argued`) compare it with 0.
     pub place: usize,
     /// A threshold is tried.
+    // A flag, and no `Option` over the numbers 1 to 3: they come one by one, each at its place, after it is set.
     pub tries: bool,
     /// The numbers at their places: 1 ADDRESS, 2 FROM, 3 TO, 4 START, 6 to 13 A0 to A7.
     pub numbers: [u32; 14],
@@ -22,7 +24,7 @@ pub struct Given {
 
 // ---- Numbers.
 
-// A decimal number of 64 bits.
+// A decimal number of 64 bits: `read_digits` reads 32.
 fn read_limit(t: &[u8]) -> Option<u64>
     ensures { result ≡ decimal_in (2 ^ 64) t.now }
 {
@@ -58,7 +60,7 @@ fn number_at(place: usize, t: &[u8]) -> Option<u32>
     }
 }
 
-// Whether an argument is `-w`.
+// Whether an argument is `-w`: by its length and its front, as the specs (`is_option`) say it.
 #[tactic(auto, unfolding(crate::specs::Arguments::is_option, rules::specs::Text::bytes))]
 fn is_option(t: &[u8]) -> bool
     ensures { result ≡ is_option t.now }
@@ -70,6 +72,7 @@ fn is_option(t: &[u8]) -> bool
 
 impl Given {
     /// Before the first argument.
+    // By hand: field by field, as the specs' `no_argument` has it.
     pub fn new() -> Self
         ensures { result ≡ no_argument }
     {
@@ -162,5 +165,5 @@ pub fn whole(given: Option<Given>) -> Option<Given>
     ensures { result ≡ whole given }
 {
     let given = given?;
-    if given.is_whole() { Some(given) } else { None }
+    given.is_whole().then_some(given)
 }

@@ -1,7 +1,8 @@
 #![tactic(auto)]
 
-// What `bench` prints for a list (W-213): the line of a run, or of one for each value of a threshold.
-pub mod arguments;
+//! What `bench` prints for a list (W-213): the line of a run, or of one for each value of a threshold. There is no heap:
+//! a line is put at the front of a slice that is lent.
+pub mod arguments; // arguments.rt: what the arguments say
 
 ghost use Rattle.std.specs.Prelude.{◌≡◌, cond, suc, ◌+◌, ◌-◌, ◌%◌, ◌≤◌, eqb, length as len};
 ghost use Rattle.rules.specs.Text.{Text};
@@ -56,8 +57,8 @@ fn push_registers(text: &mut Writer<'_>, d: &[u32; 8])
     ensures text { Adds (registers_text 8 d.now) text.old text.new }
     ensures len { text.new.len ≡ text.old.len + 72 }
 {
-    for k in 0..8 {
-        push_long(text, d[k]);
+    for &value in d {
+        push_long(text, value);
     }
 }
 
@@ -131,6 +132,9 @@ fn push_answer(
 
 // ---- A threshold.
 
+// Here and below `count` stands beside the slices: it is the caller's, and of more words than there are the bench says refusal 9. What
+// `write_list_run` and `try_value` take are parameters of their own, as C lends them.
+
 // A word of a list, or a value if it stands at the threshold's address.
 fn word_at(address: u32, word: u16, threshold: u32, value: u16) -> u16
     ensures { result ≡ cond (eqb address threshold) value word }
@@ -143,6 +147,7 @@ fn set_value(addresses: &[u32], words: &mut [u16], count: usize, threshold: u32,
     requires { (count ≤ len addresses.now) × (count ≤ len words.old) }
     ensures { words.new ≡ with_value count threshold value addresses.now words.old }
 {
+    // By index: of what `iter_mut` and `zip` leave in the words nothing is known.
     for i in 0..count {
         words[i] = word_at(addresses[i], words[i], threshold, value);
     }
@@ -154,6 +159,7 @@ fn set_value(addresses: &[u32], words: &mut [u16], count: usize, threshold: u32,
 fn value_at(from: u32, row: usize) -> u16
     ensures { result ≡ (from + row) % 65536 }
 {
+    // `usize` has no `From<u32>`; and what is below 65,536 is whole in 16 bits.
     ((from as usize % 65536 + row % 65536) % 65536) as u16
 }
 
@@ -162,11 +168,7 @@ fn value_at(from: u32, row: usize) -> u16
 fn value_for(given: Given, row: usize) -> Option<u16>
     ensures { result ≡ value_for given row }
 {
-    if given.tries {
-        Some(value_at(given.numbers[2], row))
-    } else {
-        None
-    }
+    given.tries.then_some(value_at(given.numbers[2], row))
 }
 
 // Puts a row's value into the words, if a threshold is tried.
@@ -236,6 +238,7 @@ fn list_row(
 fn value_count(from: u32, to: u32) -> usize
     ensures { result ≡ suc (to - from) }
 {
+    // `usize` has no `From<u32>`.
     to.saturating_sub(from) as usize + 1
 }
 

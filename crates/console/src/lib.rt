@@ -38,6 +38,7 @@ impl<E: Env> Arguments for E {
 pub fn argument_count<A: Arguments>(arguments: &A) -> usize
     ensures { IfSome (A.known arguments.now) (λ known. result ≡ min (length known) (2 ^ 64 - 1)) }
 {
+    // An argument is asked for by its place.
     for k in 0..usize::MAX {
         if let Err(FillError::NotPresent) = arguments.put(k, &mut []) {
             return k;
@@ -47,6 +48,7 @@ pub fn argument_count<A: Arguments>(arguments: &A) -> usize
 }
 
 /// Puts an argument at the front of the text, and answers its length: 0 where there is no such argument, or it is longer than the text.
+// 0 and no `Option`: its callers take an argument that is not there as an empty one.
 pub fn argument<A: Arguments>(arguments: &A, k: usize, text: &mut [u8]) -> usize
     ensures in_bounds { result ≤ length text.new }
     ensures bytes { IfSome (A.known arguments.now) (λ known. IsFront (fitting (length text.new) (argument_at known k)) text.new result) }

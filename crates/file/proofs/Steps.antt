@@ -1,6 +1,5 @@
 -- A file that was read to its end, and one that was not opened. Assumes nothing.
-use Rattle.std.proofs.Common.{ℕ, ◌≡◌, refl, sym, ◌∙◌, false, List, [], length, take}
-use mathlib.Core.Bool.{false≢true}
+use Rattle.std.proofs.Common.{ℕ, ◌≡◌, sym, ◌∙◌, List, []}
 use Rattle.std.specs.Prelude.{Option}
 use Rattle.station.specs.Reads.{failed_at, ReadWhole}
 use Rattle.station.specs.declared.input.Input.{Input}

@@ -15,6 +15,7 @@ use std::rt::Files;
 pub fn read_file<R: Files>(files: &R, path: &[u8], buffer: &mut [u8]) -> Input
     ensures { FileRead buffer.old buffer.new result }
 {
+    // What stands for a file that cannot be read is an `Input`: `?` cannot answer it.
     let Ok(name) = str::from_utf8(path) else {
         return failed_at(0);
     };

@@ -1,6 +1,7 @@
 #![tactic(auto)]
 
-//! What `manlist` prints for a script that was read chunk by chunk: its list by the manual's own words (W-207).
+//! What `manlist` prints for a script that was read chunk by chunk: its list by the manual's own words (W-207). There is no heap: a text
+//! is put at the front of a slice that is lent.
 ghost use Rattle.std.specs.Prelude.{◌≡◌};
 ghost use Rattle.rules.specs.Text.{Text};
 ghost use Rattle.station.specs.Station.{unless_failed, input_text};
@@ -15,6 +16,7 @@ use station::input::Input;
 use station::{PLACES, SCRIPT, TEXT, write_answer, write_refusal};
 
 /// Puts the text for a source at a base, its list or its refusal, at the front, and answers its length.
+// As `station`'s `assemble_text`, by another call: what both have in common is `write_answer`.
 pub fn write_manual(source: &[u8], base: u32, out: &mut [u8; TEXT]) -> usize
     ensures { Printed (manual_text base source.now) result out.old out.new }
 {
@@ -26,6 +28,8 @@ pub fn write_manual(source: &[u8], base: u32, out: &mut [u8; TEXT]) -> usize
 }
 
 /// Puts what is printed for an input that is a script at the front, and answers its length: nothing if it was not read whole.
+// As `station`'s `script_text`, by a call of its own: why, stands there.
+#[tactic(auto, using(station::proofs::Printed::printed_none, crate::proofs::Listed::manual_refuses_long, station::proofs::ScriptInput::front_is_enough), unfolding(station::specs::Station::input_text, station::specs::Station::unless_failed))]
 pub fn manual_text(script: &[u8; SCRIPT], input: Input, out: &mut [u8; TEXT]) -> usize
     ensures printed { Printed (input_text (manual_text 0) input script.now) result out.old out.new }
     ensures script_value { (t : Text) → Reads t script.now input → input_text (manual_text 0) input script.now ≡ unless_failed input (manual_text 0 t) }

@@ -1,12 +1,12 @@
 #![tactic(auto)]
 
-// Moves a list as `asmlist` prints it. It reads the list on standard input, takes the distance as its one argument, a
-// decimal number of 32 bits with an optional sign, and prints on standard output
-//   the moved list in the same form, if the mover accepts it;
-//   `refused N P`, the mover's refusal and its place, if not;
-//   `not a list: line N`, if line N is the first that is not of that form, or is the 12,289th.
-// If the list cannot be read to its end it prints nothing. It says that on standard error, and there too if standard output
-// does not take all that it prints, or if it has no such argument or more than one: it reads nothing then.
+//! Moves a list as `asmlist` prints it. It reads the list on standard input, takes the distance as its one argument, a
+//! decimal number of 32 bits with an optional sign, and prints on standard output
+//!   the moved list in the same form, if the mover accepts it;
+//!   `refused N P`, the mover's refusal and its place, if not;
+//!   `not a list: line N`, if line N is the first that is not of that form, or is the 12,289th.
+//! If the list cannot be read to its end it prints nothing. It says that on standard error, and there too if standard output
+//! does not take all that it prints, or if it has no such argument or more than one: it reads nothing then.
 use console::{ARGUMENT, CHUNK, argument, argument_count};
 use station::arguments::given_distance;
 use station::failure::{SAID, failure_text};

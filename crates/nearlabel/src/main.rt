@@ -1,13 +1,13 @@
 #![tactic(auto)]
 
-// Names the label of a script that is nearest to an address, at or below it. It reads the script on standard input, takes the
-// address and, if it is not 0, the base of the script, hexadecimal numbers of 32 bits with or without `$` or `0x`, and prints
-// on standard output
-//   the label's name, a space, and in decimal how far past the label the address is;
-//   `refused N P`, the refusal and its place, if the script is refused, or by 12 if no label is at or below the address.
-// A script over the limit of 32,768 bytes is read to its end for its length, the place of refusal 1.
-// If the script cannot be read to its end it prints nothing. It says that on standard error, and there too if standard output
-// does not take all that it prints, or if it has no such arguments or more than two: it reads nothing then.
+//! Names the label of a script that is nearest to an address, at or below it. It reads the script on standard input, takes the
+//! address and, if it is not 0, the base of the script, hexadecimal numbers of 32 bits with or without `$` or `0x`, and prints
+//! on standard output
+//!   the label's name, a space, and in decimal how far past the label the address is;
+//!   `refused N P`, the refusal and its place, if the script is refused, or by 12 if no label is at or below the address.
+//! A script over the limit of 32,768 bytes is read to its end for its length, the place of refusal 1.
+//! If the script cannot be read to its end it prints nothing. It says that on standard error, and there too if standard output
+//! does not take all that it prints, or if it has no such arguments or more than two: it reads nothing then.
 use console::{ARGUMENT, CHUNK, argument, argument_count};
 use neartext::{Asked, asked_by, near_text};
 use station::failure::{SAID, failure_text};

@@ -1,2 +1,1 @@
-pub mod LabelLine
 pub mod Told

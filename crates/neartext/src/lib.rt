@@ -1,15 +1,17 @@
 #![tactic(auto)]
 
 //! What `nearlabel` prints for a script that was read chunk by chunk: the label nearest to an address; and what its arguments ask.
-ghost use Rattle.std.specs.Prelude.{◌≡◌, ◌≤◌, length as len};
+//! There is no heap: a text is put at the front of a slice that is lent.
+ghost use Rattle.std.specs.Prelude.{◌≡◌, ◌+◌, ◌≤◌, length as len};
 ghost use Rattle.rules.specs.Text.{Text};
+ghost use Rattle.listing.specs.Writer.{Adds};
 ghost use Rattle.station.specs.Station.{unless_failed, input_text};
 ghost use Rattle.station.specs.Printed.{Printed};
 ghost use Rattle.station.specs.Reads.{Reads};
 ghost use Rattle.neartext.specs.NearLabel.{label_text, near_text, asked_at, asked_by};
 
 use answer::Refusal;
-use listing::writing::{write_bytes, write_decimal};
+use listing::writer::Writer;
 use nearest::nearest_label;
 use numeral::Failure;
 use rules::MAX_SOURCE;
@@ -28,40 +30,34 @@ pub struct Asked {
 fn asked_at(address: Result<u32, Failure>, base: Result<u32, Failure>) -> Option<Asked>
     ensures { result ≡ asked_at address base }
 {
-    let Ok(address) = address else {
-        return None;
-    };
-    let Ok(base) = base else {
-        return None;
-    };
-    Some(Asked { address, base })
+    Some(Asked {
+        address: address.ok()?,
+        base: base.ok()?,
+    })
 }
 
 /// What an address asks, or an address and a base; `count` is that of the arguments with the program's own name. `None` where they
 /// are others, or are no such numbers.
+#[tactic(auto, unfolding(crate::specs::NearLabel::asked_by))]
 pub fn asked_by(count: usize, address: &[u8], base: &[u8]) -> Option<Asked>
     ensures { result ≡ asked_by count address.now base.now }
 {
-    if count == 2 {
-        return asked_at(hexadecimal(address), Ok(0));
+    match count {
+        2 => asked_at(hexadecimal(address), Ok(0)),
+        3 => asked_at(hexadecimal(address), hexadecimal(base)),
+        _ => None,
     }
-    if count == 3 {
-        return asked_at(hexadecimal(address), hexadecimal(base));
-    }
-    None
 }
 
-// Puts a label's line at the front, and answers its length.
-fn write_label(name: &[u8], distance: u32, out: &mut [u8; TEXT]) -> usize
-    requires { len name.now ≤ 32768 }
-    ensures { Printed (label_text name.now distance) result out.old out.new }
+// Writes a label's line.
+fn push_label(name: &[u8], distance: u32, text: &mut Writer<'_>)
+    requires { text.old.len + len name.now + 22 ≤ len text.old.out.now }
+    ensures { Adds (label_text name.now distance) text.old text.new }
 {
-    let behind = name.len();
-    write_bytes(out, 0, name);
-    out[behind] = b' ';
-    let end = write_decimal(out, behind + 1, distance as u64);
-    out[end] = b'\n';
-    end + 1
+    text.push_bytes(name);
+    text.push(b' ');
+    text.push_decimal(u64::from(distance));
+    text.push(b'\n');
 }
 
 // Puts the line for a script at the front, and answers its length.
@@ -72,13 +68,17 @@ fn write_nearest(source: &[u8], base: u32, address: u32, out: &mut [u8; TEXT]) -
     match nearest_label(source, base, address) {
         Ok(label) => {
             let end = label.start + label.length;
-            write_label(&source[label.start..end], label.distance, out)
+            let name = &source[label.start..end];
+            let mut text = Writer::new(out);
+            push_label(name, label.distance, &mut text);
+            text.len
         }
         Err(refusal) => write_refusal(refusal, out),
     }
 }
 
 /// The same for a source of any length.
+#[tactic(auto, using(crate::proofs::Told::near_refuses_long))]
 pub fn write_near(source: &[u8], base: u32, address: u32, out: &mut [u8; TEXT]) -> usize
     ensures { Printed (near_text base address source.now) result out.old out.new }
 {
@@ -90,6 +90,8 @@ pub fn write_near(source: &[u8], base: u32, address: u32, out: &mut [u8; TEXT]) 
 }
 
 /// Puts what is printed for an input that is a script at the front, and answers its length: nothing if it was not read whole.
+// As `station`'s `script_text`, by a call of its own: why, stands there.
+#[tactic(auto, using(station::proofs::Printed::printed_none, crate::proofs::Told::near_refuses_long, station::proofs::ScriptInput::front_is_enough), unfolding(station::specs::Station::input_text, station::specs::Station::unless_failed))]
 pub fn near_text(
     script: &[u8; SCRIPT],
     input: Input,

@@ -1,5 +1,4 @@
 pub mod Printed
-pub mod Written
 pub mod Moving
 pub mod ScriptInput
 pub mod Script

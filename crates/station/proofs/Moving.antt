@@ -1,5 +1,5 @@
 -- The mover on slices whose front a list fills: what stands after the list changes nothing of what is printed. Assumes nothing.
-use Rattle.std.specs.Prelude.{Some, Result, Ok, Err, OnErr, IfOk}
+use Rattle.std.specs.Prelude.{Some, Ok, Err}
 use Prim.Native.Nat.{ℕ, zero, suc, ◌≤◌}
 use mathlib.Core.Path.{◌≡◌, refl, ap}
 use mathlib.Core.Bool.{Bool, true, false}
@@ -14,7 +14,7 @@ use Rattle.rules.specs.Assemble.{Place, Slices, short, over, holding}
 use Rattle.rules.specs.Relocate.{first_in, first_index, bad_mark, first_bad_mark, move_addresses, move_words, move_answer, move_by, move_slices}
 use Rattle.rules.specs.Tally.{list_in, held}
 use Rattle.listing.specs.Listing.{list_text}
-use Rattle.listing.specs.Reading.{room_in, bad, read_list, places_in}
+use Rattle.listing.specs.Reading.{room_in, read_list, places_in}
 use Rattle.rules.specs.Assemble.{slices}
 use Rattle.listing.specs.declared.reading.BadLine.{BadLine}
 use Rattle.listing.proofs.RoundTrip.{length_places}

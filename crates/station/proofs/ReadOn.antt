@@ -1,5 +1,5 @@
 -- An input read chunk by chunk: before the first read, after each, and at the end. Assumes nothing.
-use Rattle.std.proofs.Common.{ℕ, ◌+◌, ◌^◌, ◌<◌, ◌≤◌, ◌≡◌, refl, sym, ap, ◌∙◌, Bool, true, false, cond, List, [], ◌∷◌, ◌++◌, append_assoc, append-nil, arith, length, take, length-append}
+use Rattle.std.proofs.Common.{ℕ, ◌+◌, ◌^◌, ◌<◌, ◌≤◌, ◌≡◌, refl, sym, ap, ◌∙◌, Bool, true, false, cond, List, [], ◌++◌, append_assoc, append-nil, arith, length, take, length-append}
 use Rattle.std.specs.Prelude.{Option, None, Some, Result, Ok, Err, unwrap_or}
 use Rattle.std.specs.Result.{result_ok}
 use Rattle.std.specs.Io.{ReadsAtMost}
@@ -9,7 +9,7 @@ use lib.Dec.{eqb, ltb}
 use lib.Seq.{length-take-le}
 use Rattle.std.proofs.lemmas.Bool.{ltb-true, eqb-true}
 use Rattle.rules.specs.Text.{Text}
-use Rattle.station.specs.Reads.{at_start, failed_at, after_read, kept, ReadFrom, ReadWhole}
+use Rattle.station.specs.Reads.{at_start, failed_at, after_read, kept, ReadFrom}
 use Rattle.station.specs.declared.input.Input.{Input}
 use Rattle.station.proofs.Kept.{kept_on, kept_nil, reads_on}
 

@@ -11,8 +11,3 @@ pub record Printed (s : Text) (r : ℕ) (x y : List ℕ) : Type 0 where
   pub front : take r y ≡ s
   pub within : r ≤ length y
   pub whole : r ≡ length (take r y)
-
--- the same while parts are still put: n, where the next one goes, and y, the slice after s is put over the front of x
-pub record Written (s : Text) (n : ℕ) (x y : List ℕ) : Type 0 where
-  pub long : n ≡ length s
-  pub after : y ≡ over s x

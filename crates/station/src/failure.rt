@@ -1,4 +1,4 @@
-// What a program says on standard error.
+//! What a program says on standard error.
 ghost use Rattle.std.specs.Prelude.{◌++◌, ◌≤◌, length, take};
 ghost use Rattle.station.specs.Station.{failure_text, tabled_failure_text};
 ghost use Rattle.station.specs.Printed.{Printed};
@@ -24,6 +24,8 @@ fn write_said(name: &[u8], words: &[u8], out: &mut [u8; SAID]) -> usize
 }
 
 /// Puts what a program says at its end at the front, and answers its length: nothing if all was read and written.
+// `written`, here and below, is what standard output did, and picks no step.
+#[tactic(auto, using(crate::proofs::Printed::printed_none), unfolding(crate::specs::Station::failure_text, rules::specs::Text::bytes))]
 pub fn failure_text(name: &[u8], input: Input, written: bool, out: &mut [u8; SAID]) -> usize
     ensures { Printed (failure_text name.now input written) result out.old out.new }
 {
@@ -37,6 +39,7 @@ pub fn failure_text(name: &[u8], input: Input, written: bool, out: &mut [u8; SAI
 }
 
 /// The same of a program that may read a branch table before its input.
+#[tactic(auto, unfolding(crate::specs::Station::tabled_failure_text, rules::specs::Text::bytes))]
 pub fn tabled_failure_text(
     name: &[u8],
     table: Input,

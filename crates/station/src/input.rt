@@ -1,15 +1,17 @@
-// Where a program stands that reads its input chunk by chunk, and the front of the input that it keeps.
+//! Where a program stands that reads its input chunk by chunk, and the front of the input that it keeps.
 ghost use Rattle.std.specs.Prelude.{◌≡◌, ◌<◌, ◌≤◌, true, false, ℕ, List, Option};
 ghost use Rattle.station.specs.Reads.{at_start, failed_at, after_read, left, kept, ReadFrom, ReadWhole};
 
 use listing::writing::write_bytes;
 use std::io::Read;
 
+/// Where a reader of an input stands.
 #[derive(Clone, Copy, Debug, PartialEq, Eq, Hash)]
 pub struct Input {
     /// The bytes read so far.
     pub total: usize,
     /// There may be more.
+    // Two flags and no enum: the specs of four crates read each by itself.
     pub more: bool,
     /// A read failed; or there are more bytes than a `usize` counts.
     pub failed: bool,
@@ -44,27 +46,22 @@ pub fn after_read(input: Input, got: Option<usize>) -> Input
     ensures result_bound { input.more ≡ true → left result < left input }
 {
     let total = input.total;
-    let Some(count) = got else {
-        return failed_at(total);
-    };
-    if count == 0 {
-        return Input {
+    match got {
+        Some(0) => Input {
             more: false,
             ..input
-        };
-    }
-    if usize::MAX - total < count {
-        return failed_at(total);
-    }
-    Input {
-        total: total + count,
-        more: true,
-        failed: input.failed,
+        },
+        Some(count) if count <= usize::MAX - total => Input {
+            total: total + count,
+            more: true,
+            ..input
+        },
+        _ => failed_at(total),
     }
 }
 
-#[tactic(auto, using(crate::proofs::Kept::kept_full, crate::proofs::Kept::kept_part))]
 /// Puts a chunk after the first `total` bytes of what is kept, as far as there is room.
+#[tactic(auto, using(crate::proofs::Kept::kept_full, crate::proofs::Kept::kept_part))]
 pub fn keep(buffer: &mut [u8], total: usize, chunk: &[u8])
     ensures { buffer.new ≡ kept total chunk.now buffer.old }
 {
@@ -76,7 +73,6 @@ pub fn keep(buffer: &mut [u8], total: usize, chunk: &[u8])
 }
 
 // Reads a chunk, and keeps as much of it as there is room for.
-
 fn read_more<R: Read, const CHUNK: usize>(from: &mut R, input: Input, buffer: &mut [u8]) -> Input
     requires { (0 < CHUNK) × (CHUNK ≤ 65536) }
     ensures by_index { (old : Option (List ℕ)) (x : List ℕ) → ReadFrom old x (R.remaining from.old) buffer.old input → ReadFrom old x (R.remaining from.new) buffer.new result }
@@ -94,6 +90,7 @@ pub fn read_whole<R: Read, const CHUNK: usize>(from: &mut R, buffer: &mut [u8]) 
     ensures { ReadWhole (R.remaining from.old) buffer.old (R.remaining from.new) buffer.new result }
 {
     let mut input = start();
+    // Where the reads end only each read tells: no iterator has them.
     while input.more {
         input = read_more::<R, CHUNK>(from, input, buffer);
     }

@@ -1,7 +1,8 @@
 #![tactic(auto)]
 
 //! What the programs at the station print: texts put into an array, for a script or a list that was read chunk by chunk.
-//! A program's `main` only reads, calls and writes.
+//! A program's `main` only reads, calls and writes. A text stands at the front of what a caller lends, since there is no heap, and its
+//! length is the answer, which C is told apart from the bytes.
 pub mod arguments; // arguments.rt: what a program is told
 pub mod failure; // failure.rt: what a program says on standard error
 pub mod input; // input.rt: reading to the end, of which the front is kept
@@ -48,6 +49,7 @@ pub fn write_refusal(refusal: Refusal, out: &mut [u8]) -> usize
 }
 
 /// Puts the text for an answer at the front, and answers its length.
+// The slices side by side, as C lends them.
 pub fn write_answer(
     answer: Result<usize, Refusal>,
     addresses: &[u32; PLACES],
@@ -63,7 +65,8 @@ pub fn write_answer(
     }
 }
 
-// Puts the text for a script at the front, and answers its length.
+// Puts the text for a script at the front, and answers its length. `mantext` and `branchtext` do the same by other calls, with a base or
+// names: what these have in common is `write_answer`.
 fn assemble_text(script: &[u8], out: &mut [u8; TEXT]) -> usize
     ensures { Printed (script_text script.now) result out.old out.new }
 {
@@ -75,6 +78,8 @@ fn assemble_text(script: &[u8], out: &mut [u8; TEXT]) -> usize
 }
 
 /// Puts what is printed for an input that is a script at the front, and answers its length: nothing if it was not read whole.
+// The other crates of texts do the same by a call of their own, with other arguments: as a closure it would need clauses as long as this.
+#[tactic(auto, using(crate::proofs::Printed::printed_none, crate::proofs::Script::script_refuses_long, crate::proofs::ScriptInput::front_is_enough), unfolding(crate::specs::Station::input_text, crate::specs::Station::unless_failed))]
 pub fn script_text(script: &[u8; SCRIPT], input: Input, out: &mut [u8; TEXT]) -> usize
     ensures printed { Printed (input_text script_text input script.now) result out.old out.new }
     ensures script_value { (t : Text) → Reads t script.now input → input_text script_text input script.now ≡ unless_failed input (script_text t) }
@@ -95,6 +100,7 @@ pub fn write_wrong_line(n: usize, out: &mut [u8; TEXT]) -> usize
 {
     let mut text = Writer::new(out);
     text.push_bytes(b"not a list: line ");
+    // `u64` has no `From<usize>`.
     text.push_decimal(n as u64);
     text.push(b'\n');
     text.len

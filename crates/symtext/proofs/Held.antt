@@ -1,10 +1,9 @@
 -- Labels in order, and the slices that hold a part of each. Assumes nothing.
-use Prim.Native.Nat.{ℕ, zero, suc, ◌+◌, ◌<◌, ◌≤◌}
-use mathlib.Core.Path.{◌≡◌, refl, sym, ap, ◌∙◌}
+use Prim.Native.Nat.{ℕ, zero, suc, ◌+◌, ◌<◌}
+use mathlib.Core.Path.{◌≡◌, refl, ap, ◌∙◌}
 use mathlib.Core.List.{List, [], ◌∷◌, map}
 use native.Mathlib.Omega.{arith}
-use lib.ListN.{length, take, get_or, length-map, length-take}
-use lib.Seq.{get_or-take}
+use lib.ListN.{length, get_or, length-map}
 use Rattle.rules.specs.Text.{Text}
 use Rattle.rules.specs.Label.{Label}
 use Rattle.requests.specs.Symbols.{Rows}
@@ -23,13 +22,13 @@ mapped_at f [] k x e = clash cc
 mapped_at f (y ∷ l) zero x e = let u : y ≡ x = cc in ap f u
 mapped_at f (y ∷ l) (suc k) x e = mapped_at f l k x e
 
--- in a slice that holds a part f of each of n labels
-module _ (f : Label → ℕ) (l : List Label) (n : ℕ) (ys : List ℕ) (h : take n ys ≡ map f l) where
-  pub held_at : (k : ℕ) (x : Label) → k < n → IsEntry l k x → get_or ys k 0 ≡ f x
-  held_at k x u i = sym (get_or-take n ys k 0 u) ∙ ap (λ (z : List ℕ). get_or z k 0) h ∙ mapped_at f l k x i
+-- in a slice that holds a part f of each label
+module _ (f : Label → ℕ) (l : List Label) (ys : List ℕ) (h : ys ≡ map f l) where
+  pub held_at : (k : ℕ) (x : Label) → IsEntry l k x → get_or ys k 0 ≡ f x
+  held_at k x i = ap (λ (z : List ℕ). get_or z k 0) h ∙ mapped_at f l k x i
 
-  pub held_long : n ≡ length l → n ≤ length ys
-  held_long e = let u = sym (length-take n ys) ∙ ap length h ∙ length-map l f in omega arith
+  pub held_long : length ys ≡ length l
+  held_long = ap length h ∙ length-map l f
 
 -- rows that are a list's entries make the list
 pub from_entries : (s : Text) (y : Rows) (l : List Label) (k : ℕ) → ((i : ℕ) (x : Label) → IsEntry l i x → i < length l → label_at s y (k + i) ≡ x)

@@ -1,4 +1,3 @@
-pub mod SymbolLine
 pub mod Lines
 pub mod Held
 pub mod Told

@@ -1,78 +1,60 @@
--- The lines of rows, written one after another. Assumes nothing.
-use Prim.Native.Nat.{ℕ, suc, ◌+◌, ◌-◌, ◌<◌, ◌≤◌}
+-- The lines of rows, one after another. Assumes nothing.
+use Prim.Native.Nat.{ℕ, zero, suc, ◌+◌, ◌-◌, ◌<◌, ◌≤◌}
 use mathlib.Core.Path.{◌≡◌, refl, sym, ap, ◌∙◌}
-use mathlib.Core.List.{[], ◌++◌, flat_map}
-use native.Mathlib.Numerals.{add-one}
+use mathlib.Core.List.{[], ◌∷◌, ◌++◌, flat_map, append-nil, append_assoc}
 use native.Mathlib.Omega.{arith}
 use lib.ListN.{length, length-append, get_or}
 use Rattle.rules.specs.Text.{Text}
 use Rattle.requests.specs.Symbols.{Rows}
-use Rattle.text.specs.Spans.{part, over_from}
-use Rattle.text.proofs.Over.{Putting, putting_start, putting_part, putting_end, put_over}
-use Rattle.station.specs.Printed.{Printed}
-use Rattle.station.proofs.Printed.{printed}
+use Rattle.text.specs.Spans.{part}
+use Rattle.listing.specs.Listing.{digits_of, decimal}
+use Rattle.listing.proofs.Digits.{length_digits}
 use Rattle.symtext.specs.Symlist.{line_text, symbol_text}
-use Rattle.symtext.specs.Rows.{label_at, labels_from, rows_text, RowsFit}
-use Rattle.symtext.proofs.SymbolLine.{line_length}
+use Rattle.symtext.specs.Rows.{label_at, labels_from, lines_from, RowsFit}
 
--- the lines of the rows from k on, of n
-abbrev rest_from : Text → Rows → ℕ → ℕ → Text
-rest_from s x n k = flat_map symbol_text (labels_from s x k (n - k))
+pub line_length : (name : Text) (a n : ℕ) → length (line_text name a n) ≡ length name + 11 + length (decimal n)
+unfolding line_text
+line_length name a n =
+    rw
+    (length-append name (32 ∷ (digits_of 16 8 a ++ (32 ∷ (decimal n ++ (10 ∷ []))))), length-append (digits_of 16 8 a) (32 ∷ (decimal n ++ (10 ∷ []))), length-append (decimal n) (10 ∷ []), length_digits 16 8 a)
+    (omega arith)
 
--- the lines of k rows are put into first, which gives l, and end at i
-pub record Written (s : Text) (x : Rows) (n : ℕ) (first : Text) (k i : ℕ) (l : Text) : Type 0 where
-  pub upto : k ≤ n
-  pub ends : i + length (rest_from s x n k) ≡ length (rows_text s x n)
-  pub put : Putting 0 (rows_text s x n) first i (rest_from s x n k) l
-
-pub written_none : (s : Text) (x : Rows) (n : ℕ) (first : Text) → Written s x n first 0 0 first
-written_none s x n first =
-    let all : n - 0 ≡ n = omega arith in
-    record { upto = omega arith; ends = rw all (omega arith); put = putting_start 0 0 (rows_text s x n) (rest_from s x n 0) first refl (rw all) }
-
-module _ {s : Text} {x : Rows} {n : ℕ} {first : Text} {k i : ℕ} {l : Text} (w : Written s x n first k i l) where
-  pub written_all : n ≤ k → Printed (rows_text s x n) i first l
+module _ (s : Text) (x : Rows) where
+  -- k rows from i on are n of them, and m from j on
+  split : (n m k i j : ℕ) → n + m ≡ k → i + n ≡ j → lines_from s x i k ≡ lines_from s x i n ++ lines_from s x j m
   unfolding labels_from flat_map
-  written_all h =
-      let none : n - k ≡ 0 = omega arith in
-      let over : rest_from s x n k ≡ [] = rw none in
-      let end : i ≡ length (rows_text s x n) = omega (arith, rw none at w.ends) in
-      printed (rows_text s x n) i first l end (putting_end w.put over ∙ put_over (rows_text s x n) first)
+  split zero m k i j e f = let a : k ≡ m = omega arith in let b : j ≡ i = omega arith in rw (a, b)
+  split (suc n) m zero i j e f = absurd (omega arith)
+  split (suc n) m (suc k) i j e f =
+      rw (split n m k (suc i) j (omega arith) (omega arith)) (sym (append_assoc (symbol_text (label_at s x i)) (lines_from s x (suc i) n) (lines_from s x j m)))
 
-  module _ (h : k < n) where
-    next : rest_from s x n k ≡ symbol_text (label_at s x k) ++ rest_from s x n (k + 1)
-    unfolding labels_from flat_map
-    next = let one : n - k ≡ suc (n - (k + 1)) = omega arith in rw (one, add-one k)
+  pub lines_none : lines_from s x 0 0 ≡ []
+  unfolding labels_from flat_map
+  lines_none = refl
 
-    longer : length (rest_from s x n k) ≡ length (symbol_text (label_at s x k)) + length (rest_from s x n (k + 1))
-    longer = ap length next ∙ length-append (symbol_text (label_at s x k)) (rest_from s x n (k + 1))
-
+  module _ (k : ℕ) where
     -- the part of the source that is lent for the next line is its label's name
     abbrev lent : Text
     lent = part s (get_or x.starts k 0) (get_or x.starts k 0 + get_or x.lengths k 0)
 
-    lent_name : lent ≡ (label_at s x k).name
-    lent_name = let size : get_or x.starts k 0 + get_or x.lengths k 0 - get_or x.starts k 0 ≡ get_or x.lengths k 0 = omega arith in rw size
-
     abbrev line : Text
     line = line_text lent (get_or x.addresses k 0) (get_or x.lines k 0)
 
-    lent_line : line ≡ symbol_text (label_at s x k)
-    lent_line = ap (λ (t : Text). line_text t (get_or x.addresses k 0) (get_or x.lines k 0)) lent_name
+    one : lines_from s x k 1 ≡ line
+    unfolding labels_from flat_map
+    one =
+        let size : get_or x.starts k 0 + get_or x.lengths k 0 - get_or x.starts k 0 ≡ get_or x.lengths k 0 = omega arith in
+        rw size (append-nil (symbol_text (label_at s x k)))
+
+    pub lines_more : lines_from s x 0 (k + 1) ≡ lines_from s x 0 k ++ line
+    lines_more = split k 1 (k + 1) 0 k (omega arith) (omega arith) ∙ ap (λ (t : Text). lines_from s x 0 k ++ t) one
 
     -- there is room for it
-    pub written_room : RowsFit s x n → 131072 ≤ length l → i + length lent + 31 ≤ length l
-    written_room fit g =
-        let one = line_length lent (get_or x.addresses k 0) (get_or x.lines k 0) in
-        omega (arith, fit.room, w.ends, longer, ap length lent_line)
-
-    pub written_more : RowsFit s x n → 131072 ≤ length l → (j : ℕ) (l' : Text) → j ≡ i + length line → length l' ≡ length l → l' ≡ over_from i line l
-        → Written s x n first (k + 1) j l'
-    written_more fit g j l' ej el e =
-        let size = ap length lent_line in
-        record {
-          upto = omega arith;
-          ends = omega (arith, w.ends, longer, size);
-          put = putting_part w.put j line (rest_from s x n (k + 1)) l' (next ∙ ap (λ (t : Text). t ++ rest_from s x n (k + 1)) (sym lent_line)) ej
-              (omega (arith, written_room fit g)) el e;
-        }
+    pub lines_room : RowsFit s x → k < length x.starts → length (lines_from s x 0 k) + length lent + 31 ≤ 131072
+    lines_room fit h =
+        let n = length x.starts in
+        let rest = lines_from s x (k + 1) (n - (k + 1)) in
+        let all = split (k + 1) (n - (k + 1)) n 0 (k + 1) (omega arith) (omega arith) in
+        let size = ap length all ∙ length-append (lines_from s x 0 (k + 1)) rest in
+        let more = ap length lines_more ∙ length-append (lines_from s x 0 k) line in
+        omega (arith, fit.room, size, more, line_length lent (get_or x.addresses k 0) (get_or x.lines k 0))

@@ -5,13 +5,13 @@ use mathlib.Core.Bool.{false}
 use mathlib.Core.List.{List, [], ◌∷◌, flat_map}
 use native.Mathlib.Omega.{arith}
 use borrow.Author.Tests.{le-ltb}
-use lib.ListN.{length, get_or, length-append}
+use lib.ListN.{length, take, get_or, length-append}
 use Rattle.rules.specs.Limits.{max_source, max_lines, max_labels}
 use Rattle.rules.specs.Text.{Text}
 use Rattle.rules.specs.Label.{Label}
 use Rattle.rules.specs.Answer.{Answer, accepted, refused, refuse_if, and_then}
 use Rattle.rules.specs.Assemble.{pass_at_by}
-use Rattle.requests.specs.Symbols.{symbols, Rows, short_rows, room_rows, symbols_answer, symbols_rows}
+use Rattle.requests.specs.Symbols.{symbols, Rows, rows, short_rows, room_rows, symbols_answer, symbols_rows}
 use Rattle.promises.specs.Demand1.{source_over, of_source}
 use Rattle.promises.specs.Nearest.{In, head, tail}
 use Rattle.promises.specs.Symbols.{IsEntry, SymbolsAreListed, RowsWritten, names_length, SymbolsFit, EachListFits}
@@ -25,7 +25,7 @@ use Rattle.listing.proofs.Digits.{few_places, decimal_length}
 use Rattle.station.proofs.ScriptInput.{RefusesLong, checks_long}
 use Rattle.symtext.specs.Symlist.{symbol_text, told_text, symbols_text}
 use Rattle.symtext.specs.Rows.{label_at, labels_from, rows_text, RowsFit}
-use Rattle.symtext.proofs.SymbolLine.{line_length}
+use Rattle.symtext.proofs.Lines.{line_length}
 use Rattle.symtext.proofs.Held.{entry_at, held_at, held_long, from_entries}
 
 pub symbols_refuse_long : (base : ℕ) → RefusesLong (symbols_text base)
@@ -55,48 +55,55 @@ module _ (base : ℕ) (s : Text) (x : Rows) {y : Rows} {n : ℕ} (answered : acc
   unfolding EachListFits
   fits = each_list_fits base s call.list listed
 
+  pub few : n ≤ max_labels
+  few = omega (arith, fits.count, call.counted)
+
+  -- the rows that are written
+  abbrev cut : Rows
+  cut = rows (take n y.starts) (take n y.lengths) (take n y.addresses) (take n y.lines)
+
   -- what row k holds
-  module _ (k : ℕ) (m : Label) (i : IsEntry call.list k m) (h : k < n) where
-    start_is : get_or y.starts k 0 ≡ m.start
-    start_is = held_at (λ m. m.start) call.list n y.starts call.written.starts.0 k m h i
+  module _ (k : ℕ) (m : Label) (i : IsEntry call.list k m) where
+    start_is : get_or cut.starts k 0 ≡ m.start
+    start_is = held_at (λ m. m.start) call.list cut.starts call.written.starts.0 k m i
 
-    length_is : get_or y.lengths k 0 ≡ length m.name
-    length_is = held_at (λ m. length m.name) call.list n y.lengths call.written.lengths.0 k m h i
+    length_is : get_or cut.lengths k 0 ≡ length m.name
+    length_is = held_at (λ m. length m.name) call.list cut.lengths call.written.lengths.0 k m i
 
-    row_is : label_at s y k ≡ m
+    row_is : label_at s cut k ≡ m
     row_is =
         let name = (fits.entry (entry_in call.list k i)).text in
-        let address = held_at (λ m. m.address) call.list n y.addresses call.written.addresses.0 k m h i in
-        let line = held_at (λ m. m.line) call.list n y.lines call.written.lines.0 k m h i in
+        let address = held_at (λ m. m.address) call.list cut.addresses call.written.addresses.0 k m i in
+        let line = held_at (λ m. m.line) call.list cut.lines call.written.lines.0 k m i in
         rw (start_is, length_is, address, line, name)
 
-    ends_within : get_or y.starts k 0 + get_or y.lengths k 0 ≤ length s
+    ends_within : get_or cut.starts k 0 + get_or cut.lengths k 0 ≤ length s
     ends_within = rw (start_is, length_is) (fits.entry (entry_in call.list k i)).end
 
-  labels : labels_from s y 0 n ≡ call.list
-  labels =
-      ap (labels_from s y 0) call.counted
-      ∙ from_entries s y call.list 0 (λ i m e h. let z : 0 + i ≡ i = omega arith in rw z (row_is i m e (omega (arith, call.counted))))
+  counted : length cut.starts ≡ length call.list
+  counted = held_long (λ m. m.start) call.list cut.starts call.written.starts.0
 
-  room : length (rows_text s y n) + 20 ≤ 131072
+  labels : labels_from s cut 0 (length cut.starts) ≡ call.list
+  labels = ap (labels_from s cut 0) counted ∙ from_entries s cut call.list 0 (λ i m e h. let z : 0 + i ≡ i = omega arith in rw z (row_is i m e))
+
+  room : length (rows_text s cut) + 20 ≤ 131072
   room =
       let short : ¬ (max_source < length s) = λ h. call.listed.clear 1 (length s) (of_source (source_over h)) in
       let text = ap (λ (l : List Label). length (flat_map symbol_text l)) labels in
       omega (arith, lines_fit call.list (λ m i. (fits.entry i).line), fits.names, fits.count, text)
 
-  pub rows_fit : RowsFit s y n
+  pub rows_fit : RowsFit s cut
   rows_fit =
       let w = call.written in
       record {
-        starts = held_long (λ m. m.start) call.list n y.starts w.starts.0 call.counted;
-        lengths = held_long (λ m. length m.name) call.list n y.lengths w.lengths.0 call.counted;
-        addresses = held_long (λ m. m.address) call.list n y.addresses w.addresses.0 call.counted;
-        lines = held_long (λ m. m.line) call.list n y.lines w.lines.0 call.counted;
-        within = λ k h. let m = entry_at call.list k (omega (arith, call.counted)) in ends_within k m.0 m.1 h;
+        lengths = held_long (λ m. length m.name) call.list cut.lengths w.lengths.0 ∙ sym counted;
+        addresses = held_long (λ m. m.address) call.list cut.addresses w.addresses.0 ∙ sym counted;
+        lines = held_long (λ m. m.line) call.list cut.lines w.lines.0 ∙ sym counted;
+        within = λ k h. let m = entry_at call.list k (omega (arith, counted)) in ends_within k m.0 m.1;
         room = room;
       }
 
-  pub rows_text_lem : rows_text s y n ≡ symbols_text base s
+  pub rows_text_lem : rows_text s cut ≡ symbols_text base s
   unfolding symbols_text told_text
   rows_text_lem = rw (listed, labels)
 

@@ -1,5 +1,5 @@
 -- The lines of labels whose numbers stand in four slices, and what writing them needs. Assumes nothing.
-use Rattle.std.specs.Prelude.{ℕ, zero, suc, ◌+◌, ◌<◌, ◌≤◌, length, take, drop, get_or}
+use Rattle.std.specs.Prelude.{ℕ, zero, suc, ◌+◌, ◌<◌, ◌≤◌, ◌≡◌, length, take, drop, get_or}
 use mathlib.Core.List.{List, [], ◌∷◌, flat_map}
 use Rattle.rules.specs.Text.{Text}
 use Rattle.rules.specs.Label.{Label}
@@ -21,15 +21,18 @@ unfoldable pub labels_from : Text → Rows → ℕ → ℕ → List Label
 labels_from s x k zero = []
 labels_from s x k (suc n) = label_at s x k ∷ labels_from s x (suc k) n
 
--- the lines of the first n rows
-abbrev pub rows_text : Text → Rows → ℕ → Text
-rows_text s x n = flat_map symbol_text (labels_from s x 0 n)
+-- the lines of n rows from row k on
+abbrev pub lines_from : Text → Rows → ℕ → ℕ → Text
+lines_from s x k n = flat_map symbol_text (labels_from s x k n)
 
--- n rows whose names lie in the source, and whose lines leave of 131,072 bytes the 20 that any number may take
-pub record RowsFit (s : Text) (x : Rows) (n : ℕ) : Type 0 where
-  pub starts : n ≤ length x.starts
-  pub lengths : n ≤ length x.lengths
-  pub addresses : n ≤ length x.addresses
-  pub lines : n ≤ length x.lines
-  pub within : (k : ℕ) → k < n → get_or x.starts k 0 + get_or x.lengths k 0 ≤ length s
-  pub room : length (rows_text s x n) + 20 ≤ 131072
+-- the lines of all rows
+abbrev pub rows_text : Text → Rows → Text
+rows_text s x = lines_from s x 0 (length x.starts)
+
+-- rows whose names lie in the source, and whose lines leave of 131,072 bytes the 20 that any number may take
+pub record RowsFit (s : Text) (x : Rows) : Type 0 where
+  pub lengths : length x.lengths ≡ length x.starts
+  pub addresses : length x.addresses ≡ length x.starts
+  pub lines : length x.lines ≡ length x.starts
+  pub within : (k : ℕ) → k < length x.starts → get_or x.starts k 0 + get_or x.lengths k 0 ≤ length s
+  pub room : length (rows_text s x) + 20 ≤ 131072

@@ -1,10 +1,11 @@
 #![tactic(auto)]
 
-//! What `symlist` prints for a script that was read chunk by chunk: the labels with their addresses and lines.
+//! What `symlist` prints for a script that was read chunk by chunk: the labels with their addresses and lines. There is no heap:
+//! a text is put at the front of a slice that is lent.
 ghost use Rattle.std.specs.Prelude.{◌≡◌, ◌+◌, ◌≤◌, length as len};
 ghost use Rattle.rules.specs.Text.{Text};
 ghost use Rattle.requests.specs.Symbols.{rows};
-ghost use Rattle.text.specs.Spans.{over_from};
+ghost use Rattle.listing.specs.Writer.{Adds};
 ghost use Rattle.station.specs.Station.{unless_failed, input_text};
 ghost use Rattle.station.specs.Printed.{Printed};
 ghost use Rattle.station.specs.Reads.{Reads};
@@ -12,47 +13,45 @@ ghost use Rattle.symtext.specs.Symlist.{line_text, symbols_text};
 ghost use Rattle.symtext.specs.Rows.{rows_text, RowsFit};
 
 use answer::Refusal;
-use listing::writing::{write_bytes, write_decimal, write_digits};
+use listing::writer::Writer;
 use rules::{MAX_LABELS, MAX_SOURCE};
 use station::input::Input;
 use station::{SCRIPT, TEXT, write_refusal};
 use symbols::list_symbols;
 
-// Puts a label's line at an index, and answers the index after it.
-fn write_line(name: &[u8], address: u32, line: u32, at: usize, out: &mut [u8]) -> usize
-    requires { at + len name.now + 31 ≤ len out.old }
-    ensures { (result ≡ at + len (line_text name.now address line)) × (out.new ≡ over_from at (line_text name.now address line) out.old) }
+// Writes a label's line.
+fn push_line(name: &[u8], address: u32, line: u32, text: &mut Writer<'_>)
+    requires { text.old.len + len name.now + 31 ≤ len text.old.out.now }
+    ensures { Adds (line_text name.now address line) text.old text.new }
 {
-    let behind = at + name.len();
-    write_bytes(out, at, name);
-    out[behind] = b' ';
-    write_digits(out, behind + 1, 16, 8, address as u64);
-    out[behind + 9] = b' ';
-    let end = write_decimal(out, behind + 10, line as u64);
-    out[end] = b'\n';
-    end + 1
+    text.push_bytes(name);
+    text.push(b' ');
+    text.push_digits(16, 8, u64::from(address));
+    text.push(b' ');
+    text.push_decimal(u64::from(line));
+    text.push(b'\n');
 }
 
-// Puts the lines of the first `count` rows at the front, and answers their length.
-fn write_lines(
+// Writes the lines of rows.
+fn push_lines(
     source: &[u8],
     starts: &[u32],
     lengths: &[u32],
     addresses: &[u32],
     lines: &[u32],
-    count: usize,
-    out: &mut [u8; TEXT],
-) -> usize
-    requires { RowsFit source.now (rows starts.now lengths.now addresses.now lines.now) count }
-    ensures { Printed (rows_text source.now (rows starts.now lengths.now addresses.now lines.now) count) result out.old out.new }
+    text: &mut Writer<'_>,
+)
+    requires fits { RowsFit source.now (rows starts.now lengths.now addresses.now lines.now) }
+    requires room { text.old.len + 131072 ≤ len text.old.out.now }
+    ensures { Adds (rows_text source.now (rows starts.now lengths.now addresses.now lines.now)) text.old text.new }
 {
-    let mut at = 0;
-    for k in 0..count {
+    // A row stands at one index of four slices.
+    for k in 0..starts.len() {
+        // `usize` has no `From<u32>`.
         let start = starts[k] as usize;
         let end = start + lengths[k] as usize;
-        at = write_line(&source[start..end], addresses[k], lines[k], at, out);
+        push_line(&source[start..end], addresses[k], lines[k], text);
     }
-    at
 }
 
 /// Puts the lines of a source's labels, or that of its refusal, at the front, and answers their length.
@@ -71,12 +70,25 @@ pub fn write_symbols(source: &[u8], base: u32, out: &mut [u8; TEXT]) -> usize
         &mut addresses,
         &mut lines,
     ) {
-        Ok(count) => write_lines(source, &starts, &lengths, &addresses, &lines, count, out),
+        Ok(count) => {
+            let mut text = Writer::new(out);
+            push_lines(
+                source,
+                &starts[..count],
+                &lengths[..count],
+                &addresses[..count],
+                &lines[..count],
+                &mut text,
+            );
+            text.len
+        }
         Err(refusal) => write_refusal(refusal, out),
     }
 }
 
 /// Puts what is printed for an input that is a script at the front, and answers its length: nothing if it was not read whole.
+// As `station`'s `script_text`, by a call of its own: why, stands there.
+#[tactic(auto, using(station::proofs::Printed::printed_none, crate::proofs::Told::symbols_refuse_long, station::proofs::ScriptInput::front_is_enough), unfolding(station::specs::Station::input_text, station::specs::Station::unless_failed))]
 pub fn symbols_text(script: &[u8; SCRIPT], input: Input, out: &mut [u8; TEXT]) -> usize
     ensures printed { Printed (input_text (symbols_text 0) input script.now) result out.old out.new }
     ensures script_value { (t : Text) → Reads t script.now input → input_text (symbols_text 0) input script.now ≡ unless_failed input (symbols_text 0 t) }
