@@ -1,4 +1,3 @@
 pub mod Lines
 pub mod Defines
-pub mod Starts
 pub mod Looking

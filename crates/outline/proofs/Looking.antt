@@ -1,7 +1,7 @@
 -- What the loops over a line's bytes keep: to its text, and over its text once. Assumes nothing.
-use mathlib.Core.Path.{◌≡◌, refl, sym, ◌∙◌}
+use mathlib.Core.Path.{◌≡◌, refl, sym, ap, ◌∙◌}
 use mathlib.Core.Logic.{◌≢◌}
-use mathlib.Core.Bool.{Bool, true, false, ◌&&◌, ◌||◌, cond, or-false}
+use mathlib.Core.Bool.{Bool, true, false, ◌&&◌, ◌||◌, not, cond, or-false}
 use mathlib.Core.List.{[], ◌∷◌}
 use Prim.Native.Nat.{ℕ, zero, suc, ◌+◌, ◌-◌, ◌≤◌, ◌<◌}
 use native.Mathlib.Numerals.{add-one}
@@ -10,11 +10,11 @@ use borrow.Author.Tests.{eq-eqb, ne_eqb, leb-true, leb-false, le-leb, lt-leb}
 use lib.Dec.{eqb, leb}
 use lib.ListN.{length, take, drop, get_or}
 use lib.Seq.{drop-drop}
-use Rattle.rules.specs.Text.{Text, leading}
+use Rattle.rules.specs.Text.{Text, blank, leading}
 use Rattle.rules.specs.Line.{is_data}
 use Rattle.text.specs.Pieces.{until}
 use Rattle.text.proofs.Compare.{eqb_sym}
-use Rattle.text.proofs.Trim.{leading_le}
+use Rattle.text.proofs.Trim.{leading_blank, leading_none, leading_le}
 use Rattle.text.proofs.Until.{until_here, until_later, Stepped, stepped_all, stepped_stop, stepped_more}
 use Rattle.outline.specs.Lines.{line_end, line_from}
 use Rattle.outline.specs.Outline.{is_define, defines_from, back, next_colon, outline_by, OutlineLineGives}
@@ -26,6 +26,48 @@ is_ten b e = eqb_sym 10 b ∙ eq-eqb b 10 e
 
 no_ten : (b : ℕ) → b ≢ 10 → eqb 10 b ≡ false
 no_ten b e = eqb_sym 10 b ∙ ne_eqb b 10 e
+
+is_not : (b : Bool) {y : Bool} → not b ≡ y → b ≡ not y
+is_not true e = ap not e
+is_not false e = ap not e
+
+-- ---- the loop of `text_start`
+-- blanks stand before i, and those after them lead to the same place
+pub record Begun (s : Text) (at i : ℕ) : Type 0 where
+  pub within : i ≤ length s
+  pub same : i + leading (line_from s i) ≡ at + leading (line_from s at)
+
+module _ {s : Text} {at i : ℕ} (inv : Begun s at i) where
+  begun_none : line_from s i ≡ [] → i ≡ at + leading (line_from s at)
+  unfolding leading
+  begun_none e = let h = rw e at inv.same in omega arith
+
+  pub begun_ended : length s ≤ i → length s ≡ at + leading (line_from s at)
+  begun_ended h = let z = begun_none (line_ended s i h) in let w = inv.within in omega arith
+
+  module _ (h : i < length s) where
+    pub begun_over : get_or s i 0 ≡ 10 → i ≡ at + leading (line_from s at)
+    begun_over e = begun_none (line_over s i h (is_ten _ e))
+
+    module _ (e : get_or s i 0 ≢ 10) where
+      pub begun_text : not (blank (get_or s i 0)) ≡ true → i ≡ at + leading (line_from s at)
+      begun_text b =
+          let k = rw (line_more s i h (no_ten _ e), leading_none (get_or s i 0) (line_from s (suc i)) (is_not _ b)) at inv.same in
+          omega arith
+
+      pub begun_more : not (blank (get_or s i 0)) ≡ false → Begun s at (i + 1)
+      begun_more b =
+          let k = rw (line_more s i h (no_ten _ e), leading_blank (get_or s i 0) (line_from s (suc i)) (is_not _ b)) at inv.same in
+          record { within = omega arith; same = rw (add-one i) (omega arith) }
+
+  -- from another byte on
+  pub begun_there : {r : ℕ} → r ≡ i + leading (line_from s i) → r ≡ at + leading (line_from s at)
+  begun_there e = e ∙ inv.same
+
+  -- a space is a blank
+  pub begun_space : i < length s → get_or s i 0 ≡ 32 → Begun s at (i + 1)
+  unfolding blank
+  begun_space h e = begun_more h (λ z. absurd (omega arith)) (rw e)
 
 -- ---- a line from a place in it on
 module _ (f : ℕ → Bool) where

@@ -1,6 +1,6 @@
 -- The source's lines by position. Assumes nothing.
-use Rattle.std.specs.Prelude.{ℕ, ◌+◌, Bool, not, ◌||◌, cond, List, [], length, drop, take, eqb, leb}
-use Rattle.rules.specs.Text.{Text, blank, cut_at}
+use Rattle.std.specs.Prelude.{ℕ, ◌+◌, cond, List, [], length, drop, take, eqb, leb}
+use Rattle.rules.specs.Text.{Text, cut_at}
 use Rattle.rules.specs.Line.{SourceLine, numbered}
 use Rattle.text.specs.Pieces.{until}
 
@@ -11,13 +11,6 @@ line_end s i = i + until (eqb 10) (drop i s)
 -- the line that starts at i
 abbrev pub line_from : Text → ℕ → Text
 line_from s i = take (until (eqb 10) (drop i s)) (drop i s)
-
--- a byte that ends the leading blanks of a line, or of what stands in it: the line's end too
-abbrev pub starts_text : ℕ → Bool
-starts_text b = eqb b 10 || not (blank b)
-
-abbrev pub unspaced : ℕ → Bool
-unspaced b = not (eqb b 32)
 
 -- the lines from position i on, the first of them number n: none where i lies past the source's end
 unfoldable pub lines_from : Text → ℕ → ℕ → List SourceLine

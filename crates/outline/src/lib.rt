@@ -4,42 +4,37 @@
 //! is in it, and where it ends. All are places in the source.
 ghost use Rattle.std.specs.Prelude.{◌≡◌, ◌||◌, ◌+◌, ◌≤◌, length};
 ghost use Rattle.rules.specs.Text.{leading};
-ghost use Rattle.outline.specs.Lines.{line_from, starts_text, unspaced};
+ghost use Rattle.outline.specs.Lines.{line_from};
 ghost use Rattle.outline.specs.Outline.{is_define, back, next_colon, outline_by, OutlineLineGives};
 
-use text::ByteTest;
-
-// The bytes that end a line's leading blanks: what is no blank, and the line's end. This and the type below are names and
-// have no values.
-struct TextStart;
-
-impl ByteTest for TextStart {
-    ghost test = { starts_text };
-
-    fn passes(b: u8) -> bool {
-        b == b'\n' || !text::is_blank(b)
+// Where the text of the line that starts at `at` begins, after its leading blanks. By place, here and in `text_start`: with two
+// `text::skip_to` the loop of `outline_line` has an instruction a byte less, and takes a sixth more time.
+fn after_blanks(source: &[u8], at: usize) -> usize
+    requires { at ≤ length source.now }
+    ensures { result ≡ at + leading (line_from source.now at) }
+{
+    for i in at..source.len() {
+        if source[i] == 10 {
+            return i;
+        }
+        if !text::is_blank(source[i]) {
+            return i;
+        }
     }
+    source.len()
 }
 
-// The bytes that are no spaces.
-struct Unspaced;
-
-impl ByteTest for Unspaced {
-    ghost test = { unspaced };
-
-    fn passes(b: u8) -> bool {
-        b != b' '
-    }
-}
-
-// Where the text of the line that starts at `at` begins, after its leading blanks: the usual blank first.
-#[tactic(auto, using(crate::proofs::Starts::text_starts))]
+// The same, the usual blank first.
 fn text_start(source: &[u8], at: usize) -> usize
     requires { at ≤ length source.now }
     ensures { result ≡ at + leading (line_from source.now at) }
 {
-    let spaces = text::skip_to::<Unspaced>(source, at);
-    text::skip_to::<TextStart>(source, spaces)
+    for i in at..source.len() {
+        if source[i] != b' ' {
+            return after_blanks(source, i);
+        }
+    }
+    source.len()
 }
 
 // The two bytes are DC or DS, in either case.
