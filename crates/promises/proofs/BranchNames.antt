@@ -15,7 +15,7 @@ use Rattle.requests.specs.Branches.{byte_of, four_of, keep_name, unpadded, any_l
 use Rattle.promises.specs.Nearest.{In, head, tail}
 use Rattle.promises.specs.Branches.{Row, four, rows_bytes, Padded, Blank, tab, space, Misnamed, starts_blank, lower_case, twice, taken}
 use Rattle.promises.proofs.Compared.{clash}
-use Rattle.promises.proofs.RustText.{same_eq}
+use Rattle.promises.proofs.Same.{same_eq}
 use Rattle.promises.proofs.Kept.{same_self}
 use Rattle.promises.proofs.BranchRows.{row_at, front_rows, front_command}
 

@@ -15,7 +15,7 @@ use Rattle.rules.specs.Label.{Label, Table, find, recorded, has_room, label_of, 
 use Rattle.rules.proofs.Names.{Rising, over, next}
 use Rattle.promises.specs.Nearest.{In, head, tail}
 use Rattle.promises.proofs.Compared.{clash}
-use Rattle.promises.proofs.RustText.{same_eq}
+use Rattle.promises.proofs.Same.{same_eq}
 
 -- names that do not compare the same are not equal
 pub same_self : (s : Text) → same s s ≡ true

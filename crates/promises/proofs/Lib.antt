@@ -1,5 +1,6 @@
 pub mod Examples
 pub mod Compared
+pub mod Same
 pub mod Tasks
 pub mod Shapes
 pub mod Demand1Search
@@ -20,18 +21,6 @@ pub mod ManualLines
 pub mod Asked
 pub mod ManualFields
 pub mod ManualForms
-pub mod RustText
-pub mod RustNumber
-pub mod RustOperand
-pub mod RustOpcode
-pub mod RustEncode
-pub mod RustBrackets
-pub mod RustLine
-pub mod RustValue
-pub mod RustPass
-pub mod RustLabels
-pub mod Demand2Rust
-pub mod RustRefused
 pub mod Lists
 pub mod Shift
 pub mod Words
@@ -91,11 +80,6 @@ pub mod BranchEleven
 pub mod BranchCalls
 pub mod BranchLands
 pub mod BranchCases
-pub mod BenchTexts
-pub mod BenchWords
-pub mod BenchRun
-pub mod BenchFill
-pub mod Bench
 pub mod SheetLines
 pub mod SheetSums
 pub mod SheetClasses

@@ -16,7 +16,7 @@ use Rattle.requests.specs.Explain.{Reason, not_instruction, unknown_mnemonic, wr
 use Rattle.promises.specs.Nearest.{In, head, tail}
 use Rattle.promises.specs.Explain.{rank, Faulty, Holds, other, unknown, operands}
 use Rattle.promises.proofs.Compared.{clash}
-use Rattle.promises.proofs.RustText.{same_eq}
+use Rattle.promises.proofs.Same.{same_eq}
 use Rattle.promises.proofs.Kept.{not_same}
 use Rattle.promises.proofs.Words.{some_words}
 use Rattle.promises.proofs.Decided.{there, none_there}

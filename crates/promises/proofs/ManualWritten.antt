@@ -20,7 +20,7 @@ use Rattle.promises.specs.Explain.{behind_hash, IsKind, Numeric}
 use Rattle.promises.specs.Demand2Manual.{D, at_a, L, W}
 use Rattle.promises.specs.ManualWritten.{A, branch_named, Jump, as_jmp, as_jump, WrittenHere, moveq, move_data, load, store, copy, load_label, store_label, movea, muls_data, muls, add, sub, cmp, cmp_data, tst, subq, asl, nop, jump_number, jump_label}
 use Rattle.promises.proofs.Compared.{clash}
-use Rattle.promises.proofs.RustText.{same_eq}
+use Rattle.promises.proofs.Same.{same_eq}
 use Rattle.promises.proofs.Stages.{and_both}
 use Rattle.promises.proofs.Decided.{Decided, yes, no}
 use Rattle.promises.proofs.Readings.{readings_mean}

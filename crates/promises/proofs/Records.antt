@@ -24,7 +24,7 @@ use Rattle.promises.proofs.Shapes.{end_unlabelled}
 use Rattle.promises.proofs.Demand1Lines.{line_at, no_line}
 use Rattle.promises.proofs.Demand1Passes.{reached_once, not_end}
 use Rattle.promises.proofs.Standing.{texts_at}
-use Rattle.promises.proofs.RustText.{same_eq}
+use Rattle.promises.proofs.Same.{same_eq}
 use Rattle.promises.proofs.Kept.{same_self, Unique, Last, Keeps, keeps_by, keeps_all, mapped, map_in}
 
 -- the line after starts after its bytes and the byte 10

@@ -2,9 +2,6 @@ pub mod Examples
 pub mod Stages
 pub mod Demand1
 pub mod Demand2Manual
-pub mod RustStr
-pub mod RustAssembler
-pub mod Demand2Rust
 pub mod Lawful
 pub mod Demand3
 pub mod Pairs
@@ -28,6 +25,5 @@ pub mod Branches
 pub mod BranchCalls
 pub mod BranchCases
 pub mod Tidy
-pub mod Bench
 pub mod Sheet
 pub mod SheetExamples
