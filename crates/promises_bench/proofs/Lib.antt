@@ -1,0 +1,13 @@
+pub mod BenchTexts
+pub mod BenchWords
+pub mod BenchJudge
+pub mod BenchRun
+pub mod BenchFill
+pub mod BenchRefusals
+pub mod BenchAccepts
+pub mod StepsLaws
+pub mod StepsShift
+pub mod StepsMet
+pub mod StepsForms
+pub mod Conditions
+pub mod EveryStep
