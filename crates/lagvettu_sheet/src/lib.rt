@@ -4,7 +4,7 @@
 //! other calls what the compiler inlines there. An answer is as in 01's interface; include/lagvettu.h declares it.
 ghost use Rattle.requests.specs.Sheet.{add_source, add_sheet};
 ghost use Rattle.sheet.specs.Totals.{lent_totals, answered};
-ghost use Rattle.lagvettu_sheet.specs.Called.{AddsTotals};
+ghost use Rattle.sheet.specs.Called.{AddsTotals};
 
 use answer::Refusal;
 use sheet::Totals;

@@ -1,3 +1,4 @@
 pub mod Totals
 pub mod Lines
 pub mod Source
+pub mod Called

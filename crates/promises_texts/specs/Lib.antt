@@ -1,0 +1,4 @@
+pub mod Inputs
+pub mod Labels
+pub mod Sheets
+pub mod Examples
