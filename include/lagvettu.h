@@ -6,9 +6,13 @@
  * function, the pointers are the caller's part: each is aligned, not null (at length 0 too) and good for its length,
  * what a call writes overlaps nothing else that it is lent, and nothing else writes there meanwhile.
  *
- * A list stands in the first count places of three slices: addresses, words and marks. A mark is 1 on a word that is a
- * label's address, taken modulo 65,536; 2 on the high word and 3 on the low word of a label's address of 32 bits, which
- * stand next to each other; and 0 on every other word. Places past the count never change.
+ * A list stands in the first count places of three slices: addresses, words and marks. Places past the count never change.
+ * A mark says what its word is:
+ *
+ *     1, the label word: a label's address, taken modulo 65,536;
+ *     2, the high word: the high word of a label's address of 32 bits, whose low word stands next;
+ *     3, the low word: that low word;
+ *     0, the other word: every other word.
  *
  * An answer is a number: LAGVETTU_ACCEPTED, with the count in *place, or else a refusal of enum lagvettu_refusal, with its
  * place in *place. A refused call changes no slice. *place is written by each call.

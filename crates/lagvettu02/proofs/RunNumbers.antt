@@ -5,7 +5,7 @@ use Rattle.rules.specs.Answer.{Answer, accepted, refused}
 use Rattle.machine.specs.Machine.{Run}
 use Rattle.machine.specs.declared.Ran.{Ran}
 use Rattle.stepper.specs.Stepper.{value_of, ran_answer}
-use Rattle.lagvettu02.specs.Bench.{end_number, flags_number, Numbers, of_run, not_run}
+use Rattle.numbers.specs.Ran.{end_number, flags_number, Numbers, of_run, not_run}
 
 pub run_numbers : (told : Answer Run) {ran : Ran} {e f : ℕ} → accepted ran ≡ ran_answer told → e ≡ end_number ran.end → f ≡ flags_number ran.status.flags
     → Numbers told 0 e ran.steps ran.status.pc f 0

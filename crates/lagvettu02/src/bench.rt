@@ -1,7 +1,7 @@
 //! The bench from C.
 ghost use Rattle.std.specs.Prelude.{◌≡◌, cond, ◌≤◌};
 ghost use Rattle.machine.specs.Bench.{bench_of};
-ghost use Rattle.lagvettu02.specs.Bench.{end_number, flags_number, Benches};
+ghost use Rattle.numbers.specs.Ran.{end_number, flags_number, Benches};
 
 use machine::{End, Flags, MEMORY};
 

@@ -14,7 +14,8 @@ ghost use Rattle.requests.specs.Tidy.{tidy_answer, tidy_slice};
 ghost use Rattle.answer.specs.Told.{told_number, told_place};
 ghost use Rattle.directive.specs.Directive.{line_number_of};
 ghost use Rattle.explain.specs.Called.{Explains};
-ghost use Rattle.lagvettu02.specs.Called.{Nears, failure_number, said_number, said_value};
+ghost use Rattle.numbers.specs.Said.{failure_number, said_number, said_value};
+ghost use Rattle.lagvettu02.specs.Called.{Nears};
 
 use numeral::Failure;
 

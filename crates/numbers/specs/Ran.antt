@@ -1,4 +1,4 @@
--- What `lagvettu_run` owes: its answer as numbers, and registers and memory afterwards. Assumes nothing.
+-- A run as C gets it: the answer as numbers, and registers and memory afterwards. Assumes nothing.
 use Rattle.std.specs.Prelude.{ℕ, ◌+◌, ◌≡◌, cond, List}
 use Rattle.rules.specs.Answer.{Answer, accepted, refused}
 use Rattle.machine.specs.Machine.{Run}
