@@ -1,2 +1,3 @@
--- Laws of signed numbers. Assumes nothing.
+-- Laws of signed numbers and of tests of two signs. Assumes nothing.
+pub mod Conditions
 pub mod Signs

@@ -180,10 +180,16 @@ pub fn is_met(k: usize, f: Flags) -> bool
 {
     match k {
         0 => true,
+        2 => !f.c && !f.z,
+        3 => f.c || f.z,
         4 => !f.c,
         5 => f.c,
         6 => !f.z,
         7 => f.z,
+        8 => !f.v,
+        9 => f.v,
+        10 => !f.n,
+        11 => f.n,
         12 => f.n == f.v,
         13 => f.n != f.v,
         14 => !f.z && f.n == f.v,

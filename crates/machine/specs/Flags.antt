@@ -41,12 +41,12 @@ unfoldable pub shifted : ℕ → ℕ → Flags
 shifted k v =
     marks (last_out k v) (2 ^ 31) (v * 2 ^ k % 2 ^ 32) (not (fits_in (2 ^ 31) (sign_by (2 ^ 31) v *ℤ pos (2 ^ k)))) (last_out k v)
 
--- the conditions by their four bits, as the manual's table has them; those that no form has stand as false
+-- the sixteen conditions by their four bits, as the manual's table has them: T, F, HI, LS, CC, CS, NE, EQ, VC, VS, PL, MI, GE, LT, GT, LE
 abbrev pub conditions : Flags → List Bool
 conditions f =
-    true ∷ false ∷ false ∷ false
+    true ∷ false ∷ (not f.c && not f.z) ∷ (f.c || f.z)
     ∷ not f.c ∷ f.c ∷ not f.z ∷ f.z
-    ∷ false ∷ false ∷ false ∷ false
+    ∷ not f.v ∷ f.v ∷ not f.n ∷ f.n
     ∷ (f.n && f.v || not f.n && not f.v)
     ∷ (f.n && not f.v || not f.n && f.v)
     ∷ (f.n && f.v && not f.z || not f.n && not f.v && not f.z)

@@ -1,7 +1,7 @@
 -- After a compare the conditions are comparisons. Assumes nothing.
-use Prim.Native.Nat.{ℕ, ◌+◌, ◌/◌, ◌%◌, ◌<◌, ◌≤◌}
+use Prim.Native.Nat.{ℕ, zero, suc, ◌+◌, ◌/◌, ◌%◌, ◌<◌, ◌≤◌}
 use mathlib.Core.Path.{◌≡◌, refl, sym, ◌∙◌, ap}
-use mathlib.Core.Bool.{Bool, true, false, cond, false≢true}
+use mathlib.Core.Bool.{Bool, true, false, cond, not, ◌&&◌, ◌||◌, false≢true}
 use mathlib.Core.Logic.{◌↔◌, ◌⊎◌, inl, inr}
 use native.Mathlib.Omega.{arith}
 use native.Mathlib.Nat.{mod-add-mod}
@@ -10,14 +10,15 @@ use borrow.Author.Tests.{ltb-true, ltb-false}
 use lib.Dec.{ltb}
 use lib.IntN.{ℤ, pos, neg_ℤ, ◌+ℤ◌, ◌-ℤ◌, ◌*ℤ◌}
 use lib.Signed.{lt_z, ≤ℤ_refl, <ℤ_irrefl, ◌≤ℤ◌, ◌<ℤ◌}
-use Rattle.machine.specs.Flags.{fits_in}
+use Rattle.machine.specs.Flags.{fits_in, holds}
+use Rattle.machine.specs.Form.{listed}
 use Rattle.machine.specs.Machine.{State, act_of}
 use Rattle.machine.specs.declared.Flags.{Flags}
 use Rattle.machine.specs.declared.Form.TheVariants.{Cmp}
 use Rattle.promises_bench.specs.Steps.{signed_as, low_word, Dn, PlainState, Reduced, InRange, CmpIsTheManuals, BranchIsTheManuals, Met, T, CC, CS, NE, EQ, GE, LT, GT, LE_zero, LE_less}
-use Rattle.promises_bench.specs.Conditions.{Compares, always, carry_clear, carry_set, not_equal, equal, greater_or_equal, less_than, greater_than, less_or_equal, ConditionsCompare, BranchesCompare}
+use Rattle.promises_bench.specs.Conditions.{Compares, always, higher, lower_or_same, carry_clear, carry_set, not_equal, equal, overflow_clear, overflow_set, plus_sign, minus_sign, greater_or_equal, less_than, greater_than, less_or_equal, ConditionsCompare, BranchesCompare}
 use Rattle.promises_bench.proofs.StepsLaws.{in_word, not_word, out_word}
-use Rattle.promises_bench.proofs.StepsMet.{met, branch_listed}
+use Rattle.promises_bench.proofs.StepsMet.{met, branch_listed, negated}
 use Rattle.promises_bench.proofs.StepsForms.{cmp_is_the_manuals, branch_is_the_manuals, step_plain}
 
 -- a word and how it reads
@@ -171,10 +172,54 @@ module _ (f : Flags) (a b r : ℕ) (la : a < 65536) (lb : b < 65536) (lr : r < 6
           let n : f.n ≡ true = negative.1 (above_out (signed_as 16 a) (signed_as 16 b) (signed_as 16 r) d.times d.is bx by bz l o) in
           n ∙ sym v
 
+-- one remainder
+one_rest : (z : ℤ) (r w : ℕ) → Reduced 65536 z r → Reduced 65536 z w → r ≡ w
+one_rest z r w p q =
+    let a = p.below in let b = p.away in let c = q.below in let d = q.away in
+    omega (ints, arith)
+
+below_zero : (z : ℤ) → pos 0 ≤ℤ z → z <ℤ pos 0 → ⊥
+below_zero z l h = omega (ints, arith)
+
+higher_of : (a b : ℕ) → a ≤ b → ¬ (b ≡ a) → a < b
+higher_of a b l n = go (ltb a b) refl
+  where
+    go : (t : Bool) → ltb a b ≡ t → a < b
+    go true e = ltb-true a b e
+    go false e = let h = ltb-false a b e in absurd (n (omega arith))
+
+same_or_lower : (a b : ℕ) → b ≤ a → (b < a) ⊎ (b ≡ a)
+same_or_lower a b l = go (ltb b a) refl
+  where
+    go : (t : Bool) → ltb b a ≡ t → (b < a) ⊎ (b ≡ a)
+    go true e = inl (ltb-true b a e)
+    go false e = let h = ltb-false b a e in inr (omega arith)
+
+neither : (c z : Bool) → (not c && not z) ≡ true → (c ≡ false) × (z ≡ false)
+neither true z e = absurd (false≢true e)
+neither false true e = absurd (false≢true e)
+neither false false e = (refl, refl)
+
+of_neither : (c z : Bool) → c ≡ false → z ≡ false → (not c && not z) ≡ true
+of_neither c z d e = rw (d, e) refl
+
+either : (c z : Bool) → (c || z) ≡ true → (c ≡ true) ⊎ (z ≡ true)
+either true z e = inl refl
+either false z e = inr e
+
+of_either : (c z : Bool) → (c ≡ true) ⊎ (z ≡ true) → (c || z) ≡ true
+of_either true z p = refl
+of_either false z (inl e) = absurd (false≢true e)
+of_either false z (inr e) = e
+
 -- the conditions of a compare of b with a
 record Compared (f : Flags) (a b : ℕ) : Type 0 where
   carry : (f.c ≡ true) ↔ (b < a)
   zero : (f.z ≡ true) ↔ (b ≡ a)
+  overflow : (f.v ≡ true) ↔ (¬ InRange 16 (signed_as 16 b -ℤ signed_as 16 a))
+  rest : ℕ
+  is : Reduced 65536 (pos b -ℤ pos a) rest
+  negative : (f.n ≡ true) ↔ (signed_as 16 rest <ℤ pos 0)
   less : signed_as 16 b <ℤ signed_as 16 a → ¬ (f.n ≡ f.v)
   not_less : signed_as 16 a ≤ℤ signed_as 16 b → f.n ≡ f.v
 
@@ -194,44 +239,93 @@ compared s n m p l h =
     record {
       carry = c.borrow;
       zero = ((λ e. no_difference a b r c.is.times la lb c.is.away (c.marks.zero.0 e)), (λ e. c.marks.zero.1 (all_difference a b r c.is.times lr c.is.away e)));
+      overflow = c.overflow;
+      rest = r;
+      is = c.is;
+      negative = c.marks.negative;
       less = less f a b r la lb lr d c.marks.negative c.overflow;
       not_less = not_less f a b r la lb lr d c.marks.negative c.overflow;
     }
 
-compares : (f : Flags) (a b k : ℕ) → a < 65536 → b < 65536 → Compared f a b → Met f k → Compares a b k
-compares f a b k la lb c T = always
-compares f a b k la lb c (CC e) = carry_clear (above a b (λ l. false≢true (sym e ∙ c.carry.1 l)))
-compares f a b k la lb c (CS e) = carry_set (c.carry.0 e)
-compares f a b k la lb c (NE e) = not_equal (λ q. false≢true (sym e ∙ c.zero.1 q))
-compares f a b k la lb c (EQ e) = equal (c.zero.0 e)
-compares f a b k la lb c (GE e) = greater_or_equal (at_least _ _ (λ l. c.less l e))
-compares f a b k la lb c (LT e) = less_than (at_most _ _ (λ l. e (c.not_less l)))
-compares f a b k la lb c (GT e g) =
-    greater_than (strictly _ _ (at_least _ _ (λ l. c.less l g)) (λ q. false≢true (sym e ∙ c.zero.1 (same_word a b la lb q))))
-compares f a b k la lb c (LE_zero e) = less_or_equal (same_reading a b (c.zero.0 e))
-compares f a b k la lb c (LE_less e) = let l = at_most _ _ (λ l. e (c.not_less l)) in less_or_equal (omega (ints, arith))
+module _ (f : Flags) (a b : ℕ) (la : a < 65536) (lb : b < 65536) (c : Compared f a b) where
+  in_range : f.v ≡ false → InRange 16 (signed_as 16 b -ℤ signed_as 16 a)
+  in_range e = go (fits_in 32768 (signed_as 16 b -ℤ signed_as 16 a)) refl
+    where
+      go : (u : Bool) → fits_in 32768 (signed_as 16 b -ℤ signed_as 16 a) ≡ u → InRange 16 (signed_as 16 b -ℤ signed_as 16 a)
+      go true u = in_word _ u
+      go false u = absurd (false≢true (sym e ∙ c.overflow.1 (not_word _ u)))
 
-meets : (f : Flags) (a b k : ℕ) → a < 65536 → b < 65536 → Compared f a b → Compares a b k → Met f k
-meets f a b k la lb c always = T
-meets f a b k la lb c (carry_clear h) = CC (is_false f.c (λ e. let l = c.carry.0 e in omega arith))
-meets f a b k la lb c (carry_set h) = CS (c.carry.1 h)
-meets f a b k la lb c (not_equal h) = NE (is_false f.z (λ e. h (c.zero.0 e)))
-meets f a b k la lb c (equal h) = EQ (c.zero.1 h)
-meets f a b k la lb c (greater_or_equal h) = GE (c.not_less h)
-meets f a b k la lb c (less_than h) = LT (c.less h)
-meets f a b k la lb c (greater_than h) = GT (is_false f.z (λ e. apart_reading a b h (c.zero.0 e))) (c.not_less (omega (ints, arith)))
-meets f a b k la lb c (less_or_equal h) =
-    elim (order (signed_as 16 a) (signed_as 16 b)) [
-      | inl l ↦ LE_less (c.less l)
-      | inr l ↦ LE_zero (c.zero.1 (same_word a b la lb (equal_reading _ _ h l)))
-    ]
+  of_rest : (r : ℕ) → Reduced 65536 (pos b -ℤ pos a) r → signed_as 16 r ≡ signed_as 16 c.rest
+  of_rest r i = ap (signed_as 16) (one_rest _ r c.rest i c.is)
+
+  -- what a branch's condition says
+  compares : (k : ℕ) → Met f k → Compares a b k
+  compares k T = always
+  compares k (CC e) = carry_clear (above a b (λ l. false≢true (sym e ∙ c.carry.1 l)))
+  compares k (CS e) = carry_set (c.carry.0 e)
+  compares k (NE e) = not_equal (λ q. false≢true (sym e ∙ c.zero.1 q))
+  compares k (EQ e) = equal (c.zero.0 e)
+  compares k (GE e) = greater_or_equal (at_least _ _ (λ l. c.less l e))
+  compares k (LT e) = less_than (at_most _ _ (λ l. e (c.not_less l)))
+  compares k (GT e g) =
+      greater_than (strictly _ _ (at_least _ _ (λ l. c.less l g)) (λ q. false≢true (sym e ∙ c.zero.1 (same_word a b la lb q))))
+  compares k (LE_zero e) = less_or_equal (same_reading a b (c.zero.0 e))
+  compares k (LE_less e) = let l = at_most _ _ (λ l. e (c.not_less l)) in less_or_equal (omega (ints, arith))
+
+  -- what any condition says
+  says : (k : ℕ) → k < 16 → holds k f ≡ true → Compares a b k
+  unfolding holds listed
+  says zero l e = always
+  says (suc zero) l e = absurd (false≢true e)
+  says (suc (suc zero)) l e =
+      let p = neither f.c f.z e in
+      higher (higher_of a b (above a b (λ l. false≢true (sym p.0 ∙ c.carry.1 l))) (λ q. false≢true (sym p.1 ∙ c.zero.1 q)))
+  says (suc (suc (suc zero))) l e =
+      elim (either f.c f.z e) [ inl d ↦ lower_or_same (let h = c.carry.0 d in omega arith) | inr d ↦ lower_or_same (let h = c.zero.0 d in omega arith) ]
+  says (suc (suc (suc (suc zero)))) l e = compares 4 ((met 4 f refl).0 e)
+  says (suc (suc (suc (suc (suc zero))))) l e = compares 5 ((met 5 f refl).0 e)
+  says (suc (suc (suc (suc (suc (suc zero)))))) l e = compares 6 ((met 6 f refl).0 e)
+  says (suc (suc (suc (suc (suc (suc (suc zero))))))) l e = compares 7 ((met 7 f refl).0 e)
+  says (suc (suc (suc (suc (suc (suc (suc (suc zero)))))))) l e = overflow_clear (in_range ((negated f.v).0 e))
+  says (suc (suc (suc (suc (suc (suc (suc (suc (suc zero))))))))) l e = overflow_set (c.overflow.0 e)
+  says (suc (suc (suc (suc (suc (suc (suc (suc (suc (suc zero)))))))))) l e =
+      plus_sign c.rest c.is (at_least _ _ (λ l. false≢true (sym ((negated f.n).0 e) ∙ c.negative.1 l)))
+  says (suc (suc (suc (suc (suc (suc (suc (suc (suc (suc (suc zero))))))))))) l e = minus_sign c.rest c.is (c.negative.0 e)
+  says (suc (suc (suc (suc (suc (suc (suc (suc (suc (suc (suc (suc zero)))))))))))) l e = compares 12 ((met 12 f refl).0 e)
+  says (suc (suc (suc (suc (suc (suc (suc (suc (suc (suc (suc (suc (suc zero))))))))))))) l e = compares 13 ((met 13 f refl).0 e)
+  says (suc (suc (suc (suc (suc (suc (suc (suc (suc (suc (suc (suc (suc (suc zero)))))))))))))) l e = compares 14 ((met 14 f refl).0 e)
+  says (suc (suc (suc (suc (suc (suc (suc (suc (suc (suc (suc (suc (suc (suc (suc zero))))))))))))))) l e = compares 15 ((met 15 f refl).0 e)
+  says (suc (suc (suc (suc (suc (suc (suc (suc (suc (suc (suc (suc (suc (suc (suc (suc k)))))))))))))))) l e = absurd (omega arith)
+
+  -- and back
+  meets : (k : ℕ) → Compares a b k → holds k f ≡ true
+  unfolding holds listed
+  meets k always = refl
+  meets k (higher h) = of_neither f.c f.z (is_false f.c (λ e. let l = c.carry.0 e in omega arith)) (is_false f.z (λ e. let q = c.zero.0 e in omega arith))
+  meets k (lower_or_same h) = of_either f.c f.z (elim (same_or_lower a b h) [ inl l ↦ inl (c.carry.1 l) | inr q ↦ inr (c.zero.1 q) ])
+  meets k (carry_clear h) = (met 4 f refl).1 (CC (is_false f.c (λ e. let l = c.carry.0 e in omega arith)))
+  meets k (carry_set h) = c.carry.1 h
+  meets k (not_equal h) = (met 6 f refl).1 (NE (is_false f.z (λ e. h (c.zero.0 e))))
+  meets k (equal h) = c.zero.1 h
+  meets k (overflow_clear h) = (negated f.v).1 (is_false f.v (λ e. c.overflow.0 e h))
+  meets k (overflow_set h) = c.overflow.1 h
+  meets k (plus_sign r i h) = (negated f.n).1 (is_false f.n (λ e. below_zero _ (rw (of_rest r i) at h) (c.negative.0 e)))
+  meets k (minus_sign r i h) = c.negative.1 (rw (of_rest r i) at h)
+  meets k (greater_or_equal h) = (met 12 f refl).1 (GE (c.not_less h))
+  meets k (less_than h) = (met 13 f refl).1 (LT (c.less h))
+  meets k (greater_than h) =
+      (met 14 f refl).1 (GT (is_false f.z (λ e. apart_reading a b h (c.zero.0 e))) (c.not_less (omega (ints, arith))))
+  meets k (less_or_equal h) =
+      (met 15 f refl).1 (elim (order (signed_as 16 a) (signed_as 16 b)) [
+        | inl l ↦ LE_less (c.less l)
+        | inr l ↦ LE_zero (c.zero.1 (same_word a b la lb (equal_reading _ _ h l)))
+      ])
 
 pub conditions_compare : ConditionsCompare
 unfolding ConditionsCompare
 conditions_compare s n m k p l h i =
     let c = compared s n m p l h in
-    let t = met k (act_of (Cmp n m) s).flags (branch_listed k i) in
-    ((λ e. compares _ _ _ k (omega arith) (omega arith) c (t.0 e)), (λ q. t.1 (meets _ _ _ k (omega arith) (omega arith) c q)))
+    (says _ _ _ (omega arith) (omega arith) c k i, meets _ _ _ (omega arith) (omega arith) c k)
 
 -- two steps' places
 further : (pc n : ℕ) (d : ℤ) → Reduced 4294967296 (pos ((pc + 2) % 4294967296 + 2) +ℤ d) n → Reduced 4294967296 (pos (pc + 4) +ℤ d) n
@@ -247,6 +341,6 @@ branches_compare s n m k b p l h v o u =
     let j = branch_is_the_manuals t k b q v o u in
     let c = compared s n m p l h in
     record {
-      taken = λ w. further s.pc _ _ (j.taken (meets _ _ _ k (omega arith) (omega arith) c w));
-      passed = λ n. j.passed (λ w. n (compares _ _ _ k (omega arith) (omega arith) c w)) ∙ (mod-add-mod (s.pc + 2) 4294967296 2 ∙ ap (λ (y : ℕ). y % 4294967296) (omega arith));
+      taken = λ w. further s.pc _ _ (j.taken ((met k t.flags (branch_listed k v)).0 (meets _ _ _ (omega arith) (omega arith) c k w)));
+      passed = λ n. j.passed (λ w. n (compares _ _ _ (omega arith) (omega arith) c k w)) ∙ (mod-add-mod (s.pc + 2) 4294967296 2 ∙ ap (λ (y : ℕ). y % 4294967296) (omega arith));
     }

@@ -11,7 +11,7 @@ use Rattle.promises_bench.specs.Steps.{HasBranch, bra, bcc, bcs, bne, beq, bge, 
 true_not : true ≡ false → ⊥
 true_not e = false≢true (sym e)
 
-negated : (b : Bool) → (not b ≡ true) ↔ (b ≡ false)
+pub negated : (b : Bool) → (not b ≡ true) ↔ (b ≡ false)
 negated true = ((λ e. absurd (false≢true e)), (λ e. absurd (true_not e)))
 negated false = ((λ e. refl), (λ e. refl))
 

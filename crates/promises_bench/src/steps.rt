@@ -121,8 +121,10 @@ pub fn every_step_is_the_manuals()
     ensures { EveryStepIsTheManuals }
 {}
 
-/// After CMP.W Dn,Dm the conditions compare Dm's low word with Dn's: T always holds, CC that Dm's is not the smaller, unsigned, CS that it
-/// is, NE that they differ, EQ that they do not, and GE, LT, GT and LE that Dm's is at least, below, above or at most Dn's, signed.
+/// After CMP.W Dn,Dm each of the sixteen conditions holds exactly if it is so of Dm's low word and Dn's: T always, F never; unsigned, HI that
+/// Dm's is the greater, LS that it is not, CS that it is the smaller, CC that it is not; NE that they differ, EQ that they do not; VC that
+/// the exact signed difference, Dm's less Dn's, is in -32,768 to 32,767, VS that it is not; PL and MI that the difference modulo 65,536, read
+/// as a signed word, is at least 0 or below 0; and GE, LT, GT and LE that Dm's is at least, below, above or at most Dn's, signed.
 #[tactic(auto, using(crate::proofs::Conditions::conditions_compare))]
 pub fn conditions_compare()
     ensures { ConditionsCompare }
