@@ -1,0 +1,6 @@
+-- `line_at` leaves a line behind at each turn. Assumes nothing.
+use Rattle.diagnostic.proofs.Walking.{Walk}
+use Rattle.diagnostic.proofs.shown.line_at.Given as goal
+
+abbrev pub invariant-loop : goal.invariant-loop
+invariant-loop l = Walk l.source l.k l.counter l.at
