@@ -1,0 +1,5 @@
+pub mod Plain
+pub mod Growing
+pub mod Names
+pub mod Writing
+pub mod Accepted
