@@ -20,7 +20,7 @@ fn main() {
     let library = env::var("LAGVETTU_LIB")
         .map(PathBuf::from)
         .unwrap_or_else(|_| here.join("../target/staticlib"));
-    let archives = ["lagvettu", "lagvettu02", "lagvettu_manual", "lagvettu_branches", "lagvettu_sheet"].map(|name| (name, library.join(format!("lib{name}.a"))));
+    let archives = ["lagvettu", "lagvettu_tools", "lagvettu_manual", "lagvettu_branches", "lagvettu_sheet"].map(|name| (name, library.join(format!("lib{name}.a"))));
     if archives.iter().all(|(_, file)| file.exists()) {
         println!("cargo:rustc-link-search=native={}", library.display());
         println!("cargo:rustc-cfg=linked");

@@ -1,7 +1,7 @@
 /*
  * Lagvettu: a two-pass 68000 script assembler, and a mover that relocates its lists.
  *
- * Each function is proved to answer, and to leave each place of each slice, as papers 01 and 02 say, whatever the bytes
+ * Each function is proved to answer, and to leave each place of each slice, as the rules say, whatever the bytes
  * and numbers that it is given. A slice is passed as a pointer and then its length, counted in elements. As for any C
  * function, the pointers are the caller's part: each is aligned, not null (at length 0 too) and good for its length,
  * what a call writes overlaps nothing else that it is lent, and nothing else writes there meanwhile.
@@ -17,8 +17,8 @@
  * An answer is a number: LAGVETTU_ACCEPTED, with the count in *place, or else a refusal of enum lagvettu_refusal, with its
  * place in *place. A refused call changes no slice. *place is written by each call.
  *
- * Paper 01's two calls are in liblagvettu.a, those of paper 02 in liblagvettu02.a, lagvettu_assemble_manual in liblagvettu_manual.a,
- * the two calls under a branch table in liblagvettu_branches.a, and the two of a sheet in liblagvettu_sheet.a: -llagvettu, -llagvettu02,
+ * The stations' call and the mover are in liblagvettu.a, those beside them in liblagvettu_tools.a, lagvettu_assemble_manual in liblagvettu_manual.a,
+ * the two calls under a branch table in liblagvettu_branches.a, and the two of a sheet in liblagvettu_sheet.a: -llagvettu, -llagvettu_tools,
  * -llagvettu_manual, -llagvettu_branches, -llagvettu_sheet, any of them together.
  */
 #ifndef LAGVETTU_H
@@ -31,7 +31,7 @@
 extern "C" {
 #endif
 
-/* The answers, a refusal with the papers' words for its condition and its place. */
+/* The answers, a refusal with the rules' words for its condition and its place. */
 enum lagvettu_refusal {
     LAGVETTU_ACCEPTED = 0,
 
@@ -180,7 +180,7 @@ uint8_t lagvettu_move(uint32_t *addresses, size_t addresses_length,
 
 /*
  * Assembles a source at a base by the manual's own words (M68000PM/AD), for a real 68000: every instruction is the manual's, at the
- * size that its form has, with a long immediate, an absolute address of 32 bits or DBRA's displacement in the words behind. A label's
+ * size that its form has, with a long immediate, an absolute address of 32 bits or DBRA's displacement in the words after. A label's
  * address takes two places, with marks 2 and 3; mark 1 never comes. An instruction that has no encoding there is refused, and none is
  * left out in silence. Checks 1, 2, 3, 4, then line by line 6 before 5, then 14 and 15, the first line first, then 7.
  *

@@ -102,8 +102,8 @@ void lagvettu_text_why_all(bool lent, const uint8_t *names, size_t names_length,
 
 /*
  * The printout of a source at a base, an assembly listing for people. It has a row for each line of the source: the line's number in 4
- * columns, the address at which it is read in 8 upper-case hexadecimal digits, two columns for its words, each with `*` behind it
- * if it has a mark, and the line itself; behind a line without a word `<-` and why. A line behind END has `not read` in the place of an
+ * columns, the address at which it is read in 8 upper-case hexadecimal digits, two columns for its words, each with `*` after it
+ * if it has a mark, and the line itself; after a line without a word `<-` and why. A line after END has `not read` in the place of an
  * address. Under the rows are an empty line and the labels, if there are any.
  *
  *     "A: BRA A\nORG $X\nEND\nNOP" at base 0:

@@ -1,9 +1,9 @@
-//! Recorded calls of W-211: what a line's number says (call 4), and that the other calls of 02 read sums too. Each answer is written out
-//! from the words of 02 and READINGS.md.
+//! Recorded calls on sums: what a line's number says (call 4), and that the other calls read sums too. Each answer is written out
+//! from the words of docs/LANGUAGE.md.
 use crate::reasons::PHRASES;
 use crate::requests::Call;
 
-/// All recorded calls of W-211.
+/// All recorded calls on sums.
 pub fn sums(out: &mut Vec<Call>) {
     let mut say = |text: &str, said: &str| {
         for line in [format!("DC.L {text}"), format!("  X: dc.b {text} ; a note")] {
@@ -38,7 +38,7 @@ pub fn sums(out: &mut Vec<Call>) {
     }
 }
 
-/// 02's words and READINGS.md's examples: a text in DC, and what it says.
+/// The rules' words and examples: a text in DC, and what it says.
 const SUMS: [(&str, &str); 75] = [
     ("[2+3*4]", "read 14"),
     ("[(2+3)*4]", "read 20"),
@@ -136,7 +136,7 @@ const SUM_LINES: [(&str, &str); 10] = [
     ("X: ; DC.L [4]", "read 4"),
 ];
 
-/// A sum in the calls of W-201, W-202, W-205 and W-207, with the two numbers that each takes.
+/// A sum in the calls of the nearest label, the labels, the verdicts and the manual, with the two numbers that each takes.
 const ELSEWHERE: [(u8, u32, u32, &str, &str); 9] = [
     (2, 0, 5, "DC.L [2+3*4]\nX: NOP", "13 1 1"),
     (3, 0, 0, "DC.L [2+3*4]\nX: DC.W [1-2]\nY: NOP", "X 00000004 2\nY 00000006 3"),

@@ -1,8 +1,8 @@
-//! The tidy copy of a source (W-212) by 02's words, apart from the Rattle code: it goes by the runs of blanks of each line, of which each
+//! The tidy copy of a source by the rules' words, apart from the Rattle code: it goes by the runs of blanks of each line, of which each
 //! goes, is kept or becomes one space by what stands beside it.
 use crate::generate::Random;
 
-/// 01's blanks.
+/// the stations' blanks.
 fn blank(b: u8) -> bool {
     b == 32 || (9..=13).contains(&b)
 }

@@ -1,5 +1,5 @@
-//! Recorded calls of W-212, call 9 with the room lent. Copies are written out from the words of 02 and READINGS.md, which a comment before
-//! each group names; for random scripts copied.rs follows 02's words, and the Rust original sees that the copy has the same list and labels.
+//! Recorded tidy copies, call 9 with the room lent. Copies are written out from the words of docs/LANGUAGE.md, which a comment before
+//! each group names; for random scripts copied.rs follows the rules' words, and the Rust original sees that the copy has the same list and labels.
 use crate::copied::{blanked, copied};
 use crate::generate::{script, Random};
 use crate::requests::{refused, Call};
@@ -8,7 +8,7 @@ use crate::{oracle, record};
 /// Room for every copy.
 const ROOM: u32 = 32768;
 
-/// All recorded calls of W-212.
+/// All recorded tidy copies.
 pub fn copies(out: &mut Vec<Call>) {
     let mut tidy = |source: &str, room, text: String| {
         out.push(Call { number: 9, x: room, y: 0, source: source.as_bytes().to_vec(), text });
@@ -72,23 +72,23 @@ fn of_scripts(tidy: &mut impl FnMut(&str, u32, String)) {
 
 /// A source and its copy.
 const COPIES: [(&str, &str); 34] = [
-    // READINGS: "All skipped: an empty copy."
+    // The rules: "All skipped: an empty copy."
     ("", ""),
     (" \n\n;x : y\n", ""),
     ("\t;", ""),
-    // 02: "Outer blanks go and blank runs become one space", "none at the end". READINGS: "A lone tab becomes a space."
+    // The rules: "Outer blanks go and blank runs become one space", "none at the end". And: "A lone tab becomes a space."
     ("NOP", "NOP"),
     ("\n\tNOP  x\t y \n", "NOP x y"),
     ("a\tb", "a b"),
     ("a\u{b}\u{c}\rb", "a b"),
     ("NOP\r\n NOP\r\n", "NOP\nNOP"),
     ("NOP\n\n;n\n RTS\n", "NOP\nRTS"),
-    // 02: "blanks inside the name before the first colon are kept and those around that colon go".
+    // The rules: "blanks inside the name before the first colon are kept and those around that colon go".
     ("x  y\t: NOP", "x  y:NOP"),
     (" x\ty : ", "x\ty:"),
     (" : ", ":"),
     ("x : : y", "x:: y"),
-    // 02: "The second colon is treated so only where the rest is data." READINGS: judged on the rest; "A third colon is text."
+    // The rules: "The second colon is treated so only where the rest is data." And: judged on the rest; "A third colon is text."
     ("x : y  z : DC.L   5", "x:y  z:DC.L 5"),
     (":NOP  :", ":NOP :"),
     ("DC.:NOP :", "DC.:NOP :"),
@@ -100,18 +100,18 @@ const COPIES: [(&str, &str); 34] = [
     ("x  y DC.L  5", "x y DC.L 5"),
     ("x: : : DC.L  5", "x::: DC.L 5"),
     ("x : y : z  : DC.L 5", "x:y:z : DC.L 5"),
-    // READINGS: "The END line is tidied like any other, whole; its colon, and an ORG line's, is not treated".
+    // The rules: "The END line is tidied like any other, whole; its colon, and an ORG line's, is not treated".
     ("ENDX  :  NOP", "ENDX : NOP"),
     ("NOP\nend \t x : y\nNOP", "NOP\nend x : y"),
     ("x : END  y\nNOP", "x:END y\nNOP"),
     ("ORG  5 : 6", "ORG 5 : 6"),
     ("orgx :  6", "orgx : 6"),
-    // READINGS: "Notes behind an instruction stay."
+    // The rules: "Notes after an instruction stay."
     ("NOP ;  a", "NOP ; a"),
     ("x : ; n  m", "x:; n m"),
     ("a  b ; c : d", "a  b ; c:d"),
     ("x: DC.L 5 ;  see : y", "x:DC.L 5 ;  see:y"),
-    // 01's P1.
+    // the stations' first example.
     (
         "ORG $1000\nLIM: DC.L 4160\nGO: MOVEQ #3,D1\nMOVE.L LIM,D2\nCMP.L #4160,D2\nBNE GO\nNOP\nEND",
         "ORG $1000\nLIM:DC.L 4160\nGO:MOVEQ #3,D1\nMOVE.L LIM,D2\nCMP.L #4160,D2\nBNE GO\nNOP\nEND",

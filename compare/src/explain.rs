@@ -1,4 +1,4 @@
-//! Why a line has no word (W-205), asked for every line of random sources: against the Rust original's list without that line, and
+//! Why a line has no word, asked for every line of random sources: against the Rust original's list without that line, and
 //! the reasons written anew over what the original reads in it.
 use crate::generate::{script_with_faults, Random};
 use crate::library::{assemble, explain, Explained, Slices};
@@ -65,7 +65,7 @@ pub fn compare(sources: usize, seed: u64) {
         let base = base(&mut r);
         let source = if r.one_in(100) { spoiled(&mut r, &s) } else { s.into_bytes() };
         let count = source.split(|b| *b == b'\n').count();
-        // What 01's call refuses by 1 to 6 is refused here alike, whatever line is asked for.
+        // What the stations' call refuses by 1 to 6 is refused here alike, whatever line is asked for.
         let (number, place) = assemble(&source, base, &mut lent);
         if number != 0 {
             for line in [0, 1 + r.below(count), count + 1] {

@@ -1,6 +1,6 @@
 //! The manual's call against GNU as: random scripts of its forms, assembled by GNU as and linked by GNU ld at two bases. Every word of
-//! our list is held against the image at its base, our moved list against the image at the other; the forms that 01 lists as the
-//! manual's go through 01's call as well.
+//! our list is held against the image at its base, our moved list against the image at the other; the forms that are equal to the
+//! manual's go through the stations' call as well.
 use crate::generate::Random;
 use crate::gnu::{script, words, Forms, Gnu};
 use crate::library::{assemble, assemble_manual, relocate, Answer, Slices};
@@ -71,6 +71,6 @@ pub fn compare(count: usize, seed: u64) {
             None => differ += 1,
         }
     }
-    println!("{count} scripts of the manual's forms, {words} words by its call; {count} of the forms that 01 lists, {listed} words by both");
+    println!("{count} scripts of the manual's forms, {words} words by its call; {count} of the forms equal to the manual, {listed} words by both");
     println!("each at two bases, and moved from the one to the other; {differ} differ");
 }

@@ -1,4 +1,4 @@
-//! Random scripts: every form of paper 01, its odd readings, damaged copies, numbers and displacements at their limits.
+//! Random scripts: every form of the stations' call, its odd readings, damaged copies, numbers and displacements at their limits.
 
 /// A small generator of random numbers (xorshift), so that a seed names a run.
 pub struct Random(pub u64);
@@ -243,12 +243,12 @@ fn instruction(r: &mut Random, out: &mut String) {
     }
 }
 
-/// Numbers that are not whole: nothing behind a prefix and a sign, a bad digit late, and far too large.
+/// Numbers that are not whole: nothing after a prefix and a sign, a bad digit late, and far too large.
 const BROKEN: [&str; 16] = [
     "", "+", "-", "$", "0x", "$+", "0x-", "$-", "3O", "99999999999999O", "$1G", "--5", "0x+-1", "99999999999999", "$12345678", "-200",
 ];
 
-/// An instruction that has the kinds of a form, and a number, a label or a displacement that may fail. Before some, and behind some,
+/// An instruction that has the kinds of a form, and a number, a label or a displacement that may fail. Before some, and after some,
 /// its operand is a label, about as far away as a branch reaches.
 fn almost(r: &mut Random) -> String {
     let number = if r.one_in(2) { r.pick(&BROKEN) } else { r.pick(&NUMBERS) };
@@ -289,6 +289,6 @@ fn damage(r: &mut Random, out: &mut String) {
             _ => bytes.insert(at, (r.next() % 128) as u8),
         }
     }
-    // W-211: sources holding `[` leave the comparison with the Rust.
+    // Sources holding `[` leave the comparison with the Rust.
     *out = String::from_utf8(bytes).unwrap().replace('[', "{");
 }

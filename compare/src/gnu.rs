@@ -6,10 +6,10 @@ use std::{env, fs, path::PathBuf, process::Command};
 const AS: &str = "m68k-linux-gnu-as";
 const LD: &str = "m68k-linux-gnu-ld";
 
-/// The eleven branches, the nine that 01 lists as the manual's first.
+/// The eleven branches, the nine that are equal to the manual's first.
 const BRANCHES: [&str; 11] = ["BRA", "BCC", "BCS", "BNE", "BEQ", "BGE", "BLT", "BGT", "BLE", "BPL", "BMI"];
 
-/// A line in both syntaxes, the bytes that it takes, and whether 01 lists its form as the manual's.
+/// A line in both syntaxes, the bytes that it takes, and whether its form is equal to the manual's.
 struct Line {
     ours: String,
     gnu: String,
@@ -118,7 +118,7 @@ pub enum Forms {
     All,
     /// Those without data.
     Instructions,
-    /// The forms that 01 lists as the manual's, and data.
+    /// The forms that are equal to the manual's, and data.
     Listed,
 }
 

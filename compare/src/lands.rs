@@ -1,4 +1,4 @@
-//! Branches land (W-209): of random sources, each branch word whose operand is a recorded label in reach leads to that label's address in
+//! Branches land: of random sources, each branch word whose operand is a recorded label in reach leads to that label's address in
 //! the Rust original's own label map, at the base and after moves, which take the label along. Which lines are branches, their
 //! operands and addresses, and which word is a line's, the original says too.
 use crate::generate::{script_with_faults, Random};

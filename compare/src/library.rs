@@ -155,7 +155,7 @@ fn assembled(call: Assembling, source: &[u8], base: u32, x: &mut Slices) -> Answ
     (number, place)
 }
 
-/// Paper 01's call.
+/// The rules' call.
 pub fn assemble(source: &[u8], base: u32, x: &mut Slices) -> Answer {
     assembled(lagvettu_assemble, source, base, x)
 }
@@ -183,7 +183,7 @@ pub fn relocate(x: &mut Slices, count: usize, distance: i32) -> Answer {
     (number, place)
 }
 
-/// The answer to W-201, all that a call writes: 0 and a label, the place 0; or a refusal and its place, the rest 0.
+/// The answer on the nearest label, all that a call writes: 0 and a label, the place 0; or a refusal and its place, the rest 0.
 #[derive(PartialEq, Debug)]
 pub struct Nearest {
     pub number: u8,
@@ -225,7 +225,7 @@ impl Rows {
         (0..count).map(|i| (self.0[0][i], self.0[1][i], self.0[2][i], self.0[3][i])).collect()
     }
 
-    /// What stands behind them.
+    /// What stands after them.
     pub fn past(&self, count: usize) -> Vec<&[u32]> {
         self.0.iter().map(|x| &x[count..]).collect()
     }
@@ -253,7 +253,7 @@ pub fn symbols(source: &[u8], base: u32, x: &mut Rows) -> Answer {
     (number, place)
 }
 
-/// The answer to W-205, all that a call writes: 0 and a verdict, the place 0; or a refusal and its place, the verdict 255.
+/// The verdict on a line, all that a call writes: 0 and a verdict, the place 0; or a refusal and its place, the verdict 255.
 #[derive(PartialEq, Debug)]
 pub struct Explained {
     pub number: u8,
@@ -274,7 +274,7 @@ pub fn explain(source: &[u8], base: u32, line: usize) -> Explained {
     e
 }
 
-/// Paper 01's call under a branch table.
+/// The rules' call under a branch table.
 pub fn assemble_branches(names: &[u8], source: &[u8], base: u32, x: &mut Slices) -> Answer {
     let mut place = usize::MAX;
     let number = unsafe {
@@ -296,7 +296,7 @@ pub fn assemble_branches(names: &[u8], source: &[u8], base: u32, x: &mut Slices)
     (number, place)
 }
 
-/// W-205's under a branch table.
+/// The same under a branch table.
 pub fn explain_branches(names: &[u8], source: &[u8], base: u32, line: usize) -> Explained {
     let mut e = Explained { number: u8::MAX, verdict: 0xAA, place: usize::MAX };
     e.number = unsafe {
@@ -339,14 +339,14 @@ pub fn run(addresses: &[u32], words: &[u16], a: &[u32; 8], start: u32, limit: u6
     left
 }
 
-/// W-214: a source added to twelve totals.
+/// The sheet: a source added to twelve totals.
 pub fn sheet_add(source: &[u8], totals: &mut [u64; 12]) -> Answer {
     let mut place = usize::MAX;
     let number = unsafe { lagvettu_sheet_add(source.as_ptr(), source.len(), totals.as_mut_ptr(), &mut place) };
     (number, place)
 }
 
-/// W-214: another sheet's totals added to them.
+/// The sheet: another sheet's totals added to them.
 pub fn sheet_join(other: &[u64; 12], totals: &mut [u64; 12]) -> Answer {
     let mut place = usize::MAX;
     let number = unsafe { lagvettu_sheet_join(other.as_ptr(), totals.as_mut_ptr(), &mut place) };

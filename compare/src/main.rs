@@ -3,7 +3,7 @@
 //!   compare record FILE [COUNT]     write the recorded answers that the program `replay` runs
 //!   compare lists N [SEED]          N random sources at base 0 against the original
 //!   compare speed                   the time of both on the inputs of docs/SPEED.md
-//!   compare calls I N [sheet]       N calls on input I of these, from 0, for ./counts: 01's, or W-214's
+//!   compare calls I N [sheet]       N calls on input I of these, from 0, for ./counts: the stations' call, or the sheet's
 //!   compare moves N [SEED]          N random sources moved between bases, and chains of moves against the tally
 //!   compare nearest N [SEED]        N random sources: the label nearest to an address against the original's label map
 //!   compare symbols N [SEED]        N random sources: the symbols with their lines against the original's label map
@@ -12,7 +12,7 @@
 //!   compare branches N [SEED]       N random branch tables and scripts, against a second reading of the table and the original
 //!   compare tidy N [SEED]           N random sources: the tidy copy, byte for byte, and its list and labels by the original
 //!   compare sheet N [SEED]          N random series of sources: their totals against the original's lists and label maps
-//!   compare gas N [SEED]            N random scripts of the manual's call, and N of 01's listed forms, against GNU as and ld
+//!   compare gas N [SEED]            N random scripts of the manual's call, and N of the stations' listed forms, against GNU as and ld
 //!   compare sums N [SEED]           N random sums, good and damaged, against Python's own parser and whole numbers
 mod brackets;
 mod branches;

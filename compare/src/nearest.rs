@@ -1,4 +1,4 @@
-//! The label nearest to an address (W-201) against the Rust original's own label map. The map has names and addresses; where
+//! The label nearest to an address against the Rust original's own label map. The map has names and addresses; where
 //! a name was recorded last is found by `records`.
 use crate::generate::{script, Random};
 use crate::library::{nearest, Nearest};

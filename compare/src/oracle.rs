@@ -31,7 +31,7 @@ pub fn labels(source: &str) -> HashMap<String, u32> {
     listed_with_labels(source).1
 }
 
-/// A label map as the original prints it itself: a line for each label, the address in hexadecimal behind a colon. No name has a
+/// A label map as the original prints it itself: a line for each label, the address in hexadecimal after a colon. No name has a
 /// colon or a line's end in it.
 pub fn printed_labels(printed: &str) -> HashMap<String, u32> {
     let listed = printed.split_once("\n=== Labels ===\n").map_or("", |parts| parts.1);

@@ -1,9 +1,9 @@
-//! Why an instruction has no word, by 02's W-205 and W-204 written anew: over the mnemonic and the operands that the Rust original
+//! Why an instruction has no word, by the rules written anew: over the mnemonic and the operands that the Rust original
 //! reads in it, its label map and the instruction's address there.
 use crate::heard::Instruction;
 use std::collections::HashMap;
 
-/// The answers of W-205, in its order; a number with what failed in it.
+/// The verdicts, in its order; a number with what failed in it.
 pub const PHRASES: [&str; 10] = [
     "word emitted",
     "not an instruction",

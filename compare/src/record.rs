@@ -1,12 +1,12 @@
 //! Recorded answers: what the replay program runs through the Rattle code. Accepted lists and refusal 5 come from
-//! the Rust original; refusals 1 to 4, 6 and 7 are 01's conditions at their limits, written out here. Calls of 02, and where
+//! the Rust original; refusals 1 to 4, 6 and 7 are the rules' conditions at their limits, written out here. Calls beside assembling, and where
 //! their answers come from, are in requests.rs.
 //!
 //! A record, numbers with the low byte first: the number of the call that it records (1 byte), and how many bytes follow (4).
 //! Call 1 assembles a source at a base. Its terms: the source's length (4), the base (4), the lengths of the three slices lent
 //! (4 each), the answer's number, 0 for accepted (1), and the count or the place (4). Then the source; and for an accepted
 //! source `count` times an address (4), a word (2) and a mark (1).
-//! The calls from 2 on are 02's. Each has two numbers whose meaning it says (4 each), the source's length (4), the source, and to
+//! The calls from 2 on are the others. Each has two numbers whose meaning it says (4 each), the source's length (4), the source, and to
 //! the record's end the text that it must answer.
 
 use crate::generate::{script, Random};
@@ -46,7 +46,7 @@ pub fn too_high(source: &str, base: u32) -> Option<u32> {
     None
 }
 
-/// The answer of 01 for a source within the limits of bytes, lines and labels, by the original alone.
+/// The stations' answer for a source within the limits of bytes, lines and labels, by the original alone.
 pub fn answered(source: &str, base: u32) -> Result<Vec<(u32, u16, u8)>, (u8, u32)> {
     match too_high(source, base) {
         Some(line) => Err((5, line)),
@@ -127,8 +127,8 @@ pub const BEZEL: &str =
     "ORG $1000\nLIM: DC.L 4160\nGO: MOVEQ #3,D1\nMOVE.L LIM,D2\nCMP.L #4160,D2\nBNE GO\nNOP\nEND";
 
 /// Odd readings that the station examples miss, one script each.
-pub const READINGS: [&str; 41] = [
-    // 02, W-208: "The old call still emits it."
+pub const ODD: [&str; 41] = [
+    // The rules: "The old call still emits it."
     "BRA -1\nBRA -2\nBNE -1\nDBRA D0,-1",
     "A:\nNOP\nA:\nBRA A",
     "A: DC.L 1\nA DC.L 2\nMOVE.L A,D0",
@@ -172,7 +172,7 @@ pub const READINGS: [&str; 41] = [
     "a:b:c: NOP\nMOVE.L a,D0\nMOVE.L b:c,D0",
 ];
 
-/// Sums (W-211), which the original does not read: each list is written out from the words of 02 and 01.
+/// Sums, which the original does not read: each list is written out from the words of docs/LANGUAGE.md.
 fn sums(out: &mut Vec<Record>) {
     for (source, list) in SUMS {
         for base in [0, 0x2000] {
@@ -195,14 +195,14 @@ const SUMS: [(&str, &[(u32, u16, u8)]); 7] = [
     ("MOVEQ #[5],D0\nNOP", &[(2, 0x4E71, 0)]),
 ];
 
-/// All records of call 1: the limits, the papers' examples and readings, and `count` random scripts.
+/// All records of call 1: the limits, the rules' examples, and `count` random scripts.
 pub fn records(count: usize) -> Vec<Record> {
     let mut out = Vec::new();
     limits(&mut out);
     sums(&mut out);
     for base in [0, 0x2000, 65536, 12345] {
         out.push(accepted(BEZEL, base, [0; 3]));
-        for s in READINGS {
+        for s in ODD {
             out.push(accepted(s, base, [3; 3]));
         }
     }
@@ -247,7 +247,7 @@ fn put_record(record: &Record, out: &mut Vec<u8>) {
     put(ASSEMBLE, &body, out);
 }
 
-/// The record of a call of 02.
+/// The record of a call beside assembling.
 fn put_call(call: &Call, out: &mut Vec<u8>) {
     let mut body = Vec::new();
     for n in [call.x, call.y, call.source.len() as u32] {

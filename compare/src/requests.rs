@@ -1,5 +1,5 @@
-//! Recorded calls of paper 02, a function a request; W-205's are in verdicts.rs, W-207's in manual.rs, W-210's in branches.rs, W-211's in brackets.rs, W-212's
-//! in copies.rs, W-213's in runs.rs, W-214's in sheets.rs. Each answer is written out here from 02's words and READINGS.md's examples of them, or comes from the Rust original's own label map or list
+//! Recorded calls beside assembling, a function each; the verdicts are in verdicts.rs, the manual's call in manual.rs, branch tables in branches.rs, sums in brackets.rs, tidy copies
+//! in copies.rs, runs in runs.rs, sheets in sheets.rs. Each answer is written out here from the words of docs/LANGUAGE.md and its examples, or comes from the Rust original's own label map or list
 //! where that leaves no choice, or from GNU as; none is made by the Rattle code.
 
 use crate::brackets::sums;
@@ -24,7 +24,7 @@ pub struct Call {
     pub text: String,
 }
 
-/// All recorded calls of 02.
+/// All recorded calls beside assembling.
 pub fn calls() -> Vec<Call> {
     let mut out = Vec::new();
     nearest(&mut out);
@@ -45,7 +45,7 @@ pub fn refused(number: u8, place: usize) -> String {
     format!("refused {number} {place}\n")
 }
 
-// ---- W-201: call 2, with the base and the address
+// ---- the nearest label: call 2, with the base and the address
 
 /// What the call must answer: the label's start and length, and the distance.
 fn named(start: usize, length: usize, distance: u32) -> String {
@@ -69,7 +69,7 @@ fn nearest(out: &mut Vec<Call>) {
     nearest_by_map(&mut near);
 }
 
-/// 02's words and READINGS.md's examples at base 0: a source, an address, and the label's start, length and distance.
+/// The rules' words and examples at base 0: a source, an address, and the label's start, length and distance.
 const NAMED: [(&str, u32, (usize, usize, u32)); 40] = [
     // A name's start is that of its trimmed text, step 5's where the rest's text starts.
     (" x  y : NOP", 2, (1, 4, 2)),
@@ -113,7 +113,7 @@ const NAMED: [(&str, u32, (usize, usize, u32)); 40] = [
     ("A: B: DC.L 5", 0, (0, 1, 0)),
     ("B: A: DC.L 5\nB: NOP", 3, (3, 1, 3)),
     ("B: NOP\nORG 0\nA:", 0, (0, 1, 0)),
-    // A label before a word that would end the reading or set the address, and labels behind END.
+    // A label before a word that would end the reading or set the address, and labels after END.
     ("X: END\nY:", 9, (7, 1, 7)),
     ("X: ORG 8\nY:", 2, (9, 1, 0)),
     ("A:\nEND\nB:", 9, (0, 1, 9)),
@@ -131,7 +131,7 @@ const NONE_NEAR: [(&str, u32); 13] = [
     ("ORG 8\nA:\nORG 9\nB:", 7),
     ("A: NOP\nNOP\nA: NOP", 3),
     (record::BEZEL, 0xFFF),
-    // Labels that are not recorded: behind END, and in front of it and of ORG, which are tried on the whole line.
+    // Labels that are not recorded: after END, and in front of it and of ORG, which are tried on the whole line.
     ("END\nA:", 9),
     ("NOP\nEnd\nA: NOP", u32::MAX),
     ("ENDX: NOP", 0),
@@ -229,7 +229,7 @@ fn by_map(source: &str, map: &HashMap<String, u32>, address: u32) -> Option<Stri
     Some(named(start, name.len(), address - highest))
 }
 
-// ---- W-202: call 3, with the base
+// ---- the labels: call 3, with the base
 
 fn symbols(out: &mut Vec<Call>) {
     let mut list = |source: &[u8], base, text: String| {
@@ -261,7 +261,7 @@ fn symbols(out: &mut Vec<Call>) {
     list(labels(257).as_bytes(), 0, refused(6, 257));
 }
 
-/// 02's words and READINGS.md's examples at base 0: a source, and each label's name, address and line in order.
+/// The rules' words and examples at base 0: a source, and each label's name, address and line in order.
 const SYMBOLS: [(&str, &[(&str, u32, u32)]); 16] = [
     // In order of the line on which the address was last set, be it the same; step 4's label before step 5's.
     ("A:\nB:\nA:", &[("B", 0, 2), ("A", 0, 3)]),
@@ -278,7 +278,7 @@ const SYMBOLS: [(&str, &[(&str, u32, u32)]); 16] = [
     // A data line without a colon names its first piece.
     ("NOP ; see DC.W", &[("NOP", 0, 1)]),
     ("DC.L 5\nDC.L: 5", &[("DC.L", 4, 2)]),
-    // No label; labels behind END, and in front of END and ORG.
+    // No label; labels after END, and in front of END and ORG.
     ("", &[]),
     ("NOP\n; A:\nMOVE.L #5,D0", &[]),
     ("A:\nEND\nB:", &[("A", 0, 1)]),
@@ -286,7 +286,7 @@ const SYMBOLS: [(&str, &[(&str, u32, u32)]); 16] = [
     ("ORG: NOP\nX: ORG 8\nX: END\n\nY:", &[("X", 2, 3), ("Y", 4, 5)]),
 ];
 
-// ---- W-204: call 4, the source is a line
+// ---- what a number says: call 4, the source is a line
 
 fn line_numbers(out: &mut Vec<Call>) {
     for (line, said) in LINE_NUMBERS {
@@ -294,7 +294,7 @@ fn line_numbers(out: &mut Vec<Call>) {
     }
 }
 
-/// 02's words and READINGS.md's examples: a line, and what its number says.
+/// The rules' words and examples: a line, and what its number says.
 const LINE_NUMBERS: [(&str, &str); 68] = [
     ("DC.L 5", "read 5"),
     ("  X: DC.W $10 ; a note", "read 16"),
@@ -370,7 +370,7 @@ const LINE_NUMBERS: [(&str, &str); 68] = [
     ("JMP 70000", "no number"),
 ];
 
-// ---- W-206: call 4 too, for every byte behind a digit
+// ---- digits: call 4 too, for every byte after a digit
 
 /// The byte's digit value is the Rust's own `to_digit`, and none for a byte over 127; a blank ends the number, and with a colon the
 /// line is another.

@@ -1,4 +1,4 @@
-//! Recorded calls of W-213, call 10 with START and LIMIT, of a list's text. Answers are written out from the words of 02, of READINGS.md and
+//! Recorded runs, call 10 with START and LIMIT, of a list's text. Answers are written out from the words of docs/BENCH.md and
 //! of the manual. The address registers are 0; `bench`'s own run in the gate has others.
 use crate::requests::{refused, Call};
 
@@ -20,7 +20,7 @@ fn line(end: &str, steps: u32, pc: u32, registers: &[(usize, u32)], flags: &str)
     format!("{end} {steps} {pc:08X}{d} {flags}\n")
 }
 
-/// All recorded calls of W-213.
+/// All recorded runs.
 pub fn runs(out: &mut Vec<Call>) {
     let mut run = |list: String, start, limit, text| {
         out.push(Call { number: 10, x: start, y: limit, source: list.into_bytes(), text });

@@ -1,6 +1,6 @@
-//! Totals of random series (W-214) against the Rust original: words and marked words from its own lists, labels from its own label map,
+//! Totals of random series against the Rust original: words and marked words from its own lists, labels from its own label map,
 //! refusals by probing it, and so (silence.rs) whether an instruction has a word. The other classes of lines are told by the line's text, as
-//! 02 says them. The sheets of two parts of a series, joined, are that of the whole.
+//! the rules say them. The sheets of two parts of a series, joined, are that of the whole.
 #[cfg(linked)]
 use crate::generate::{script, Random};
 #[cfg(linked)]

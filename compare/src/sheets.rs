@@ -1,5 +1,5 @@
-//! Recorded calls of W-214, call 11 with how many sources were accepted and refused before. The classes of lines are written out from the
-//! words of 02 and READINGS.md; words, marked words and labels are the Rust original's. For random scripts the classes are sheet.rs's.
+//! Recorded sheets, call 11 with how many sources were accepted and refused before. The classes of lines are written out from the
+//! words of docs/LANGUAGE.md; words, marked words and labels are the Rust original's. For random scripts the classes are sheet.rs's.
 use crate::generate::{script, Random};
 use crate::requests::{refused, Call};
 use crate::sheet::{count, ACCEPTED, LABELS, MARKED, REFUSED, WORDS};
@@ -15,7 +15,7 @@ fn text(totals: &[u64; 12]) -> String {
     format!("{rows}mean {} {}\n", totals[WORDS], totals[ACCEPTED])
 }
 
-/// All recorded calls of W-214.
+/// All recorded sheets.
 pub fn sheets(out: &mut Vec<Call>) {
     let mut add = |source: &[u8], before: [u32; 2], text| {
         out.push(Call { number: 11, x: before[0], y: before[1], source: source.to_vec(), text });
@@ -82,7 +82,7 @@ fn refusals(add: &mut impl FnMut(&[u8], [u32; 2], String)) {
 /// A source, and its lines by the seven classes: skipped, ORG, label only, data, instructions with a word, instructions without, and END
 /// together with what follows.
 const SHEETS: [(&str, [u64; 7]); 43] = [
-    // READINGS.md: what follows the first colon decides.
+    // The rules: what follows the first colon decides.
     ("X: END", [0, 0, 0, 0, 0, 1, 0]),
     ("X: ; n", [0, 0, 0, 0, 0, 1, 0]),
     ("A: B:", [0, 0, 0, 0, 0, 1, 0]),
@@ -102,7 +102,7 @@ const SHEETS: [(&str, [u64; 7]); 43] = [
     ("", [1, 0, 0, 0, 0, 0, 0]),
     ("\n", [2, 0, 0, 0, 0, 0, 0]),
     (" \t; DC.L 5\n\r", [2, 0, 0, 0, 0, 0, 0]),
-    // ORG, whether its number can be read or not; behind a label it is an instruction.
+    // ORG, whether its number can be read or not; after a label it is an instruction.
     ("ORG 8\norg\nORG $X\nORGAN", [0, 4, 0, 0, 0, 0, 0]),
     ("X: ORG 8", [0, 0, 0, 0, 0, 1, 0]),
     // Labels alone; a name twice is one label.
@@ -128,7 +128,7 @@ const SHEETS: [(&str, [u64; 7]); 43] = [
     (": NOP", [0, 0, 0, 0, 1, 0, 0]),
     // A marked word is a label's address: one of each MOVE here, none of the DC.
     ("X: DC.L 4096\nMOVE X,D0\nMOVE D0,X\nMOVEA.L #X,A0", [0, 0, 0, 1, 3, 0, 0]),
-    // 01's own scripts.
+    // the stations' own scripts.
     (record::BEZEL, [0, 1, 0, 1, 5, 0, 1]),
     ("X: MOVE X,D0\nEND\nNOP", [0, 0, 0, 0, 1, 0, 2]),
     ("A:\nNOP\nB: NOP", [0, 0, 1, 0, 2, 0, 0]),

@@ -1,4 +1,4 @@
-//! Whether a line emits, by the Rust original alone (W-205): exactly if its list loses words when the line is silenced. The names that a
+//! Whether a line emits, by the Rust original alone: exactly if its list loses words when the line is silenced. The names that a
 //! silenced line records stay recorded at its address, the address after it is set by ORG, and nothing else is changed. Which lines
 //! are read, and the addresses between them, the original shows by labels put there.
 use crate::reasons::first_reason;
@@ -31,7 +31,7 @@ impl Read {
         let rebased = oracle::rebased(source, base).expect("no address is too high");
         let lines: Vec<String> = rebased.split('\n').map(str::to_string).collect();
         let (list, labels) = shown(&rebased);
-        // A label behind each line has the address after it, if it is reached.
+        // A label after each line has the address after it, if it is reached.
         let probed: String = lines.iter().enumerate().map(|(k, l)| format!("{l}\n{OWN}{k}:\n")).collect();
         let (same, probes) = oracle::listed_with_labels(&probed);
         assert!(same == list, "labels of our own change nothing");
@@ -90,7 +90,7 @@ impl Read {
         (lost > 0).then_some(place)
     }
 
-    /// What W-205 says of a line that is read, its place in PHRASES; None if the line cannot be silenced.
+    /// The verdict on a line that is read, its place in PHRASES; None if the line cannot be silenced.
     pub fn verdict(&self, k: usize) -> Option<u8> {
         let (names, instruction) = heard::alone(&self.lines[k]);
         Some(match (self.lost_words(k, &names)?.1 > 0, instruction) {

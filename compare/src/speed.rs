@@ -105,7 +105,7 @@ fn manual_inputs() -> Vec<(&'static str, String)> {
     ]
 }
 
-/// So many calls on one input, 01's or W-214's, and its name.
+/// So many calls on one input, the stations' or the sheet's, and its name.
 pub fn calls(input: usize, count: u64, sheet: bool) {
     let inputs = inputs();
     let Some((name, s)) = inputs.get(input) else { return };
@@ -145,7 +145,7 @@ fn plain_move(x: &mut Slices, count: usize, distance: i32) -> bool {
     true
 }
 
-/// Paper 01's call against the original.
+/// The rules' call against the original.
 fn rust_table() {
     println!("| input | Rust original | Lagvettu | times as fast |");
     println!("|---|---|---|---|");
@@ -161,9 +161,9 @@ fn rust_table() {
     }
 }
 
-/// The manual's call against 01's on the same scripts.
+/// The manual's call against the stations' on the same scripts.
 fn manual_table() {
-    println!("| input | 01's call | the manual's call | times 01's |");
+    println!("| input | the stations' call | the manual's call | times the stations' |");
     println!("|---|---|---|---|");
     let (mut x, mut y) = (Slices::old([8192; 3]), Slices::old([12_288; 3]));
     for (name, s) in manual_inputs() {
@@ -179,7 +179,7 @@ fn manual_table() {
     }
 }
 
-/// Sums (W-211): a line of 32 KB takes about twice as long as one of 16 KB.
+/// Sums: a line of 32 KB takes about twice as long as one of 16 KB.
 fn sums_table() {
     println!("| one line of sums | 16 KB | 32 KB | times as long |");
     println!("|---|---|---|---|");
@@ -201,7 +201,7 @@ fn sums_table() {
     }
 }
 
-/// Tidy copies (W-212): a source takes about twice as long as its first half, with room for the source and with just enough.
+/// Tidy copies: a source takes about twice as long as its first half, with room for the source and with just enough.
 fn copies_table() {
     println!("| tidy copy | of the first half | of the whole | times as long |");
     println!("|---|---|---|---|");
@@ -227,9 +227,9 @@ fn copies_table() {
     }
 }
 
-/// W-214's call against 01's on the same scripts: it encodes every instruction, and writes no list.
+/// The sheet's call against the stations' on the same scripts: it encodes every instruction, and writes no list.
 fn sheet_table() {
-    println!("| input | 01's call | a source more on a sheet | times 01's |");
+    println!("| input | the stations' call | a source more on a sheet | times the stations' |");
     println!("|---|---|---|---|");
     let mut x = Slices::old([8192; 3]);
     for (name, s) in inputs() {

@@ -1,4 +1,4 @@
-//! Sums in DC (W-211): random texts, good and damaged, against `./exact`, which has Python's own parser and whole numbers.
+//! Sums in DC: random texts, good and damaged, against `./exact`, which has Python's own parser and whole numbers.
 use crate::generate::Random;
 use crate::library::{assemble, line_number, Slices};
 use std::io::{BufRead, BufReader, Write};

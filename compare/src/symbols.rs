@@ -1,4 +1,4 @@
-//! The symbols of a source (W-202) against the Rust original's own label map: every name with its address, once and no other. Lines and
+//! The symbols of a source against the Rust original's own label map: every name with its address, once and no other. Lines and
 //! the order have no witness in the Rust; they are held against where `records` finds each name's last record.
 use crate::generate::{script, Random};
 use crate::library::{symbols, Rows};

@@ -1,4 +1,4 @@
-//! Tidy copies (W-212) through the static library, byte for byte against copied.rs, which follows 02's words by itself; the copy's list and
+//! Tidy copies through the static library, byte for byte against copied.rs, which follows the rules' words by itself; the copy's list and
 //! labels by the Rust original are the source's, at a base too, and both assembling calls of the library answer them alike.
 use crate::copied::{blanked, copied};
 use crate::generate::{script, Random};

@@ -1,4 +1,4 @@
-//! Random branch tables and scripts (W-210) through the static library: tables against `branches::loaded`; lists and verdicts against the Rust
+//! Random branch tables and scripts through the static library: tables against `branches::loaded`; lists and verdicts against the Rust
 //! original, which is given the script with each of the table's names as the built-in name of its condition.
 use crate::branches::{loaded, row, table, ELEVEN, OTHERS};
 use crate::generate::{script_with_faults, Random};

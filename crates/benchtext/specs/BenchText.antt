@@ -1,4 +1,4 @@
--- What `bench` prints (W-213): the line of a run, or of one for each value of a threshold, for a list's text. Assumes nothing.
+-- What `bench` prints: the line of a run, or of one for each value of a threshold, for a list's text. Assumes nothing.
 use Rattle.std.specs.Prelude.{ℕ, zero, suc, ◌+◌, ◌-◌, ◌%◌, Bool, cond, eqb, get_or, take, Option, None, Some, Result, Ok, Err}
 use mathlib.Core.List.{List, [], ◌∷◌, ◌++◌, map, foldl}
 use Rattle.rules.specs.Text.{Text, bytes}

@@ -1,6 +1,6 @@
 #![tactic(auto)]
 
-//! What `bench` prints for a list (W-213): the line of a run, or of one for each value of a threshold. There is no heap:
+//! What `bench` prints for a list: the line of a run, or of one for each value of a threshold. There is no heap:
 //! a line is put at the front of a slice that is lent.
 pub mod arguments; // arguments.rt: what the arguments say
 

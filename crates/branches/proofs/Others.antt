@@ -35,7 +35,7 @@ branches_no_other m = go (operation_in branches m) refl
     go (Some o) e = branch_found m o e
 
 module _ (m : Text) where
-  -- among 01's mnemonics the others come first
+  -- among the stations' mnemonics the others come first
   before : operation_in mnemonics m ≡ or_else (operation_in other_mnemonics m) (operation_in branches m)
   unfolding mnemonics
   before = in_both other_mnemonics branches m

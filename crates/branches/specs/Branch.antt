@@ -1,4 +1,4 @@
--- The mnemonics in use where a branch table may be lent, W-210; and what the code's functions pass on. Assumes nothing.
+-- The mnemonics in use where a branch table may be lent; and what the code's functions pass on. Assumes nothing.
 use Rattle.std.specs.Prelude.{ℕ, ◌+◌, ◌*◌, ◌<◌, Bool, true, false, List, length, Option, None, Some}
 use Rattle.rules.specs.Text.{Text}
 use Rattle.rules.specs.Encode.{Mnemonic, mnemonics}
@@ -6,7 +6,7 @@ use Rattle.requests.specs.Branches.{rows, names_with}
 use Rattle.opcode.specs.declared.mnemonic.Operation.{Operation}
 use Rattle.opcode.specs.declared.mnemonic.Operation.TheVariants.{Moveq, Move, Movea, Muls, Tst, Subq, Asl, Dbra, Nop, Simhalt, Add, Sub, Cmp, Jmp, Branch}
 
--- 01's, or those under the table that is lent: no table and a table without rows are not the same
+-- the stations', or those under the table that is lent: no table and a table without rows are not the same
 unfoldable pub names_in : Option Text → List Mnemonic
 names_in None = mnemonics
 names_in (Some t) = names_with (rows t)

@@ -1,6 +1,6 @@
 #![tactic(auto)]
 
-//! Our own branch names, paper 02's W-210: a lent table is checked whole, and a mnemonic is looked up in its bytes, of which nothing is copied.
+//! Our own branch names: a lent table is checked whole, and a mnemonic is looked up in its bytes, of which nothing is copied.
 ghost use Rattle.std.specs.Prelude.{◌≡◌, ◌&&◌, ◌≤◌, ◌<◌, ◌+◌, ◌*◌, leb, length};
 ghost use Rattle.std.specs.Bool.{OnFalse};
 ghost use Rattle.std.specs.List.{list_any};
@@ -173,7 +173,7 @@ fn find_operation_in(bytes: &[u8], mnemonic: &[u8]) -> Option<Operation>
     find_branch_in(bytes, mnemonic)
 }
 
-/// What a mnemonic names by the names in use: under the table that is lent, or by 01's where none is; None where it names nothing.
+/// What a mnemonic names by the names in use: under the table that is lent, or by the stations' where none is; None where it names nothing.
 // Inlined but for the look at a table, which few calls have.
 #[tactic(auto, unfolding(crate::specs::Branch::names_in))]
 #[inline(always)]

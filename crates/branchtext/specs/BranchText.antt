@@ -1,4 +1,4 @@
--- What `asmlist -b` and `whyline -b` print for a branch table and a script (W-210). Assumes nothing.
+-- What `asmlist -b` and `whyline -b` print for a branch table and a script. Assumes nothing.
 use Rattle.std.specs.Prelude.{ℕ, Bool, cond, List, ltb, take, Option, None, Some}
 use Rattle.rules.specs.Limits.{max_source}
 use Rattle.rules.specs.Text.{Text}

@@ -1,7 +1,7 @@
 #![tactic(auto)]
 
 //! What `asmlist` and `whyline` print for a script that was read chunk by chunk, and under a branch table that was read before it
-//! where one is lent (W-210). A text is put at the front of a slice that is lent: there is no heap.
+//! where one is lent. A text is put at the front of a slice that is lent: there is no heap.
 ghost use Rattle.std.specs.Prelude.{◌≡◌, min};
 ghost use Rattle.rules.specs.Text.{Text};
 ghost use Rattle.requests.specs.Branches.{checked};

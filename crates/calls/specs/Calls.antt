@@ -1,4 +1,4 @@
--- Paper 02's calls by the numbers that they have in records, each answered as a text. Assumes nothing.
+-- The calls beside assembling and moving by the numbers that they have in records, each answered as a text. Assumes nothing.
 use Rattle.std.specs.Prelude.{ℕ, ◌≡◌, Bool, true, false, ◌&&◌, cond, [], ◌∷◌, ◌++◌, eqb, leb, take, drop, Option, None, Some, Result, Ok, Err}
 use Rattle.rules.specs.Text.{Text, bytes}
 use Rattle.rules.specs.Answer.{Answer, accepted, refused}
@@ -31,11 +31,11 @@ answered_text f (refused n p) = refused_text n p
 
 -- ---- the calls: x and y are two numbers whose meaning the call says, s is its source
 
--- W-201's answer, "start and length in its last record, and the distance"
+-- the answer on the nearest label, "start and length in its last record, and the distance"
 unfoldable pub nearest_text : Nearest → Text
 nearest_text n = (number_text n.start 32 ++ number_text n.length 32) ++ number_text n.distance 10
 
--- W-204's four answers on a line's number, or that the line reads none
+-- the four answers on a line's number, or that the line reads none
 unfoldable pub read_text : ℕ → Text
 read_text v = bytes "read " ++ number_text v 10
 
@@ -63,10 +63,10 @@ run_of start limit =
 abbrev pub empty_sources : ℕ → ℕ → Totals
 empty_sources a r = totals 0 0 0 0 0 0 0 0 0 0 a r
 
--- 2 is W-201, x its base and y its address; 3 is W-202, x its base, as `symlist` prints it; 4 is W-204, s a line; 5 is W-205, x its base
--- and y its line, as `whyline` prints it; 6 is W-207, x its base, as `manlist` prints it; 7 and 8 are W-210, x the base and y how many bytes of s are a
--- branch table, behind which the source stands: the list as `asmlist` prints it, and the verdict on every line as `whyline` does; 9 is W-212, x the room
--- lent, a copy or a refusal; 10 is W-213, s a list, x START and y LIMIT, as `bench` prints it; 11 is W-214, s a source more after x that were accepted
+-- 2 is the nearest label, x its base and y its address; 3 the labels, x their base, as `symlist` prints them; 4 what a line's number said, s a line; 5 why a line has no word, x its base
+-- and y its line, as `whyline` prints it; 6 is the manual's call, x its base, as `manlist` prints it; 7 and 8 are under a table, x the base and y how many bytes of s are a
+-- branch table, after which the source stands: the list as `asmlist` prints it, and the verdict on every line as `whyline` does; 9 is the tidy copy, x the room
+-- lent, a copy or a refusal; 10 is a run on the bench, s a list, x START and y LIMIT, as `bench` prints it; 11 is the sheet, s a source more after x that were accepted
 -- and y that were refused, the totals as `plantsheet` prints them; a call that is not known has no text
 unfoldable pub call_text : ℕ → ℕ → ℕ → Text → Text
 call_text call x y s =

@@ -1,6 +1,6 @@
 #![tactic(auto)]
 
-//! Paper 02's calls by the numbers that they have in records, each answered as a text, and a recorded text compared with it.
+//! The calls beside assembling and moving by the numbers that they have in records, each answered as a text, and a recorded text compared with it.
 //! There is no heap: a text is put at the front of a slice that is lent.
 ghost use Rattle.std.specs.Prelude.{◌≡◌, true, ◌↔◌, ◌+◌, ◌≤◌, min, length as len, take, drop};
 ghost use Rattle.listing.specs.Writer.{Adds};
@@ -53,7 +53,7 @@ fn push_number(n: u64, after: u8, text: &mut Writer<'_>)
 
 // ---- The calls.
 
-// Puts W-201's three numbers at the front, and answers their length.
+// Puts the three numbers of the nearest label at the front, and answers their length.
 fn write_nearest(label: Nearest, out: &mut [u8; ROOM]) -> usize
     ensures { Printed (nearest_text (record { start = label.start; length = label.length; distance = label.distance })) result out.old out.new }
 {
@@ -65,7 +65,7 @@ fn write_nearest(label: Nearest, out: &mut [u8; ROOM]) -> usize
     text.len
 }
 
-// Puts W-201's answer at the front, and answers its length.
+// Puts the answer on the nearest label at the front, and answers its length.
 fn nearest_text(source: &[u8], base: u32, address: u32, out: &mut [u8; ROOM]) -> usize
     ensures { Printed (answered_text nearest_text (nearest base source.now address)) result out.old out.new }
 {
@@ -105,7 +105,7 @@ fn write_failure(failure: Failure, out: &mut [u8; ROOM]) -> usize
     }
 }
 
-// Puts what the number of a line said at the front (W-204), and answers the text's length.
+// Puts what the number of a line said at the front, and answers the text's length.
 fn line_number_text(line: &[u8], out: &mut [u8; ROOM]) -> usize
     ensures { Printed (said_text (line_number_of (line_reading line.now))) result out.old out.new }
 {
@@ -124,7 +124,7 @@ fn table_size(said: u32, source: &[u8]) -> usize
     source.len().min(said as usize)
 }
 
-// Puts the list under the table that a source starts with at the front (W-210), and answers the text's length.
+// Puts the list under the table that a source starts with at the front, and answers the text's length.
 fn list_under_text(source: &[u8], base: u32, said: u32, out: &mut [u8; ROOM]) -> usize
     ensures { Printed (list_under_text (take said source.now) base (drop said source.now)) result out.old out.new }
 {
@@ -132,7 +132,7 @@ fn list_under_text(source: &[u8], base: u32, said: u32, out: &mut [u8; ROOM]) ->
     write_list_under(&source[..n], &source[n..], base, out)
 }
 
-// Puts the verdicts under the table that a source starts with at the front (W-210), and answers the text's length.
+// Puts the verdicts under the table that a source starts with at the front, and answers the text's length.
 fn lines_under_text(source: &[u8], base: u32, said: u32, out: &mut [u8; ROOM]) -> usize
     ensures { Printed (lines_under_text (take said source.now) base (drop said source.now)) result out.old out.new }
 {
@@ -152,7 +152,7 @@ fn run_of(start: u32, limit: u32) -> Given
     }
 }
 
-// Puts the line of a run on the bench at the front (W-213), and answers its length.
+// Puts the line of a run on the bench at the front, and answers its length.
 fn run_text(list: &[u8], start: u32, limit: u32, out: &mut [u8; ROOM]) -> usize
     ensures { Printed (row_text (run_of start limit) 0 list.now) result out.old out.new }
 {
@@ -171,7 +171,7 @@ fn empty_sources(accepted: u32, refused: u32) -> Totals
     }
 }
 
-// Puts the totals with a source more at the front (W-214), and answers the text's length.
+// Puts the totals with a source more at the front, and answers the text's length.
 fn sheet_text(source: &[u8], accepted: u32, refused: u32, out: &mut [u8; ROOM]) -> usize
     ensures { Printed (answered_text sheet_text (add_source (empty_sources accepted refused) source.now)) result out.old out.new }
 {

@@ -44,7 +44,7 @@ after_task z source base a (Space n) = refl
 pub after_kept : (z : Sizes) (source : Text) (base a : ℕ) (k : Kept) → k.size ≡ size_of z source k.task → after_by base a k ≡ address_after z base a (task_at source k.task)
 after_kept z source base a k e = rw e (after_task z source base a k.task)
 
--- 01's are at most 4
+-- the stations' are at most 4
 long_most : (y : Bool) → cond y 4 2 ≤ 4
 long_most true = omega arith
 long_most false = omega arith

@@ -1,4 +1,4 @@
--- By how much a line's task advances the address, its instruction read in the source: by 01's sizes, or by whatever sizes. Assumes nothing.
+-- By how much a line's task advances the address, its instruction read in the source: by the stations' sizes, or by whatever sizes. Assumes nothing.
 use Rattle.std.specs.Prelude.{ℕ, ◌≤◌}
 use Rattle.rules.specs.Text.{Text}
 use Rattle.rules.specs.Line.{Instruction as Said, instruction_of}

@@ -1,4 +1,4 @@
--- Texts made of parts, one behind the other. Assumes nothing.
+-- Texts made of parts, one after the other. Assumes nothing.
 use Rattle.std.proofs.Common.{◌≡◌, ◌∙◌, ℕ, zero, suc, ◌+◌, ◌<◌, ◌≤◌, List, [], ◌∷◌, ◌++◌, length, get_or, drop, sym, refl, ap, add-one, drop_of_length-le, drop-cons}
 use Rattle.std.proofs.lemmas.List.{append_assoc, append-nil}
 use Rattle.rules.specs.Text.{Text}

@@ -11,7 +11,7 @@ unfoldable pub spaces : ℕ → Text
 spaces zero = []
 spaces (suc n) = 32 ∷ spaces n
 
--- the texts of these, one behind the other
+-- the texts of these, one after the other
 unfoldable pub lines_of : {A : Type 0} → (A → Text) → List A → Text
 lines_of f [] = []
 lines_of f (x ∷ xs) = f x ++ lines_of f xs

@@ -8,7 +8,7 @@ use Rattle.rules.specs.Number.{some_digits, ranged, below, without, hex_tail, va
 unfoldable pub digits_number : ℕ → ℕ → Text → Option ℕ
 digits_number radix greatest t = value_of (ranged (below (greatest + 1)) (some_digits radix t))
 
--- decimal, or hexadecimal behind `$` or `0x`
+-- decimal, or hexadecimal after `$` or `0x`
 unfoldable pub decimal : ℕ → Text → Option ℕ
 decimal greatest w = elim (hex_tail w) [ None ↦ digits_number 10 greatest w | Some t ↦ digits_number 16 greatest t ]
 
@@ -16,7 +16,7 @@ decimal greatest w = elim (hex_tail w) [ None ↦ digits_number 10 greatest w | 
 unfoldable pub address : Text → Option ℕ
 address w = elim (hex_tail w) [ None ↦ value_of (unsigned_reading 16 (2 ^ 32) w) | Some t ↦ value_of (unsigned_reading 16 (2 ^ 32) t) ]
 
--- decimal of 32 bits with a sign or without, or hexadecimal behind `$` or `0x`, which follow the sign
+-- decimal of 32 bits with a sign or without, or hexadecimal after `$` or `0x`, which follow the sign
 unfoldable pub distance : Text → Option ℤ
 distance w =
     elim (after (45 ∷ []) w) [

@@ -14,7 +14,7 @@ pub const VERSION: &str = "lagvettu 1.0\n";
 const FRONT: &str =
     "usage: lagvettu COMMAND [options] [FILE]\n\nCommands, each with what it prints:\n";
 
-// Behind the commands, before the refusals.
+// After the commands, before the refusals.
 const BEHIND: &str = "
 lagvettu COMMAND --help says which options it takes; they stand before or behind FILE, and -- ends them.
 FILE is standard input where it is not named or is -. Addresses, bases and registers are hexadecimal, with or
@@ -25,7 +25,7 @@ Exit status: 0 accepted, 1 refused, 2 wrong use, 3 input or output failed.
 Refusals; they are said on standard error. Lines count from 1, offsets and indexes from 0:
 ";
 
-// Behind the options of a command.
+// After the options of a command.
 const END: &str =
     "\nlagvettu --help says how numbers are written, the exit status and the refusals.\n";
 

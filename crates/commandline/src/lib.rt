@@ -115,7 +115,7 @@ pub enum Wrong {
     UnknownCommand(String),
     /// An option that the command does not take.
     UnknownOption(Command, String),
-    /// A word behind the last that the command takes.
+    /// A word after the last that the command takes.
     TooMany(Command, String),
     /// An option without its values, with a wrong one, or with one where it takes none.
     Takes(Command, Setting),

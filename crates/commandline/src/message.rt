@@ -22,7 +22,7 @@ pub fn message(alloc: Global, wrong: &Wrong) -> Result<String, AllocError>
     }
 }
 
-// Three texts, one behind the other.
+// Three texts, one after the other.
 pub(crate) fn joined(
     alloc: Global,
     first: &str,

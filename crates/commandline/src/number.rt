@@ -37,7 +37,7 @@ fn read_digits(digits: &[u8], radix: u64, greatest: u64) -> Option<u64>
     Some(value)
 }
 
-/// A decimal number, or a hexadecimal one behind `$` or `0x`; none where it is above `greatest`.
+/// A decimal number, or a hexadecimal one after `$` or `0x`; none where it is above `greatest`.
 #[tactic(auto, unfolding(crate::specs::Number::decimal))]
 pub fn read_decimal(word: &[u8], greatest: u64) -> Option<u64>
     ensures value { result ≡ decimal greatest word.now }
@@ -49,7 +49,7 @@ pub fn read_decimal(word: &[u8], greatest: u64) -> Option<u64>
     }
 }
 
-// Hexadecimal digits, behind a plus sign or not.
+// Hexadecimal digits, after a plus sign or not.
 #[tactic(auto, using(crate::proofs::Reading::read_value, crate::proofs::Reading::failed_value))]
 fn read_hexadecimal(digits: &[u8]) -> Option<u32>
     ensures { result ≡ value_of (unsigned_reading 16 (2 ^ 32) digits.now) }
@@ -87,7 +87,7 @@ fn negated(value: u64) -> i32
     (-(value as i64)) as i32
 }
 
-/// A decimal number of 32 bits with a sign or without, or a hexadecimal one behind `$` or `0x`, which follow the sign.
+/// A decimal number of 32 bits with a sign or without, or a hexadecimal one after `$` or `0x`, which follow the sign.
 #[tactic(auto, unfolding(crate::specs::Number::distance))]
 pub fn read_distance(word: &[u8]) -> Option<i32>
     ensures { result ≡ distance word.now }

@@ -154,7 +154,7 @@ fn unknown_word(text: &str) -> Option<&str> {
     Some(word)
 }
 
-// The option of which clap speaks: behind `front`, up to a space or a quote.
+// The option of which clap speaks: after `front`, up to a space or a quote.
 fn option_in(text: &str, front: &str) -> Option<Setting> {
     let (_, rest) = text.rsplit_once(front)?;
     let (quoted, _) = rest.split_once('\'')?;
@@ -165,7 +165,7 @@ fn option_in(text: &str, front: &str) -> Option<Setting> {
     setting_named(name)
 }
 
-// Whether a word stands behind `--`, where no option does.
+// Whether a word stands after `--`, where no option does.
 fn stands_behind(words: &[String], word: &str) -> bool {
     let mut behind = false;
     for each in words {
@@ -233,7 +233,7 @@ fn ended<'a>(
     }
 }
 
-/// What the words of a command ask for: those behind its name.
+/// What the words of a command ask for: those after its name.
 pub fn request_of<'a>(
     alloc: Global,
     command: Command,

@@ -117,7 +117,7 @@ impl Command {
         }
     }
 
-    // The numbers before FILE in the usage, behind a space.
+    // The numbers before FILE in the usage, after a space.
     pub(crate) fn values_in_usage(self) -> &'static str
         ensures { result.now ≡ values_in_usage self }
     {
@@ -140,7 +140,7 @@ impl Command {
         }
     }
 
-    // What is said of several files, behind what FILE has.
+    // What is said of several files, after what FILE has.
     pub(crate) fn several(self) -> &'static str
         ensures { result.now ≡ several_text self }
     {

@@ -1,4 +1,4 @@
-//! The words behind the program's name, as text.
+//! The words after the program's name, as text.
 ghost use Rattle.std.specs.Prelude.{◌≡◌, map, option_map, IfOk, IfSome, string_bytes};
 ghost use Rattle.commandline.specs.Words.{WordAt, word_text, words_behind};
 
@@ -32,7 +32,7 @@ fn word_at<A: Arguments>(
     Err(AllocError)
 }
 
-/// A word as text: its own where that is UTF-8. Another has a sign in the place of each wrong byte, and byte 0 behind it, which no word has:
+/// A word as text: its own where that is UTF-8. Another has a sign in the place of each wrong byte, and byte 0 after it, which no word has:
 /// so no option, number or file has its name.
 pub fn word_text(alloc: Global, bytes: &[u8]) -> Result<String, AllocError>
     ensures { IfOk result (λ text. string_bytes text ≡ word_text bytes.now) }
@@ -49,7 +49,7 @@ pub fn is_whole(text: &str) -> bool {
     !text.ends_with('\0')
 }
 
-/// The words behind the program's name.
+/// The words after the program's name.
 #[tactic(auto, using(crate::proofs::Behind::begins, crate::proofs::Behind::steps, crate::proofs::Behind::ends))]
 pub fn words_of<A: Arguments>(alloc: Global, arguments: &A) -> Result<Vec<String>, AllocError>
     ensures { IfOk result (λ words. IfSome (A.known arguments.now) (λ known. map (λ t. string_bytes t) words.items ≡ words_behind known)) }

@@ -1,6 +1,6 @@
 #![tactic(auto)]
 
-//! What a word is to the machine of W-213: a form, the halt, or neither.
+//! What a word is to the bench's machine: a form, the halt, or neither.
 ghost use Rattle.std.specs.Prelude.{◌≡◌, ◌<◌};
 ghost use Rattle.machine.specs.Form.{listed};
 ghost use Rattle.machine.specs.Decode.{decode_of, branch};

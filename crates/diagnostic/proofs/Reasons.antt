@@ -39,7 +39,7 @@ digits_close base (suc k) n =
     close_both (digits_of base k (n / base)) (digit_byte (n % base) ∷ []) (digits_close base k (n / base))
     (one (other 32 (n % base) (omega arith)) (other 40 (n % base) (omega arith)) none)
 
--- what stands behind the first byte of the mark
+-- what stands after the first byte of the mark
 behind : (u : Text) → Close u → contains mark (40 ∷ 111 ∷ 115 ∷ 32 ∷ 101 ∷ 114 ∷ 114 ∷ 111 ∷ 114 ∷ 32 ∷ u) ≡ false
 unfolding contains starts mark bytes
 behind [] none = refl

@@ -29,7 +29,7 @@ others_none : (t : Text) → length t ≤ until ends t → other_texts (cut_wher
 unfolding cut_where other_texts
 others_none t h = rw (drop_of_length-le t h)
 
--- n lines are left behind, and `at` is where the next one starts
+-- n lines are left after, and `at` is where the next one starts
 pub record Walk (s : Text) (k n at : ℕ) : Type 0 where
   pub within : at ≤ length s
   pub far : n ≤ at

@@ -2,7 +2,7 @@
 use Rattle.std.specs.Prelude.{[], ◌∷◌, not, ◌&&◌, true, false}
 use Rattle.rules.specs.Text.{Text, bytes, starts, contains}
 
--- what stands behind the words, in front of the number
+-- what stands after the words, in front of the number
 unfoldable pub mark : Text
 mark = bytes " (os error "
 

@@ -43,7 +43,7 @@ LineShown = (s : Text) (n : ℕ) (l : SourceLine) → counted n ≡ Some Line �
 unfoldable pub NoLineShown : Type 0
 NoLineShown = (s : Text) (n p : ℕ) → counted n ≡ Some Line → ((l : SourceLine) → In l (lines_of s) → l.number ≡ p → ⊥) → shown_text n p s ≡ []
 
--- a line of the source on which a place stands, or the byte 10 behind it does
+-- a line of the source on which a place stands, or the byte 10 after it does
 pub record Holding (ls : List SourceLine) (number at : ℕ) : Type 0 where
   pub line : SourceLine
   pub one_of : In line ls

@@ -13,7 +13,7 @@ fn starts_mark(t: &[u8]) -> bool
     starts_with(t, b" (os error ")
 }
 
-/// The words of an error that std shows, without the number behind them: `File exists` of `File exists (os error 17)`.
+/// The words of an error that std shows, without the number after them: `File exists` of `File exists (os error 17)`.
 #[tactic(auto, using(crate::proofs::Marks::no_mark_last, crate::proofs::Marks::no_mark_at_all))]
 pub fn reason_of(shown: &[u8]) -> &[u8]
     ensures { result.now ≡ reason_of shown.now }

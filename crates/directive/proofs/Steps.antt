@@ -1,4 +1,4 @@
--- A line's number by paper 01's steps, as the code's tests decide them. Assumes nothing.
+-- A line's number by the rules' steps, as the code's tests decide them. Assumes nothing.
 use Rattle.std.specs.Prelude.{Option, None, Some, Result}
 use Prim.Native.Nat.{ℕ, ◌+◌}
 use mathlib.Core.Path.{◌≡◌, refl, sym, ap, ◌∙◌}

@@ -1,6 +1,6 @@
 #![tactic(auto)]
 
-//! What the number of a line said (W-204): of ORG, and of data with `DC.`; by the readers of the first pass.
+//! What the number of a line said: of ORG, and of data with `DC.`; by the readers of the first pass.
 ghost use Rattle.std.specs.Prelude.{◌≡◌};
 ghost use Rattle.rules.specs.Text.{leading};
 ghost use Rattle.rules.specs.Directive.{data_reading, after_colon, line_reading};

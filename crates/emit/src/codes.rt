@@ -1,4 +1,4 @@
-//! The codes of the manual's call (W-207): each line's code is looked for a fault before anything is written, and kept in two
+//! The codes of the manual's call: each line's code is looked for a fault before anything is written, and kept in two
 //! cells until it is. So no line is encoded again to be written.
 ghost use Rattle.std.specs.Prelude.{◌≡◌, OnOk};
 ghost use Rattle.answer.specs.Refusal.{answer_of};

@@ -5,7 +5,7 @@ use Rattle.rules.specs.Assemble.{Place, place}
 use Rattle.encode.specs.declared.Code.{Code}
 use Rattle.encode.specs.declared.Code.TheVariants.{Word, Value, Label}
 
--- one word, a word and a value, or a word and a label's address modulo 65,536; 01's encoder gives no other contents
+-- one word, a word and a value, or a word and a label's address modulo 65,536; the stations' encoder gives no other contents
 abbrev pub code_of : Option (List Content) → Option Code
 code_of None = None
 code_of (Some []) = None

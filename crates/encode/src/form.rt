@@ -1,5 +1,5 @@
-//! Forms of registers and immediates, each by its row of paper 01: an operand that can't be read yields no word.
-// An immediate is taken apart by `let .. else`, since paper 01 names that form (docs/FORMS.md), and the value narrowed by `as`, which is
+//! Forms of registers and immediates, each by its row of the rules: an operand that can't be read yields no word.
+// An immediate is taken apart by `let .. else`, the form that docs/FORMS.md names, and the value narrowed by `as`, which is
 // proved to lose nothing: `try_from` would have a way out that is never taken.
 ghost use Rattle.std.specs.Prelude.{◌≡◌, ◌/◌, ◌%◌};
 ghost use Rattle.rules.specs.Encode.{registers_row, high_row, low_row, from_indirect, to_indirect, muls_rows, cmp_rows, moveq_row, quick_row, tst_row};

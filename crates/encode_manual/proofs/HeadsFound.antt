@@ -1,4 +1,4 @@
--- The head that a mnemonic and a suffix have, by the operation that the mnemonic names in 01 and by what the suffix is. Assumes nothing.
+-- The head that a mnemonic and a suffix have, by the operation that the mnemonic names in the stations' call and by what the suffix is. Assumes nothing.
 use Rattle.std.specs.Prelude.{Option, None, Some}
 use Prim.Native.Nat.{ℕ, ◌+◌, ◌<◌}
 use mathlib.Core.Path.{◌≡◌, refl, ◌∙◌}
@@ -57,7 +57,7 @@ each_bridged =
     bridged refl refl refl and bridged refl refl refl and bridged refl refl refl and bridged refl refl refl and bridged refl refl refl and
     bridged refl refl refl and done
 
--- a branch's condition is one that 01 has
+-- a branch's condition is one that the stations' call has
 abbrev Settled : Ruled → Type 0
 Settled (branch c) = manual_condition c ≡ condition (condition_by c)
 Settled moveq = Unit

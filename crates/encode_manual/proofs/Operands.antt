@@ -24,7 +24,7 @@ use Rattle.rules.specs.Forms.{Kind, hash, dn, an, at_an, text as other_kind, kin
 use Rattle.manual.specs.Manual.{long, direct, indirect, immediate, absolute, quick, byte, MOVE, JMP}
 use Rattle.requests.specs.ManualCall.{Form, said, labelled, load, store, jump, muls_w, registers, form_of, other_text, number32, imm32, one_to_eight, quickly, jump_to, move_long}
 
--- ---- a number behind `#`
+-- ---- a number after `#`
 module _ {A : Type 0} (o : Option (Reading A)) {x : Option (Result A Failure)} (e : x ≡ option_map result_of o) where
   pub not_there : {r : Option A} → x ≡ None → r ≡ None → r ≡ bind o value_of
   unfolding bind

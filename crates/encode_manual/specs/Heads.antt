@@ -1,4 +1,4 @@
--- The heads of the manual's call, by the operation that 01's mnemonic names and by the suffix. Assumes nothing.
+-- The heads of the manual's call, by the operation that the stations' mnemonic names and by the suffix. Assumes nothing.
 use Rattle.std.specs.Prelude.{ℕ, ◌+◌, ◌≡◌, ◌&&◌, cond, List, leb, eqb, Option, None, Some}
 use Rattle.rules.specs.Option.{bind}
 use Rattle.rules.specs.Text.{Text}
@@ -9,17 +9,17 @@ use Rattle.opcode.specs.declared.mnemonic.Operation.TheVariants.{Moveq, Move, Mo
 use Rattle.instruction.specs.declared.Suffix.{Suffix}
 use Rattle.instruction.specs.declared.Suffix.TheVariants.{None, Long, Word}
 
--- 01 has BPL as 8 and BMI as 9, which the manual has as 10 and 11; the other conditions are the same
+-- the stations' call has BPL as 8 and BMI as 9, which the manual has as 10 and 11; the other conditions are the same
 unfoldable pub manual_condition : ℕ → ℕ
 manual_condition c = cond (leb 8 c && leb c 9) (c + 2) c
 
--- the condition of a branch, by 01's number
+-- the condition of a branch, by the number of the stations' call
 unfoldable pub condition_by : ℕ → Condition
 condition_by c =
     cond (eqb c 4) CC (cond (eqb c 5) CS (cond (eqb c 6) NE (cond (eqb c 7) EQ (cond (eqb c 8) PL (cond (eqb c 9) MI
     (cond (eqb c 12) GE (cond (eqb c 13) LT (cond (eqb c 14) GT (cond (eqb c 15) LE T)))))))))
 
--- a branch has a condition of 01's; under a lent table it need not, so this is no invariant of Operation
+-- a branch has a condition of the stations' call; under a lent table it need not, so this is no invariant of Operation
 abbrev pub Conditioned : Operation → Type 0
 Conditioned o = (c : ℕ) → o ≡ Branch c → manual_condition c ≡ condition (condition_by c)
 

@@ -11,7 +11,7 @@ use crate::form::{
 use instruction::{Operands, Suffix};
 use opcode::mnemonic::Operation;
 
-// The manual's condition by 01's: BPL is 10 and BMI 11, not 8 and 9.
+// The manual's condition by that of the stations' call: BPL is 10 and BMI 11, not 8 and 9.
 #[inline(always)]
 fn manual_condition(c: u8) -> u8
     ensures { result ≡ manual_condition c }

@@ -1,4 +1,4 @@
--- An operand in its place as the code answers it, for each place of 01's forms, by what was read there. Assumes nothing.
+-- An operand in its place as the code answers it, for each place of the stations' forms, by what was read there. Assumes nothing.
 use Rattle.std.specs.Prelude.{ℕ, Bool, true, false, ◌&&◌, ℤ, Option, None, Some, Result, Ok, Err}
 use Rattle.std.specs.Option.{option_or}
 use Rattle.rules.specs.Text.{Text}
@@ -27,7 +27,7 @@ operand_of O.Label = label
 operand_of O.JumpTarget = jump_target
 operand_of O.BranchTarget = branch_target
 
--- ---- by 02: the word is made there, and what is wrong
+-- ---- by the rules: the word is made there, and what is wrong
 abbrev pub fit_at : Table → ℕ → Ruled → Text → Fit
 fit_at ls a x s = record { met = meets ls a x s; fault = fault_of (fault ls a x s) }
 

@@ -1,4 +1,4 @@
--- W-205's verdicts and answers as the code's enum, and their numbers. Assumes nothing.
+-- The verdicts on a line, and the answers, as the code's enum, and their numbers. Assumes nothing.
 use Rattle.std.specs.Prelude.{ℕ, List, map, length, drop, ◌++◌, Option}
 use Rattle.std.specs.Option.{option_map}
 use Rattle.rules.specs.Number.{no_digits, bad_digit, out_of_range}

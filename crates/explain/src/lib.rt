@@ -1,6 +1,6 @@
 #![tactic(auto)]
 
-//! Why a line has no word (W-205): the first pass, then the verdict on a line, or on each line that is read. The arrays that the first
+//! Why a line has no word: the first pass, then the verdict on a line, or on each line that is read. The arrays that the first
 //! pass fills are a call's own: there is no heap.
 ghost use Rattle.std.specs.Prelude.{◌≡◌, ◌<◌, ◌≤◌, length, IfOk, OnOk};
 ghost use Rattle.requests.specs.Explain.{explain, explain_all, explain_by, explain_all_by};
@@ -29,7 +29,7 @@ use text::Span;
 mod operand; // operand.rt: an operand in a place of a form
 mod form; // form.rt: the forms of an operation, in order
 
-/// The verdict on a line: a word is emitted, or the first of 02's reasons that holds.
+/// The verdict on a line: a word is emitted, or the first of the rules' reasons that holds.
 #[derive(Clone, Copy, Debug, PartialEq, Eq, Hash)]
 pub enum Verdict {
     Emitted,
@@ -52,7 +52,7 @@ pub enum Verdict {
 /// In the place of a verdict's number where there is none, in the C interface.
 pub const NO_VERDICT: u8 = 255;
 
-/// A verdict's number, in 02's order from 0, for the C interface.
+/// A verdict's number, in the rules' order from 0, for the C interface.
 pub fn verdict_number(v: Verdict) -> u8
     ensures { result ≡ verdict_number v }
 {

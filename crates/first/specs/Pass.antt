@@ -1,5 +1,5 @@
 -- What the first pass, by the sizes z, needs and gives, and what it leaves in the labels and the cells for whoever goes on from there;
--- the plain names are of 01's sizes. Assumes nothing.
+-- the plain names are of the stations' sizes. Assumes nothing.
 use Rattle.std.specs.Prelude.{◌≡◌, ℕ, ◌*◌, List, length, drop, Result, Ok, Err}
 use mathlib.Core.List.{flat_map}
 use Rattle.rules.specs.Text.{Text}

@@ -1,4 +1,4 @@
--- Laws of an instruction's size: the order of the tests in code is as good as paper 01's. Assumes nothing.
+-- Laws of an instruction's size: the order of the tests in code is as good as the rules'. Assumes nothing.
 use Rattle.std.specs.Prelude.{Option, None, Some}
 use mathlib.Core.Path.{◌≡◌, refl, sym, ap, ◌∙◌}
 use mathlib.Core.Bool.{Bool, true, false, not, ◌&&◌, ◌||◌, cond, or-false, false≢true}
@@ -26,7 +26,7 @@ use Rattle.instruction.proofs.FirstPiece.{piece_filled, first_here, first_later,
 use Rattle.instruction.proofs.Places.{operands_of_lem}
 use Rattle.instruction.proofs.Initials.{size_standing}
 
--- ---- paper 01's test, mnemonic by mnemonic
+-- ---- the rules' test, mnemonic by mnemonic
 says_long_lem : (f : Option Text) → says_long (suffix_of f) ≡ is_l f
 unfolding says_long suffix_of suffix_by is_l same bytes
 says_long_lem None = refl

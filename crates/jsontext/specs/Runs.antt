@@ -42,11 +42,11 @@ runs_data ts = object (member (codes "runs") (array (items_of (map run_data ts))
 
 -- ---- a text that is being written
 
--- items, and more of them behind
+-- items, and more of them after
 unfoldable pub items_onto : List Data → Items → Items
 items_onto [] more = more
 items_onto (d ∷ ds) more = item d (items_onto ds more)
 
--- so far it has these runs: with any more of them behind it is the text of all, from the bracket on
+-- so far it has these runs: with any more of them after it is the text of all, from the bracket on
 unfoldable pub Holds : List Tried → RunList → Type 0
 Holds ts r = (more : Items) → r.text.items ++ items_text r.later more ≡ codes "{\"runs\":[" ++ items_text false (items_onto (map run_data ts) more)

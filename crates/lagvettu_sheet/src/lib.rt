@@ -1,7 +1,7 @@
 #![tactic(auto)]
 
-//! The C interface of W-214's calls, one sheet for a plant, in an archive of its own: so no second caller of the encoder takes from the
-//! other calls what the compiler inlines there. An answer is as in 01's interface; include/lagvettu.h declares it.
+//! The C interface of the sheet for a plant, in an archive of its own: so no second caller of the encoder takes from the
+//! other calls what the compiler inlines there. An answer is as in the interface of the stations' call; include/lagvettu.h declares it.
 ghost use Rattle.requests.specs.Sheet.{add_source, add_sheet};
 ghost use Rattle.sheet.specs.Totals.{lent_totals, answered};
 ghost use Rattle.sheet.specs.Called.{AddsTotals};

@@ -1,6 +1,6 @@
 #![tactic(auto)]
 
-//! What a line says: paper 01's six steps, answered by value: the labels that it records and its task, with places in the source.
+//! What a line says: the rules' six steps, answered by value: the labels that it records and its task, with places in the source.
 ghost use Rattle.std.specs.Prelude.{◌≡◌, true, ◌||◌, ◌≤◌, length, take, drop, IfSome, None};
 ghost use Rattle.rules.specs.Text.{Text, uppers, leading, trim, pieces, uncut, first_cut, contains, nth};
 ghost use Rattle.rules.specs.Line.{reading_in, value_reading_in, data_size, is_directive, data_line, is_data, rest_line, label_line};

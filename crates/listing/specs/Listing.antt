@@ -1,4 +1,4 @@
--- The text of a list, by paper 01's station examples: a line for each word, or the line of a refusal. Assumes nothing.
+-- The text of a list, as the rules' examples have it: a line for each word, or the line of a refusal. Assumes nothing.
 use Rattle.std.specs.Prelude.{ℕ, zero, suc, ◌+◌, ◌/◌, ◌%◌, true, false, cond, ltb}
 use mathlib.Core.List.{List, [], ◌∷◌, ◌++◌, flat_map}
 use Rattle.rules.specs.Text.{Text, bytes}

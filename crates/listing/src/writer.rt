@@ -8,7 +8,7 @@ ghost use Rattle.listing.specs.Writer.{Begins, Adds};
 use crate::writing::{decimal_places, mark_byte, write_bytes, write_digits};
 
 /// A lent slice, and how many bytes of a text are put over its front. It has no model: with one a caller no longer learns what stands in
-/// the slice that it lent. The slice is open to who writes in place behind the text and counts it in `len`: a method that lends that rest
+/// the slice that it lent. The slice is open to who writes in place after the text and counts it in `len`: a method that lends that rest
 /// gets no proof, since it passes a `&mut` on through a field that is one.
 // No `==`: it holds a `&mut`.
 #[derive(Drop)]

@@ -1,4 +1,4 @@
--- The call of W-213: "16,384 bytes of memory filled from a list, later entries over earlier", the state that a run starts from, refusals
+-- The bench's call: "16,384 bytes of memory filled from a list, later entries over earlier", the state that a run starts from, refusals
 -- 9 and 19, and what the call leaves. Assumes nothing.
 use Rattle.std.specs.Prelude.{ℕ, zero, suc, ◌+◌, ◌/◌, ◌%◌, Bool, false, not, ◌||◌, List, ltb, eqb, length, get_or, set, replicate}
 use Rattle.rules.specs.Answer.{Answer, accepted, refused, refuse_if, refuse_at}

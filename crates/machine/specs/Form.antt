@@ -1,5 +1,5 @@
--- W-213: "A stepper runs 01's forms proved equal to the manual, less byte −1". The forms as the manual's instructions, and their words by
--- its bit fields; byte 0 of a branch is none of 01's forms. Assumes nothing.
+-- What the bench runs: the stations' forms that are proved equal to the manual, "less byte −1". The forms as the manual's instructions, and their words by
+-- its bit fields; byte 0 of a branch is none of these forms. Assumes nothing.
 use Rattle.std.specs.Prelude.{ℕ, ◌<◌, ◌≤◌, ◌≡◌, Bool, true, false, cond, [], ◌∷◌, ltb, leb, eqb, get_or}
 use Rattle.manual.specs.Manual.{Instruction, Condition, direct, indirect, immediate, word, long, T, CC, CS, NE, EQ, PL, MI, GE, LT, GT, LE, MOVEQ, MOVE, MULS, ADD, SUB, CMP, TST, SUBQ, ASL, NOP, Bcc, operation_word, sign_of}
 use Rattle.machine.specs.declared.Form.{Form}
@@ -9,7 +9,7 @@ use Rattle.machine.specs.declared.Form.TheVariants.{Nop, Moveq, MoveWord, Load, 
 unfoldable pub condition_at : ℕ → Condition
 condition_at k = get_or (T ∷ T ∷ T ∷ T ∷ CC ∷ CS ∷ NE ∷ EQ ∷ T ∷ T ∷ PL ∷ MI ∷ GE ∷ LT ∷ GT ∷ LE ∷ []) k T
 
--- the conditions of 01's listed branches, which are those "except BPL and BMI": 0, 4 to 7 and 12 to 15
+-- the conditions of the branches that are equal to the manual's, those "except BPL and BMI": 0, 4 to 7 and 12 to 15
 unfoldable pub listed : ℕ → Bool
 listed k = cond (eqb k 0) true (cond (ltb k 4) false (cond (ltb k 8) true (leb 12 k)))
 

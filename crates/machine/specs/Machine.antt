@@ -1,4 +1,4 @@
--- The machine of W-213: its state, what each form does, whether the next step may be made, and a run with its limit. Assumes nothing.
+-- The bench's machine: its state, what each form does, whether the next step may be made, and a run with its limit. Assumes nothing.
 use Rattle.std.specs.Prelude.{ℕ, zero, suc, ◌+◌, ◌*◌, ◌/◌, ◌%◌, ◌^◌, Bool, true, cond, ◌&&◌, List, leb, eqb, get_or, set, pos, ◌+ℤ◌, ◌*ℤ◌}
 use Rattle.std.proofs.Math.IntN.{sub_ℕ}
 use Rattle.rules.specs.Number.{modulo}

@@ -1,4 +1,4 @@
--- Words, flags and runs worked out by hand from the manual and READINGS: what a slip in a definition would change. Assumes nothing.
+-- Words, flags and runs worked out by hand from the manual and docs/BENCH.md: what a slip in a definition would change. Assumes nothing.
 use Rattle.std.specs.Prelude.{ℕ, zero, suc, ◌+◌, ◌*◌, ◌≡◌, Bool, true, false, List, [], ◌∷◌}
 use Rattle.machine.specs.Flags.{added, compared, subtracted, shifted}
 use Rattle.machine.specs.Decode.{decode_of}
@@ -34,7 +34,7 @@ pub record Words : Type 0 where
   pub jmp : decode_of 0x4EF9 ≡ Other
   pub dbra : decode_of 0x51CE ≡ Other
 
--- READINGS: "4,927 words" are run, of all of 16 bits: of the n below h times 256, and of the h below
+-- docs/BENCH.md: "4,927" words are run, of all of 16 bits: of the n below h times 256, and of the h below
 abbrev one : Decoded → ℕ
 one (Is f) = 1
 one Halt = 0
@@ -65,7 +65,7 @@ pub record Marks : Type 0 where
   pub compare_keeps_x : compared true 32768 7 7 ≡ flags true false true false false
   pub compare_sets_no_x : compared false 32768 1 0 ≡ flags false true false false true
   pub shift_over : shifted 1 0x40000000 ≡ flags false true false true false
-  -- READINGS: "$80000000 by 2: C 0, V 1"
+  -- $80000000 by 2: C 0, V 1
   pub shift_out_later : shifted 2 0x80000000 ≡ flags false false true true false
   pub shift_carry : shifted 1 0xC0000000 ≡ flags true true false false true
   pub shift_eight : shifted 8 0xFF000000 ≡ flags true false true true true

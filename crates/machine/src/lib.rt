@@ -1,12 +1,12 @@
 #![tactic(auto)]
 
-//! The machine of W-213 as definitions: its forms with their words, its state, what a step does, and a run stand in specs/. Here
+//! The bench's machine as definitions: its forms with their words, its state, what a step does, and a run stand in specs/. Here
 //! are the types that its code shares with them.
 
 /// The bytes of memory.
 pub const MEMORY: usize = 16384;
 
-/// The forms that are run, 01's that are proved equal to the manual, with the numbers that stand in the word: registers, source
+/// The forms that are run, those of the stations' call that are proved equal to the manual's, with the numbers that stand in the word: registers, source
 /// first, immediate data, and a branch's condition and displacement as bits.
 // The definitions that the promises cite read a condition as its four bits, so it is no enum.
 #[derive(Clone, Copy, Debug, PartialEq, Eq, Hash)]

@@ -1,6 +1,6 @@
 #![tactic(auto)]
 
-//! Assembles a script at base 0 by the manual's own words, for a real 68000, and prints its list (W-207). It reads the script on
+//! Assembles a script at base 0 by the manual's own words, for a real 68000, and prints its list. It reads the script on
 //! standard input, takes no argument, and prints on standard output
 //!   a line for each word, if the script is accepted: address in 8 hexadecimal digits, word in 4, mark; nothing for an empty list;
 //!   `refused N P`, the refusal and its place, if not: 14 and 15 name a line that has no encoding, or whose displacement is too far.

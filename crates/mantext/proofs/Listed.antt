@@ -12,7 +12,7 @@ use Rattle.station.proofs.Script.{list_printed}
 use Rattle.station.proofs.ScriptInput.{RefusesLong, checks_long}
 use Rattle.mantext.specs.Manlist.{manual_text}
 use Rattle.promises.specs.ManualCall.{AtMostThree}
-use Rattle.promises.proofs.ManualDemand3.{at_most_three}
+use Rattle.promises.proofs.ManualMovedLists.{at_most_three}
 
 longest : (base : ℕ) (t : Text) (l : List Place) → assemble_manual base t ≡ accepted l → length l ≤ 12288
 unfolding AtMostThree

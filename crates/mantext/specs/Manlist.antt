@@ -1,4 +1,4 @@
--- What `manlist` prints for a script (W-207). Assumes nothing.
+-- What `manlist` prints for a script. Assumes nothing.
 use Rattle.std.specs.Prelude.{ℕ}
 use Rattle.rules.specs.Text.{Text}
 use Rattle.requests.specs.ManualAssemble.{assemble_manual}

@@ -1,6 +1,6 @@
 #![tactic(auto)]
 
-//! What `manlist` prints for a script that was read chunk by chunk: its list by the manual's own words (W-207). There is no heap: a text
+//! What `manlist` prints for a script that was read chunk by chunk: its list by the manual's own words. There is no heap: a text
 //! is put at the front of a slice that is lent.
 ghost use Rattle.std.specs.Prelude.{◌≡◌};
 ghost use Rattle.rules.specs.Text.{Text};

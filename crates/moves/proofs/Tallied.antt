@@ -5,9 +5,9 @@ use Rattle.rules.specs.Answer.{Answer}
 use Rattle.rules.specs.Assemble.{Place, Slices}
 use Rattle.rules.specs.Relocate.{move_slices}
 use Rattle.rules.specs.Tally.{Seen, held, moves, Tallied, tallied, seen, tally}
-use Rattle.promises.specs.Demand3.{MovesFollowTally, last_list}
+use Rattle.promises.specs.MovedLists.{MovesFollowTally, last_list}
 use Rattle.promises.specs.Pairs.{PairsFollowTally}
-use Rattle.promises.proofs.Demand3.{moves_follow_tally}
+use Rattle.promises.proofs.MovedLists.{moves_follow_tally}
 use Rattle.promises.proofs.Pairs.{pairs_follow_tally}
 use Rattle.moves.specs.Moves.{told, slices_after, FollowsTally, IsTally, IsPairsTally}
 

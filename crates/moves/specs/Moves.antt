@@ -6,7 +6,7 @@ use Rattle.rules.specs.Answer.{Answer, accepted}
 use Rattle.rules.specs.Assemble.{Place, Slices, assemble}
 use Rattle.rules.specs.Relocate.{move_slices}
 use Rattle.rules.specs.Tally.{Seen, held, tallied, tally}
-use Rattle.promises.specs.Demand3.{last_list}
+use Rattle.promises.specs.MovedLists.{last_list}
 use Rattle.promises.specs.Pairs.{Each, WellPaired, Sixteen}
 
 -- each move's answer
@@ -23,12 +23,12 @@ pub record FollowsTally (l : List Place) (distances : List ℤ) (x : Slices) (rs
   pub list : held (length l) x ≡ last_list l (tallied l (pos 0) distances)
   pub answers : rs ≡ told (tally l (pos 0) distances)
 
--- demand 3: "each answer, and the list after each move, is that of 01's tally", of the list of an accepted source in the slices x
+-- "each answer, and the list after each move, is that of" the tally, of the list of an accepted source in the slices x
 abbrev pub IsTally : Slices → ℕ → List ℤ → Slices → List (Answer ℕ) → Type 0
 IsTally x count distances y answers =
     (s : Text) (b : ℕ) (l : List Place) → assemble b s ≡ accepted l → count ≡ length l → held count x ≡ l → FollowsTally l distances y answers
 
--- 02's W-207: so for every list of well paired marks
+-- so for every list of well paired marks
 abbrev pub IsPairsTally : Slices → ℕ → List ℤ → Slices → List (Answer ℕ) → Type 0
 IsPairsTally x count distances y answers =
     (l : List Place) → WellPaired l → Each Sixteen l → count ≡ length l → held count x ≡ l → FollowsTally l distances y answers

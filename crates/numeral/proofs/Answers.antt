@@ -1,4 +1,4 @@
--- For callers: from the answer that the code has to paper 01's number. Assumes nothing.
+-- For callers: from the answer that the code has to the rules' number. Assumes nothing.
 use Rattle.std.specs.Prelude.{Option, None, Some, Result, Ok, Err}
 use Rattle.std.proofs.Common.{◌≡◌, ℕ, ℤ, sym, refl, ◌∙◌}
 use Rattle.rules.specs.Option.{bind}

@@ -1,4 +1,4 @@
--- Reading digits: the reader's state, and what each of its tests says by paper 01 and W-204. Assumes nothing.
+-- Reading digits: the reader's state, and what each of its tests says by the rules. Assumes nothing.
 use Rattle.std.proofs.Common.{◌≡◌, ℕ, ◌+◌, ◌-◌, ◌*◌, ◌^◌, ◌<◌, ◌≤◌, Bool, true, false, ltb, [], ◌∷◌, length, get_or, take, drop, refl, ap, le_refl, mul-le-mul, add-one, arith, drop_of_length-le, drop-cons, ltb-true, le-ltb, lt-ltb}
 use Rattle.rules.specs.Text.{Text}
 use Rattle.rules.specs.Number.{digit_value, failed, digits, some_digits, ranged, below}

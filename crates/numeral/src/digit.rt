@@ -1,4 +1,4 @@
-//! The digit that a byte stands for, worked out from the byte (W-206).
+//! The digit that a byte stands for, worked out from the byte.
 ghost use Rattle.std.specs.Prelude.{◌≡◌};
 ghost use Rattle.rules.specs.Number.{digit_value};
 

@@ -1,6 +1,6 @@
 #![tactic(auto)]
 
-//! Numbers in text: one reader over the radix and the bound, which tells four things apart (W-204), and what paper 01 makes of it.
+//! Numbers in text: one reader over the radix and the bound, which tells four things apart, and what the rules make of it.
 pub mod digit; // digit.rt: the digit value of a byte
 pub mod unsigned; // unsigned.rt: numbers of 32 and 16 bits
 pub mod signed; // signed.rt: numbers with a sign, displacements, low bits

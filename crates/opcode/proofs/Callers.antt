@@ -1,4 +1,4 @@
--- For callers: what an answer says of paper 01's reading, and the bounds of what is read. Assumes nothing.
+-- For callers: what an answer says of the rules' reading, and the bounds of what is read. Assumes nothing.
 use Rattle.std.specs.Prelude.{Option, None, Some}
 use mathlib.Core.Path.{◌≡◌, refl, sym, ap, ◌∙◌}
 use mathlib.Core.Bool.{Bool, true, false, cond}

@@ -1,4 +1,4 @@
--- W-205's kinds of operands, as the code's enum. Assumes nothing.
+-- The kinds of operands, as the code's enum. Assumes nothing.
 use Rattle.rules.specs.Forms.{Kind, hash, dn, an, at_an, text}
 use Rattle.opcode.specs.declared.register.OperandKind.{OperandKind}
 use Rattle.opcode.specs.declared.register.OperandKind.TheVariants.{Hash, Dn, An, AtAn, Text}

@@ -1,4 +1,4 @@
--- The operation that paper 01 finds, as the code's enum, and the mnemonics told apart by tests of their names. Assumes nothing.
+-- The operation that the rules find, as the code's enum, and the mnemonics told apart by tests of their names. Assumes nothing.
 use Rattle.std.specs.Prelude.{ℕ, Bool, true, false, not, ◌&&◌, List, [], ◌∷◌, eqb, length, Option}
 use Rattle.std.specs.Option.{option_map}
 use Rattle.rules.specs.Text.{Text, bytes, starts}

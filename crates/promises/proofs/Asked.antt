@@ -12,9 +12,9 @@ use Rattle.rules.specs.Line.{SourceLine, numbered, lines_of, end, line_of}
 use Rattle.rules.specs.Label.{Table}
 use Rattle.rules.specs.Answer.{Answer, accepted, refused, and_then}
 use Rattle.rules.specs.Assemble.{Sizes, Pass, address_after, is_end, putting, first_pass_by}
-use Rattle.promises.specs.Demand1.{IsLine, next_address, Reached, start, further}
+use Rattle.promises.specs.Refusals.{IsLine, next_address, Reached, start, further}
 use Rattle.promises.proofs.Compared.{clash}
-use Rattle.promises.proofs.Demand1Lines.{line_at}
+use Rattle.promises.proofs.RefusalsLines.{line_at}
 use Rattle.promises.proofs.Tasks.{next_address_lem, is_end_lem, not_end, pass_line}
 
 -- a list at an index

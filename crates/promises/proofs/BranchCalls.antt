@@ -1,4 +1,4 @@
--- W-210 holds of the calls that are lent a table. Assumes nothing.
+-- What is promised of the calls that are lent a branch table holds. Assumes nothing.
 use Prim.Native.Nat.{ℕ}
 use mathlib.Core.Path.{◌≡◌, refl, sym, ap, ◌∙◌, subst}
 use mathlib.Core.Logic.{◌↔◌}
@@ -14,20 +14,20 @@ use Rattle.rules.specs.Tally.{held}
 use Rattle.requests.specs.Explain.{explain_all_by, explain_by}
 use Rattle.requests.specs.Branches.{loaded, names_with, under, assemble_under, assemble_under_answer, assemble_under_slices}
 use Rattle.promises.specs.Stages.{Stage, all, OneOf, Checked, at_once, CheckedBefore, by_stage, within_line, on_line, further_on, FirstOf, RefusesExactly, after}
-use Rattle.promises.specs.Demand1.{PassCondition, passing, assembling, SamePast}
+use Rattle.promises.specs.Refusals.{PassCondition, passing, assembling, SamePast}
 use Rattle.promises.specs.Lawful.{RulesAreLawful, RulesAreShort}
-use Rattle.promises.specs.Demand3.{Demand3For, WordsDifferFor, LawfulMoves, ShortWordsDiffer}
+use Rattle.promises.specs.MovedLists.{MovesAsAssembledFor, WordsDifferFor, LawfulMoves, ShortWordsDiffer}
 use Rattle.promises.specs.Explain as E
 use Rattle.promises.specs.Explain.{ExplainCondition, no_line, never_read, explaining, ExplainsExactly, ExplainRefusesExactly}
 use Rattle.promises.specs.Branches.{TableCondition, loading, Accepted, LoadRefusesExactly, LoadAcceptsExactly, FrontOfATable}
 use Rattle.promises.specs.BranchCalls.{UnderCondition, of_table, of_call, ListCondition, of_pass, slice_short, AssembleUnderRefusesExactly, ListsUnder, AssembleUnderWrites, TablesMove, ExplainUnderRefusesExactly, ExplainsUnder, ExplainsAllUnder, ElevenAsWithout, FrontIsEnough}
 use Rattle.promises.proofs.Compared.{clash}
 use Rattle.promises.proofs.Stages.{is_checked, not_checked, checked_by, ahead_is, behind_checked, still_checked, Apart, apart, are_apart, Runs, done, refuse_if_lem, and_then_lem, runs_by, refuses_exactly, none_holds}
-use Rattle.promises.proofs.Demand1Short.{shorter, is_short}
-use Rattle.promises.proofs.Demand1Assemble.{pass_known, pass_answered}
-use Rattle.promises.proofs.Demand1.{written}
+use Rattle.promises.proofs.RefusalsShort.{shorter, is_short}
+use Rattle.promises.proofs.RefusalsAssemble.{pass_known, pass_answered}
+use Rattle.promises.proofs.Refusals.{written}
 use Rattle.promises.proofs.Lawful.{rules_are_lawful, rules_are_short}
-use Rattle.promises.proofs.Demand3.{lawful_moves, short_words_differ}
+use Rattle.promises.proofs.MovedLists.{lawful_moves, short_words_differ}
 use Rattle.promises.proofs.Explain.{explains_exactly, explain_refuses_exactly, explains_all}
 use Rattle.promises.proofs.Branches.{load_known, load_answered, load_refuses_exactly, load_accepts_exactly}
 use Rattle.promises.proofs.BranchFront.{front_of_a_table}
@@ -119,7 +119,7 @@ module _ (t : Text) (C : ℕ → ℕ → Type 0) (ss : List Stage) (d : Apart (l
           λ h. (exactly ns f n p).1 (own ns f n p h.0, λ m q b c. h.1 m q (further_on b) (of_call c)),
         )
 
--- ---- 01's call
+-- ---- the stations' call
 module _ (t : Text) (base : ℕ) (s : Text) (x : Slices) where
   abbrev L : ℕ → ℕ → Type 0
   L = ListCondition t base s x
@@ -217,18 +217,18 @@ assemble_under_writes =
           record { clear = clear t base s x n e; list = h.0; listed = h.1; counted = h.2; written = h.3; past = h.4 };
     }
 
--- ---- demand 3
+-- ---- moving is assembling
 pub tables_move : TablesMove
 unfolding TablesMove LawfulMoves ShortWordsDiffer RulesAreLawful RulesAreShort
 tables_move t ns a =
     let names = other_mnemonics ++ ns in
     let e : assemble_under t ≡ assemble_by size (encode_by names) = λ k base s. with_names t ns a (λ m. assemble_by size (encode_by m) base s) k in
     record {
-      demand_3 = subst (Demand3For size (encoded (encode_by names))) (sym e) (lawful_moves size (encode_by names) 2 (rules_are_lawful names));
+      moves_as_assembled = subst (MovesAsAssembledFor size (encoded (encode_by names))) (sym e) (lawful_moves size (encode_by names) 2 (rules_are_lawful names));
       differ = subst WordsDifferFor (sym e) (short_words_differ size (encode_by names) 2 (rules_are_lawful names) (rules_are_short names));
     }
 
--- ---- W-205's calls
+-- ---- the calls that say why a line has no word
 explain_known : (base : ℕ) (s : Text) (k n p : ℕ) → ExplainCondition base s k n p → Checked n explaining
 unfolding is_checked
 explain_known base s k n p (E.of_pass c) = still_checked (all 13 ∷ []) (pass_known size base s n p c)

@@ -1,4 +1,4 @@
--- W-210's odd tables hold by computation. Assumes nothing.
+-- The odd branch tables hold by computation. Assumes nothing.
 use Rattle.rules.specs.Option.{bind, or_else}
 use mathlib.Core.Path.{refl}
 use mathlib.Core.List.{flat_map}

@@ -1,4 +1,4 @@
--- W-210: mnemonics that mean the same give the same lists and verdicts, and the eleven in any order mean what 01's do. Assumes nothing.
+-- Branch tables: mnemonics that mean the same give the same lists and verdicts, and the eleven in any order mean what the built-in ones do. Assumes nothing.
 use Rattle.std.specs.Prelude.{Option, None, Some}
 use Rattle.rules.specs.Option.{bind, or_else}
 use Prim.Native.Nat.{ℕ}

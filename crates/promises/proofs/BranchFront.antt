@@ -1,4 +1,4 @@
--- W-210: of a table only its first 97 bytes are read. Assumes nothing.
+-- Branch tables: of a table only its first 97 bytes are read. Assumes nothing.
 use Prim.Native.Nat.{ℕ, zero, suc, ◌+◌, ◌*◌, ◌<◌, ◌≤◌}
 use mathlib.Core.Path.{◌≡◌, refl}
 use mathlib.Core.Bool.{Bool, true, false}

@@ -1,4 +1,4 @@
--- W-210: each name of an accepted table is found, and its branches land. Assumes nothing.
+-- Branch tables: each name of an accepted table is found, and its branches land. Assumes nothing.
 use Rattle.std.specs.Prelude.{Option, None, Some}
 use Rattle.rules.specs.Option.{or_else}
 use Prim.Native.Nat.{ℕ, ◌+◌, ◌<◌}

@@ -1,4 +1,4 @@
--- W-210: what the tests of a row's name say: padding, letters, earlier rows, and mnemonics that are taken. Assumes nothing.
+-- Branch tables: what the tests of a row's name say: padding, letters, earlier rows, and mnemonics that are taken. Assumes nothing.
 use Rattle.std.specs.Prelude.{Option, None, Some}
 use Prim.Native.Nat.{ℕ, zero, suc, ◌<◌, ◌≤◌}
 use mathlib.Core.Path.{◌≡◌, refl, sym, ap, ◌∙◌}
@@ -152,7 +152,7 @@ earlier_is t name (suc n) e = go (same (four_of t n) name) refl (earlier_is t na
     go true f ih h = (n, omega arith, same_eq (four_of t n) name f)
     go false f ih h = let k = ih h in (k.0, (let l = k.1 in omega arith), k.2)
 
--- ---- the name of the row behind the rows rs
+-- ---- the name of the row after the rows rs
 module _ (rs : List Row) (s : Text) where
   abbrev t : Text
   t = rows_bytes rs ++ s

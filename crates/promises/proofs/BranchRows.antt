@@ -1,4 +1,4 @@
--- W-210: rows written one after another against a table's commands by their number. Assumes nothing.
+-- Branch tables: rows written one after another against a table's commands by their number. Assumes nothing.
 use Prim.Native.Nat.{ℕ, zero, suc, ◌+◌, ◌*◌, ◌<◌}
 use mathlib.Core.Path.{◌≡◌, refl, sym, ap, ◌∙◌}
 use mathlib.Core.Logic.{◌≢◌}
@@ -59,7 +59,7 @@ pub is_first : (r : Row) (t : Text) → (is_row (row_bytes r ++ t) 0 ≡ true) �
 unfolding is_row is_end
 is_first r t = (rw (lt-ltb 5 (on (length t)) (omega arith)), rw (lt-ltb 0 (on (length t)) (omega arith)), refl)
 
--- ---- behind rows: command k of the whole is the first of what follows k rows
+-- ---- after rows: command k of the whole is the first of what follows k rows
 pub record Same (t : Text) (k : ℕ) (s : Text) : Type 0 where
   pub end : is_end t k ≡ is_end s 0
   pub row : is_row t k ≡ is_row s 0

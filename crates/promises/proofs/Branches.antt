@@ -1,4 +1,4 @@
--- W-210 holds of tables: what is loaded, and which command is blamed. Assumes nothing.
+-- What is promised of branch tables holds: what is loaded, and which command is blamed. Assumes nothing.
 use Prim.Native.Nat.{ℕ, zero, suc, ◌+◌, ◌*◌, ◌<◌, ◌≤◌}
 use mathlib.Core.Path.{◌≡◌, refl, sym, ap, ◌∙◌}
 use mathlib.Core.Bool.{Bool, true, false, not, ◌&&◌, ◌||◌, cond}
@@ -189,7 +189,7 @@ all_judged : (t : Text) → Judged t (checked t)
 unfolding checked
 all_judged t = judged t 16 0 refl (λ j l. absurd (omega arith))
 
--- ---- no condition at a good row, nor behind an end
+-- ---- no condition at a good row, nor after an end
 not_good : (t : Text) (k : ℕ) {n : ℕ} → k < 16 → Good t k → Tested t k n → ⊥
 not_good t k l g (broken_16 e b) = let u = sym g.fine ∙ b in clash cc
 not_good t k l g (past_16 e h) = omega arith
@@ -387,7 +387,7 @@ good_table t n b l e =
       named = names_in rs w.0 t u (omega (arith, a.3)) (λ front r back g. (right front r back g).0);
     }
 
--- its rows are good, and behind them it ends
+-- its rows are good, and after them it ends
 table_good : (t : Text) (ns : List Mnemonic) (a : Accepted t ns) → AllGood t (length a.rows) × (is_end t (length a.rows) ≡ true)
 table_good t ns a = (
   λ j h.

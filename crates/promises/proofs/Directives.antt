@@ -1,4 +1,4 @@
--- W-204: a line's number is in its task exactly if it is read. Assumes nothing.
+-- What a number says: a line's number is in its task exactly if it is read. Assumes nothing.
 use Rattle.std.specs.Prelude.{Some}
 use Prim.Native.Nat.{ℕ}
 use mathlib.Core.Path.{◌≡◌, refl}

@@ -1,4 +1,4 @@
--- P1 to P11 and the examples of W-204 and W-208 hold by computation. Assumes nothing.
+-- The examples of the rules, of readings and of byte −1 hold by computation. Assumes nothing.
 use Rattle.rules.specs.Option.{bind, or_else}
 use mathlib.Core.Path.{refl}
 use mathlib.Core.List.{flat_map}

@@ -1,4 +1,4 @@
--- W-205 holds: the verdict on a line that is read is right, and 13 comes exactly for the others. Assumes nothing.
+-- The verdict on a line that is read is right, and 13 comes exactly for the others. Assumes nothing.
 use Rattle.std.specs.Prelude.{Option, None, Some, slice_get}
 use Prim.Native.Nat.{ℕ, zero, suc, ◌<◌, ◌≤◌}
 use mathlib.Core.Path.{◌≡◌, refl, sym, ap, ◌∙◌}
@@ -17,13 +17,13 @@ use Rattle.rules.specs.Assemble.{Put, Pass, is_end, first_pass_by, data_contents
 use Rattle.requests.specs.Explain.{Verdict, emitted, because, why_task, verdict_at, told_line, explain_all_by, explain_by}
 use Rattle.requests.proofs.Answers.{one_of_all, all_refused, one_refused, line_0, line_asks, line_ends, line_after_end, line_past_last}
 use Rattle.promises.specs.Stages.{all, Checked}
-use Rattle.promises.specs.Demand1.{IsLine, Reached, PassCondition, passing}
+use Rattle.promises.specs.Refusals.{IsLine, Reached, PassCondition, passing}
 use Rattle.promises.specs.Nearest.{FoundIsLast}
 use Rattle.promises.specs.Explain.{without, PutsWords, PutsNone, RecordedAt, Right, words, reason, Explained, ExplainsExactly, below_first, past_last, ExplainCondition, of_pass, no_line, never_read, explaining, ExplainRefusesExactly, ExplainsAll}
 use Rattle.promises.proofs.Compared.{clash}
 use Rattle.promises.proofs.Stages.{is_checked, not_checked, checked_by, still_checked, apart, are_apart, Runs, done, stop, pass, and_then_lem, runs_by, refuses_exactly}
-use Rattle.promises.proofs.Demand1Passes.{not_end}
-use Rattle.promises.proofs.Demand1Assemble.{counted, pass_known, pass_answered}
+use Rattle.promises.proofs.RefusalsPasses.{not_end}
+use Rattle.promises.proofs.RefusalsAssemble.{counted, pass_known, pass_answered}
 use Rattle.promises.proofs.Accepted.{not_refused, checks_passed}
 use Rattle.promises.proofs.Tasks
 use Rattle.promises.proofs.Tasks.{is_end_lem}

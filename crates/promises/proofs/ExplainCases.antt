@@ -1,4 +1,4 @@
--- W-205's odd lines hold by computation. Assumes nothing.
+-- The odd lines hold by computation. Assumes nothing.
 use Rattle.rules.specs.Option.{bind, or_else}
 use mathlib.Core.Path.{refl}
 use Rattle.rules.specs.Text.{bytes, blank, upper, uppers, trim_start, keep_end, trim_end, trim, on_first, cut_where, cut_at, drop_empty, pieces, join_more, joined, in_front, first_cut, same, starts, contains, after, nth, first_text, other_texts}

@@ -1,4 +1,4 @@
--- W-205 at every base: no verdict changes with labels and lines b higher. Assumes nothing.
+-- The verdicts at every base: no verdict changes with labels and lines b higher. Assumes nothing.
 use Rattle.std.specs.Prelude.{Option, None, Some, option_map}
 use Rattle.rules.specs.Option.{bind, or_else}
 use Prim.Native.Nat.{ℕ, ◌+◌}

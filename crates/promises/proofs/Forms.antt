@@ -1,4 +1,4 @@
--- 01's rows and the table of forms agree: an operation gives words exactly if its count is right and one of its forms is met, and a
+-- the stations' rows and the table of forms agree: an operation gives words exactly if its count is right and one of its forms is met, and a
 -- form is met only by its kinds or by a recorded label. Assumes nothing.
 use Rattle.std.specs.Prelude.{Option, None, Some}
 use Rattle.rules.specs.Option.{bind, or_else}
@@ -109,7 +109,7 @@ module _ (ls : Table) (a : ℕ) where
     first_form h e k [] = rw e
     first_form h e k (s ∷ ps) = rw (e, le-leb 1 (suc (length ps)) (omega arith)) (k s ps)
 
-  -- 01's rows and the table
+  -- the stations' rows and the table
   pub forms_agree : (o : Operation) (ps : List Text)
       → is_some (encode_operation ls a o ps) ≡ (counted (forms_of o).count (length ps) && one_met ls a (forms_of o).forms ps)
   unfolding encode_operation forms_of muls_rows cmp_rows moveq_row quick_row tst_row jump_row dbra_row branch_row one_met met meets is_some counted

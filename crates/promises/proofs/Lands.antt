@@ -1,4 +1,4 @@
--- Branches land, before and after moves, in 01's lists and in those of the manual's call. Assumes nothing.
+-- Branches land, before and after moves, in the stations' lists and in those of the manual's call. Assumes nothing.
 use Rattle.std.specs.Prelude.{Option, None, Some}
 use Rattle.rules.specs.Option.{bind}
 use Prim.Native.Nat.{ℕ, zero, suc, ◌+◌, ◌-◌, ◌*◌, ◌/◌, ◌%◌, ◌<◌}
@@ -23,10 +23,10 @@ use Rattle.rules.proofs.Readings.{All as Has}
 use Rattle.manual.specs.Manual.{InByte, InWord, byte, sixteen_bits, sign_by, sign_of, sign_of_word, Condition, T, CC, CS, NE, EQ, PL, MI, GE, LT, GT, LE, condition, extensions, manual_words}
 use Rattle.manual.proofs.OperationWords.{operation_words}
 use Rattle.requests.specs.ManualCall.{Branching, branch as branching, loop as looping, branched, Form, displaced as displaced_by, dbra, branch_on, heads, same_suffix, head_in, other_text, form_of, form, form_contents, manual_size, manual_encode}
-use Rattle.promises.specs.Demand1.{IsLine, Reached}
+use Rattle.promises.specs.Refusals.{IsLine, Reached}
 use Rattle.promises.specs.Nearest.{FoundIsLast}
-use Rattle.promises.specs.Demand2Manual.{D, label, marked_zero, words_before, words_after}
-use Rattle.promises.specs.Demand3.{last_total}
+use Rattle.promises.specs.ListedForms.{D, label, marked_zero, words_before, words_after}
+use Rattle.promises.specs.MovedLists.{last_total}
 use Rattle.promises.specs.Lawful.{Lawful, RulesAreLawful}
 use Rattle.promises.specs.ManualWritten.{InBranch, label as taken_label, branch_named}
 use Rattle.promises.specs.Lands.{ByByte, by_byte, ByWord, by_word, Aims, LandsMoved, Landed, BranchesLand, BranchesLandBy, ManualBranchesLand, LoopsLand}
@@ -44,8 +44,8 @@ use Rattle.promises.proofs.ManualLists.{cut, line_encoded}
 use Rattle.promises.proofs.ManualOperands.{Numbered, is_d, Range, no_word_after, taken}
 use Rattle.promises.proofs.ManualWords.{branch_head}
 use Rattle.promises.proofs.ManualCall.{lawful}
-use Rattle.promises.proofs.ManualDemand3.{plain}
-use Rattle.promises.proofs.Demand3.{sixteen, low}
+use Rattle.promises.proofs.ManualMovedLists.{plain}
+use Rattle.promises.proofs.MovedLists.{sixteen, low}
 use Rattle.promises.proofs.Lawful.{rules_are_lawful}
 
 -- ---- sums
@@ -147,7 +147,7 @@ branch_leads c a t d small near leads =
     let u : (0x6000 + 256 * c + byte d) % 256 ≡ byte d = omega (arith, k.0) in
     by_byte h (ap (λ (b : ℕ). pos (a + 2) +ℤ sign_of b) u ∙ ap (λ (z : ℤ). pos (a + 2) +ℤ z) k.1 ∙ leads)
 
--- ---- 01's call
+-- ---- the stations' call
 branch_encoded : (names : List Mnemonic) (ls : Table) (a : ℕ) (i : Instruction) (c : ℕ) (o : Text) (ps : List Text) (d : ℤ) → operation_in names i.mnemonic ≡ Some (branch c)
     → i.operands ≡ o ∷ ps → displacement ls a o ≡ Some d → InByte d → encode_by names ls a i ≡ Some (literal (0x6000 + 256 * c + byte d) ∷ [])
 unfolding encode_by bind encode_operation one_or_more branch_row
@@ -161,7 +161,7 @@ branches_land_by names base s p l h f j a i o t d m q =
     landed (rules_are_lawful names) base s p l h f ByByte byte_follows _ [] (branch_leads q.condition a t d q.small q.near m.leads) m
     (branch_encoded names p.labels a i q.condition o q.others d q.named q.operands d_is q.near)
 
--- each of the eleven is one of 01's mnemonics
+-- each of the eleven is one of the stations' mnemonics
 record Known (c : Condition) : Type 0 where
   number : ℕ
   small : number < 16

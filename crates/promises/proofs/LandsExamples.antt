@@ -1,4 +1,4 @@
--- Such lines as W-209 speaks of are there, of each of the eleven and of DBRA, by computation. Assumes nothing.
+-- Such lines as the promise of branches speaks of are there, of each of the eleven and of DBRA, by computation. Assumes nothing.
 use Rattle.rules.specs.Option.{bind}
 use mathlib.Core.Path.{◌≡◌, refl}
 use mathlib.Core.List.{[], ◌∷◌}
@@ -15,7 +15,7 @@ use Rattle.rules.specs.Assemble.{Sizes, Pass, address_after, is_end, leaving, st
 use Rattle.manual.specs.Manual.{Condition, T, CC, CS, NE, EQ, PL, MI, GE, LT, GT, LE, displacement_word, extensions, manual_words}
 use Rattle.requests.specs.ManualCall.{branched, heads, same_suffix, head_in, other_text, form_of, form, as_if_there, form_size, signed_digits, listed, displacements, fits, first_that, range_fault, form_fault, manual_size, manual_fault}
 use Rattle.requests.specs.ManualAssemble.{task_fault, faultless, encoded_manual, assemble_manual}
-use Rattle.promises.specs.Demand1.{IsLine, start}
+use Rattle.promises.specs.Refusals.{IsLine, start}
 use Rattle.promises.specs.Nearest.{FoundIsLast}
 use Rattle.promises.specs.ManualWritten.{branch_named}
 use Rattle.promises.specs.Lands.{Aims, Accepts, back, back_said, loop, loop_said, EveryBranchIsAsked}

@@ -1,4 +1,4 @@
--- 01's size and words are lawful: under a shift only label addresses change, and there are at most two words, none of a 32-bit address.
+-- The stations' size and words are lawful: under a shift only label addresses change, and there are at most two words, none of a 32-bit address.
 -- Assumes nothing.
 use native.Mathlib.Omega.{arith}
 use Rattle.promises.specs.Lawful.{RulesAreLawful, RulesAreShort}

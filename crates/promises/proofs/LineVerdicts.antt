@@ -1,4 +1,4 @@
--- W-205 of what a line asks: the verdict on it is right, and no other is. Assumes nothing.
+-- The verdict on what a line asks: the verdict on it is right, and no other is. Assumes nothing.
 use Rattle.std.specs.Prelude.{Option, None, Some}
 use Rattle.rules.specs.Option.{bind}
 use Prim.Native.Nat.{ℕ, ◌<◌, ◌≤◌}

@@ -1,4 +1,4 @@
--- The longest list: by a lawful pair at most so many places for each line, by 01's two. Assumes nothing.
+-- The longest list: by a lawful pair at most so many places for each line, by the stations' call two. Assumes nothing.
 use native.Mathlib.Omega.{arith}
 use borrow.Author.Tests.{ltb-false}
 use lib.ListN.{length}

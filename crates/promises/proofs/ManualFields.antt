@@ -8,7 +8,7 @@ use Rattle.rules.specs.Text.{Text}
 use Rattle.rules.specs.Label.{Table}
 use Rattle.rules.proofs.Readings.{all_some, imm16_all}
 use Rattle.manual.specs.Manual.{InByte, byte, widths, Layout, move_size, size_field, opmode, mode, register, extension, Condition, T, CC, CS, NE, EQ, PL, MI, GE, LT, GT, LE, condition, Instruction, layout, extensions}
-use Rattle.promises.specs.Demand2Manual.{condition_of, Written, moveq, load, store, copy, muls_data, muls, add, sub, cmp, tst, subq, asl, nop, branch, Words, FieldsHold}
+use Rattle.promises.specs.ListedForms.{condition_of, Written, moveq, load, store, copy, muls_data, muls, add, sub, cmp, tst, subq, asl, nop, branch, Words, FieldsHold}
 use Rattle.promises.proofs.ManualLaws.{imm8_byte, bytes_read_back, quick_reads_back, displaced_byte, no_word}
 
 -- a condition has four bits

@@ -12,7 +12,7 @@ use Rattle.rules.specs.Line.{Instruction as Said, instruction, instruction_of, o
 use Rattle.rules.specs.Label.{Table, find}
 use Rattle.rules.specs.Encode.{written_reading, written_signed}
 use Rattle.manual.specs.Manual.{Instruction}
-use Rattle.promises.specs.Demand2Manual.{X, Branch, BRA, BCC, BCS, BNE, BEQ, BGE, BLT, BGT, BLE, branch_name, InReach, label, signed_number, Written, moveq, load, store, copy, muls_data, muls, add, sub, cmp, tst, subq, asl, nop, branch, LineSays, EveryFormHasALine}
+use Rattle.promises.specs.ListedForms.{X, Branch, BRA, BCC, BCS, BNE, BEQ, BGE, BLT, BGT, BLE, branch_name, InReach, label, signed_number, Written, moveq, load, store, copy, muls_data, muls, add, sub, cmp, tst, subq, asl, nop, branch, LineSays, EveryFormHasALine}
 
 -- a line from its form
 abbrev said : Text → Option Text → List Text → Said

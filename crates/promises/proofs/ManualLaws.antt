@@ -17,7 +17,7 @@ use Rattle.rules.specs.Label.{Table, find}
 use Rattle.rules.specs.Encode.{register_digit, data_register, closed, indirect, reach, displacement, written_signed}
 use Rattle.rules.proofs.Readings.{All, all_some, within_all, written_all, imm8_all}
 use Rattle.manual.specs.Manual.{InByte, byte, sign_by, sign_of, quick, quick_of, displacement_word}
-use Rattle.promises.specs.Demand2Manual.{D, at_a, InReach, Displaced, label, signed_number, BytesReadBack, QuickReadsBack}
+use Rattle.promises.specs.ListedForms.{D, at_a, InReach, Displaced, label, signed_number, BytesReadBack, QuickReadsBack}
 
 -- a digit byte reads as its digit
 pub digit : (n : ℕ) → n < 8 → digit_value (48 + n) ≡ n
@@ -55,7 +55,7 @@ in_byte (negsuc n) h = h
 pub imm8_byte : (s : Text) → All InByte (imm8 s)
 imm8_byte = imm8_all InByte in_byte
 
--- the byte of a signed number, as 01 has it
+-- the byte of a signed number, as the rules have it
 pub byte_modulo : (z : ℤ) → InByte z → byte z ≡ modulo 256 z
 unfolding byte modulo
 byte_modulo (pos n) h = omega arith
@@ -66,7 +66,7 @@ unfolding byte sign_of sign_by
 bytes_read_back (pos n) h = (omega arith, rw (lt-ltb n 128 h))
 bytes_read_back (negsuc n) h = (omega arith, rw (le-ltb (255 - n) 128 (omega arith), lt-ltb (255 - n) 256 (omega arith)) (ap negsuc (omega arith)))
 
--- three bits, as 01 has them, and as they read
+-- three bits, as the rules have them, and as they read
 pub quick_modulo : (k : ℕ) → k ≤ 8 → modulo 8 (pos k) ≡ quick k
 unfolding modulo quick
 quick_modulo k u = go (eqb k 8) refl
@@ -112,7 +112,7 @@ unfolding within
 within_itself (pos n) h = rw (lt-ltb n 128 h)
 within_itself (negsuc n) h = rw (lt-ltb n 128 h)
 
--- 01's displacement of a branch's operand, and its range
+-- the stations' displacement of a branch's operand, and its range
 pub displaced : {ls : Table} {a : ℕ} {s : Text} {z : ℤ} → Displaced ls a s z → displacement ls a s ≡ Some z
 unfolding displacement reach bind or_else
 displaced {ls} {a} {s} {z} (label r) =

@@ -1,4 +1,4 @@
--- The lines of paper 01's listed forms are the manual's words. Assumes nothing.
+-- The lines of the forms that are equal to the manual's are the manual's words. Assumes nothing.
 use Rattle.std.specs.Prelude.{Option, Some}
 use Rattle.rules.specs.Option.{bind, or_else}
 use Prim.Native.Nat.{ℕ, ◌+◌}
@@ -11,7 +11,7 @@ use Rattle.rules.specs.Encode.{literal, branch as branch_on, branches, other_mne
 use Rattle.rules.specs.Assemble.{places_at, data_contents, data_places, second_pass_by, code_contents_by, code_places_by}
 use Rattle.rules.proofs.Readings.{all_some}
 use Rattle.manual.specs.Manual.{InByte, join, move_size, size_field, opmode, mode, register, extension, condition, Instruction, layout, extensions, operation_word, manual_words}
-use Rattle.promises.specs.Demand2Manual.{Branch, BRA, BCC, BCS, BNE, BEQ, BGE, BLT, BGT, BLE, condition_of, branch_name, Written, moveq, load, store, copy, muls_data, muls, add, sub, cmp, tst, subq, asl, nop, branch, emitted, marked_zero, LinesAreTheManuals}
+use Rattle.promises.specs.ListedForms.{Branch, BRA, BCC, BCS, BNE, BEQ, BGE, BLT, BGT, BLE, condition_of, branch_name, Written, moveq, load, store, copy, muls_data, muls, add, sub, cmp, tst, subq, asl, nop, branch, emitted, marked_zero, LinesAreTheManuals}
 use Rattle.promises.proofs.ManualLaws.{data_register_lem, operand, imm8_byte, byte_modulo, quick_modulo, displaced, displaced_byte, no_word}
 
 -- one word for another
@@ -31,7 +31,7 @@ branch_operation BLT = refl
 branch_operation BGT = refl
 branch_operation BLE = refl
 
--- 01 encodes a listed form as the manual's words, none of them a label's address
+-- the stations' call encodes such a form as the manual's words, none of them a label's address
 pub encoded : {ls : Table} {a : ℕ} {m : Text} {f : Option Text} {ps : List Text} {i : Instruction} → Written ls a m f ps i
     → encode ls a (record { mnemonic = m; suffix = f; operands = ps }) ≡ Some (map literal (manual_words i))
 unfolding encode_by operation_in mnemonics other_mnemonics branches same bytes bind or_else encode_operation registers_row high_row low_row from_indirect to_indirect move_rows muls_rows cmp_rows moveq_row quick_row tst_row branch_row two one one_or_more R branch_name manual_words operation_word layout join extensions extension mode register move_size size_field opmode condition

@@ -1,4 +1,4 @@
--- The manual's words on the list, of 01's call and of the manual's: of each line that is read they stand there in their place. Assumes nothing.
+-- The manual's words on the list, of the stations' call and of the manual's: of each line that is read they stand there in their place. Assumes nothing.
 use Rattle.std.specs.Prelude.{Option, None, Some}
 use Rattle.std.proofs.lemmas.Option.{same_Some, none-some}
 use Prim.Native.Nat.{ℕ, suc, ◌+◌, ◌%◌, ◌<◌}
@@ -19,8 +19,8 @@ use Rattle.rules.specs.Assemble.{Put, Pass, Sizes, Encoder, first_pass_by, putti
 use Rattle.manual.specs.Manual.{Instruction, manual_words}
 use Rattle.requests.specs.ManualCall.{manual_size, manual_encode}
 use Rattle.requests.specs.ManualAssemble.{task_fault, faultless, encoded_manual, assemble_manual}
-use Rattle.promises.specs.Demand1.{IsLine, Reached}
-use Rattle.promises.specs.Demand2Manual.{LineSays, marked_zero, words_before, words_after, ListHoldsTheManuals}
+use Rattle.promises.specs.Refusals.{IsLine, Reached}
+use Rattle.promises.specs.ListedForms.{LineSays, marked_zero, words_before, words_after, ListHoldsTheManuals}
 use Rattle.promises.specs.ManualWritten.{Addresses32, IsManual, WordsAreTheManuals}
 use Rattle.promises.specs.ManualFaults.{Outcome, emits, no_encoding, out_of_range, WordsOrFault}
 use Rattle.promises.specs.ManualLists.{marked, StandsThere, ListsAreManual}
@@ -33,7 +33,7 @@ use Rattle.promises.proofs.Asked.{put_at_lem}
 use Rattle.promises.proofs.ManualLines.{encoded as encodes, zero_places}
 use Rattle.promises.proofs.ManualWords.{words_are_the_manuals}
 use Rattle.promises.proofs.ManualFaults.{words_or_fault}
-use Rattle.promises.proofs.ManualDemand3.{plain_pass}
+use Rattle.promises.proofs.ManualMovedLists.{plain_pass}
 
 -- ---- where a line's words stand, by any sizes and any encoder
 module _ (z : Sizes) (e : Encoder) (base : ℕ) (s : Text) (p : Pass) (h : pass_at_by z base s ≡ accepted p) where
@@ -54,7 +54,7 @@ module _ (z : Sizes) (e : Encoder) (base : ℕ) (s : Text) (p : Pass) (h : pass_
       code : Put → List Place
       code = code_places_by e p.labels
 
--- ---- 01's call
+-- ---- the stations' call
 -- the words of a line of the manual
 line_words : (ls : Table) (a : ℕ) (l : Text) (i : Instruction) → LineSays ls a l i → code_places ls (record { address = a; task = (line_of l).task }) ≡ marked_zero a (manual_words i)
 unfolding code_places_by code_contents_by

@@ -22,7 +22,7 @@ use Rattle.manual.specs.Manual.{InWord, displacement_word}
 use Rattle.requests.specs.ManualCall.{Branching, branch, loop, other_text, imm32, one_to_eight, quickly, signed_digits, listed, displacements, fits, first_that}
 use Rattle.promises.specs.Readings.{BadDigit, worth, Means32, Means16, Means8}
 use Rattle.promises.specs.Explain.{behind_hash, Marked, as_dn, as_an, as_at_an, IsKind, marked}
-use Rattle.promises.specs.Demand2Manual.{D, at_a}
+use Rattle.promises.specs.ListedForms.{D, at_a}
 use Rattle.promises.specs.ManualWritten.{A, SignedNumber, plus, minus, InBranch, Takes, label, number}
 use Rattle.promises.specs.ManualFaults.{Gives, by_label, by_number}
 use Rattle.promises.proofs.Compared.{clash}

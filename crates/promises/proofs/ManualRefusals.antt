@@ -16,16 +16,16 @@ use Rattle.rules.specs.Assemble.{Put, Pass, Place, Slices, first_pass_by, pass_a
 use Rattle.requests.specs.ManualCall.{manual_size, manual_fault}
 use Rattle.requests.specs.ManualAssemble.{task_fault, faultless, encoded_manual, assemble_manual, manual_answer, manual_slices}
 use Rattle.promises.specs.Stages.{all, by_line, OneOf, here, there, Ahead, ahead, behind, Checked}
-use Rattle.promises.specs.Demand1.{IsLine, Reached, PassCondition, passing}
+use Rattle.promises.specs.Refusals.{IsLine, Reached, PassCondition, passing}
 use Rattle.promises.specs.ManualFaults.{Outcome, emits, no_encoding, out_of_range, WordsOrFault}
 use Rattle.promises.specs.ManualRefusals.{Instructs, ManualCondition, of_pass, unencoded, far, slice_short, assembling_manual, ManualRefusesExactly, ManualRefusalChangesNothing, ManualAcceptedWrites}
 use Rattle.promises.proofs.Compared.{clash, Compared, less, more, equal, compared}
 use Rattle.promises.proofs.Accepted.{not_refused, checks_passed}
 use Rattle.promises.proofs.Asked.{drop_more, asked, ended, over, Lined, asks, ends, past_end, past_lines, lined}
 use Rattle.promises.proofs.Stages.{is_checked, not_checked, checked_by, still_checked, apart, are_apart, Runs, done, stop_line, pass_lines, refuse_if_lem, and_then_lem, runs_by, none_holds, refuses_exactly}
-use Rattle.promises.proofs.Demand1Assemble.{pass_known, pass_answered}
-use Rattle.promises.proofs.Demand1Short.{shorter, is_short}
-use Rattle.promises.proofs.Demand1.{unwritten, wrote}
+use Rattle.promises.proofs.RefusalsAssemble.{pass_known, pass_answered}
+use Rattle.promises.proofs.RefusalsShort.{shorter, is_short}
+use Rattle.promises.proofs.Refusals.{unwritten, wrote}
 use Rattle.promises.proofs.ManualFaults.{faults_exactly, words_or_fault}
 
 abbrev Faulty : ℕ → Type 0

@@ -22,7 +22,7 @@ use Rattle.manual.specs.Manual.{InByte, InWord, sixteen_bits, widths, Layout, mo
 use Rattle.requests.specs.ManualCall.{Addressing, load as loads, store as stores, point, jump, addressed, Branching, branch as branches, loop, branched, Form, said, labelled, displaced, branch_on, heads, same_suffix, head_in, number32, no_operand, registers, jump_to, move_long, form_of, form, as_if_there, form_size, displacements, fits, first_that, with_address, form_contents, manual_size, manual_encode}
 use Rattle.promises.specs.Readings.{Means32, Means8}
 use Rattle.promises.specs.Explain.{behind_hash, IsKind, Numeric}
-use Rattle.promises.specs.Demand2Manual.{Words}
+use Rattle.promises.specs.ListedForms.{Words}
 use Rattle.promises.specs.ManualCall.{ThreeWords}
 use Rattle.promises.specs.ManualWritten.{InBranch, Takes, label, number, branch_named, Jump, as_jmp, as_jump, WrittenHere, moveq, move_data, load, store, copy, load_label, store_label, movea, muls_data, muls, add, sub, cmp, cmp_data, tst, subq, asl, nop, jump_number, jump_label, dbra, branch_to, Addresses32, HasWords, Encoded, NoFormLeftOut, IsManual, WordsAreTheManuals, FieldsHoldHere}
 use Rattle.promises.proofs.Compared.{clash}

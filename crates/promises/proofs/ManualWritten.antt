@@ -17,7 +17,7 @@ use Rattle.manual.specs.Manual.{Condition, Instruction, NOP, JMP, absolute, exte
 use Rattle.requests.specs.ManualCall.{jump, addressed, Branching, branch as branches, loop, Form, said, labelled, displaced, Head, moveq as moveq_h, nop as nop_h, jmp as jmp_h, dbra as dbra_h, branch_on, move_w, add_w, sub_w, cmp_w, muls_w, move_l, movea_l, cmp_l, tst_l, subq_l, asl_l, HeadRow, heads, same_suffix, head_in, other_text, number32, imm32, quickly, no_operand, registers, jump_to, move_long, form_of, form}
 use Rattle.promises.specs.Readings.{Means32, Means16, Means8}
 use Rattle.promises.specs.Explain.{behind_hash, IsKind, Numeric}
-use Rattle.promises.specs.Demand2Manual.{D, at_a, L, W}
+use Rattle.promises.specs.ListedForms.{D, at_a, L, W}
 use Rattle.promises.specs.ManualWritten.{A, branch_named, Jump, as_jmp, as_jump, WrittenHere, moveq, move_data, load, store, copy, load_label, store_label, movea, muls_data, muls, add, sub, cmp, cmp_data, tst, subq, asl, nop, jump_number, jump_label}
 use Rattle.promises.proofs.Compared.{clash}
 use Rattle.promises.proofs.Same.{same_eq}

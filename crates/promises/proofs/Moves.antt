@@ -11,7 +11,7 @@ use Rattle.rules.specs.Assemble.{Place, Slices}
 use Rattle.rules.specs.Relocate.{far, move_answer, move_by, move_slices}
 use Rattle.rules.specs.Tally.{held, moves, first_outside, tally_answer, add_if, new_total, tally_list, tallied, seen, tally}
 use Rattle.promises.specs.Pairs.{Sixteen, Low}
-use Rattle.promises.specs.Demand3.{no_move, one_move, MovesAreMade, last_total, last_list, Totalled, no_more, left_alone, added, TotalsAddUp}
+use Rattle.promises.specs.MovedLists.{no_move, one_move, MovesAreMade, last_total, last_list, Totalled, no_more, left_alone, added, TotalsAddUp}
 use Rattle.promises.proofs.Lists.{All}
 use Rattle.promises.proofs.Accepted.{not_refused, not_refused_at}
 use Rattle.promises.proofs.Twice.{Inside, Reached, inside_reached, reached_zero, list_twice, outside_twice, none_inside, low_inside, list_zero, length_moved, marks_moved}

@@ -1,4 +1,4 @@
--- W-201 holds: the search in the table finds the label that its records make the nearest. Assumes nothing.
+-- The search in the table finds the label that its records make the nearest. Assumes nothing.
 use Rattle.std.specs.Prelude.{Option, None, Some, option_map}
 use Prim.Native.Nat.{ℕ, ◌+◌, ◌-◌, ◌<◌, ◌≤◌}
 use mathlib.Core.Path.{◌≡◌, refl, sym, ap, ◌∙◌}
@@ -17,13 +17,13 @@ use Rattle.rules.specs.Answer.{Answer, accepted, refused, refuse_if, and_then}
 use Rattle.rules.specs.Assemble.{Pass, first_pass_by, pass_at_by, pass_at}
 use Rattle.requests.specs.Nearest.{Nearest, nearer, nearer_of, nearest_in, told_nearest, nearest}
 use Rattle.promises.specs.Stages.{all, Checked}
-use Rattle.promises.specs.Demand1.{PassCondition, passing, PassRefusesExactly}
+use Rattle.promises.specs.Refusals.{PassCondition, passing, PassRefusesExactly}
 use Rattle.promises.specs.Lawful.{shift_label, shift_table, shift_pass}
 use Rattle.promises.specs.Nearest.{In, head, tail, LastRecord, IsNear, NearestIsNear, NearestCondition, of_pass, none_near, nearing, NearestRefusesExactly, NearestMoves}
 use Rattle.promises.proofs.Compared.{clash}
 use Rattle.promises.proofs.Stages.{is_checked, not_checked, checked_by, still_checked, apart, are_apart, Runs, done, stop, pass, none_holds, and_then_lem, runs_by, refuses_exactly}
-use Rattle.promises.proofs.Demand1Assemble.{pass_known, pass_answered}
-use Rattle.promises.proofs.Demand1.{pass_refuses_exactly}
+use Rattle.promises.proofs.RefusalsAssemble.{pass_known, pass_answered}
+use Rattle.promises.proofs.Refusals.{pass_refuses_exactly}
 use Rattle.promises.proofs.Accepted.{LetThrough, not_refused, checks_passed, checks_pass}
 use Rattle.promises.proofs.Shift.{pass_shift}
 use Rattle.promises.proofs.Records.{LastRecords, labels_are_last}

@@ -10,10 +10,10 @@ use lib.Dec.{eqb}
 use lib.ListN.{length, length-map}
 use Rattle.rules.specs.Assemble.{Place}
 use Rattle.rules.specs.Relocate.{first_in, bad_mark, first_bad_mark}
-use Rattle.promises.specs.Demand1.{BadMark}
+use Rattle.promises.specs.Refusals.{BadMark}
 use Rattle.promises.specs.Pairs.{WellPaired}
-use Rattle.promises.proofs.Demand1Search.{Found, found, nowhere}
-use Rattle.promises.proofs.Demand1Marks.{marks_found}
+use Rattle.promises.proofs.RefusalsSearch.{Found, found, nowhere}
+use Rattle.promises.proofs.RefusalsMarks.{marks_found}
 use Rattle.promises.proofs.Twice.{first_mark, Paired}
 
 -- refusal 10 names no place of the list

@@ -1,4 +1,4 @@
--- 02's W-207, the mover's part: lists with marks 0 and 1 move as before, and lists with pairs follow the tally. Assumes nothing.
+-- The mover: lists with marks 0 and 1 move as before, and lists with pairs follow the tally. Assumes nothing.
 use Rattle.std.specs.Prelude.{None, Some, slice_get}
 use Rattle.std.proofs.lemmas.Option.{same_Some, none-some}
 use Prim.Native.Nat.{ℕ, zero, suc, ◌≤◌, ◌<◌}
@@ -15,15 +15,15 @@ use Rattle.rules.specs.Number.{modulo}
 use Rattle.rules.specs.Assemble.{Place, Slices}
 use Rattle.rules.specs.Relocate.{far, first_in, first_index, bad_mark, first_bad_mark, moved_address, added_word, added_pair, added_high, moved_word, move_words, move_answer}
 use Rattle.rules.specs.Tally.{first_word, moved_place, tally_list, tallied}
-use Rattle.promises.specs.Demand1.{BadMark}
-use Rattle.promises.specs.Demand3.{last_total}
+use Rattle.promises.specs.Refusals.{BadMark}
+use Rattle.promises.specs.MovedLists.{last_total}
 use Rattle.promises.specs.Pairs.{place_before, words_before, answer_before, Each, MovesAsBefore, Sixteen, Low, PairsFollowTally, WellPaired, PairsAddTotal, OneMoveForPairs, LawfulListsArePaired, MarkExamples, PairExamples}
 use Rattle.promises.proofs.Lists.{All, all_at}
-use Rattle.promises.proofs.Demand1Search.{none_found}
-use Rattle.promises.proofs.Demand1Marks.{marks_found}
+use Rattle.promises.proofs.RefusalsSearch.{none_found}
+use Rattle.promises.proofs.RefusalsMarks.{marks_found}
 use Rattle.promises.proofs.Fit.{Fit, listed}
 use Rattle.promises.proofs.Residues.{pair_added, low_lt, high_lt}
-use Rattle.promises.proofs.Demand1Written.{pair_congruent}
+use Rattle.promises.proofs.RefusalsWritten.{pair_congruent}
 use Rattle.promises.proofs.Twice.{first_mark, Paired, inside_none}
 use Rattle.promises.proofs.Paired.{NoBadMark, no_bad_mark, all_paired, plain_mark, grouped_good}
 use Rattle.promises.proofs.Moves.{follow_from_zero, last_total_inside, last_list_is, move_accepted, move_gives}

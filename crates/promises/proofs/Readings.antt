@@ -1,4 +1,4 @@
--- W-204: the number reader's four answers mean what 02 says, and a line's number is in its task exactly if it is read. Assumes nothing.
+-- The number reader's four answers mean what the rules say, and a line's number is in its task exactly if it is read. Assumes nothing.
 use Rattle.std.specs.Prelude.{Option, None, Some}
 use Prim.Native.Nat.{ℕ, zero, suc, ◌+◌, ◌*◌, ◌^◌, ◌≤◌, ◌<◌}
 use mathlib.Core.Path.{◌≡◌, refl, sym, ap, subst, ◌∙◌}
@@ -35,7 +35,7 @@ not_bad {radix} {b} {s} h n d = go d.place d.inside d.no_digit
     go zero l k = omega arith
     go (suc i) l k = n (record { place = i; inside = omega arith; no_digit = k })
 
--- digits behind the value v so far: bad somewhere, or worth what they are, after v
+-- digits after the value v so far: bad somewhere, or worth what they are, after v
 pub data Told (radix v : ℕ) (s : Text) (r : Reading ℕ) : Type 0 where
   good : ¬ BadDigit radix s → r ≡ read (v * radix ^ length s + worth radix s) → Told radix v s r
   wrong : BadDigit radix s → r ≡ failed bad_digit → Told radix v s r
@@ -67,7 +67,7 @@ pub filled : (b : ℕ) (s : Text) → b ∷ s ≢ []
 filled b s e = let h : suc (length s) ≡ 0 = ap length e in omega arith
 
 module _ {A : Type 0} (f : ℕ → Option A) (Has : ℕ → A → Type 0) (typed : (v : ℕ) → Typed Has v (f v)) (radix : ℕ) where
-  -- behind no value so far they are worth what they are
+  -- after no value so far they are worth what they are
   plain : (d : Text) → 0 * radix ^ length d + worth radix d ≡ worth radix d
   plain d = omega arith
 
@@ -120,7 +120,7 @@ module _ {A : Type 0} (f : ℕ → Option A) (Has : ℕ → A → Type 0) (typed
       go (good n e) (is_read {a} m g h) = rw (e, plain (b ∷ s)) (of_type (worth radix (b ∷ s)) a h)
       go (wrong d e) (is_read m g h) = absurd (g d)
 
--- ---- the types, by the sign: an unsigned one has no value behind `−`
+-- ---- the types, by the sign: an unsigned one has no value after `−`
 unsigned_as : ℕ → Bool → ℕ → Option ℕ
 unsigned_as bound true v = None
 unsigned_as bound false v = below bound v

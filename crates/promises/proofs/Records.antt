@@ -15,14 +15,14 @@ use Rattle.rules.specs.Answer.{Answer, accepted, refused, and_then}
 use Rattle.rules.specs.Assemble.{Sizes, Pass, address_after, putting, first_pass_by, pass_at_by, pass_at}
 use Rattle.rules.proofs.Standing.{At, at_within, at_take, at_in}
 use Rattle.rules.proofs.Names.{Rising, next, names_rise, over}
-use Rattle.promises.specs.Demand1.{IsLine, names_of, on_top, Reached, start, further}
+use Rattle.promises.specs.Refusals.{IsLine, names_of, on_top, Reached, start, further}
 use Rattle.promises.specs.Nearest.{In, head, tail, start_after, RecordsBy, records, LastRecordBy, RecordedAtBy, recorded_at, FoundIsLast, Records, RecordsStand}
 use Rattle.promises.proofs.Compared.{clash, Compared, less, more, equal, compared}
 use Rattle.promises.proofs.Accepted.{not_refused, checks_passed}
 use Rattle.promises.proofs.Tasks.{next_address_lem, pass_line}
 use Rattle.promises.proofs.Shapes.{end_unlabelled}
-use Rattle.promises.proofs.Demand1Lines.{line_at, no_line}
-use Rattle.promises.proofs.Demand1Passes.{reached_once, not_end}
+use Rattle.promises.proofs.RefusalsLines.{line_at, no_line}
+use Rattle.promises.proofs.RefusalsPasses.{reached_once, not_end}
 use Rattle.promises.proofs.Standing.{texts_at}
 use Rattle.promises.proofs.Same.{same_eq}
 use Rattle.promises.proofs.Kept.{same_self, Unique, Last, Keeps, keeps_by, keeps_all, mapped, map_in}
@@ -216,7 +216,7 @@ found_is_last z base s p a l x = (to, from)
     from : RecordedAtBy z base s l x → find l p.labels ≡ Some x
     from (recorded_at {i} {k} h) = in_found law.unique ((law.exactly (record { name = l; start = i; address = x; line = k })).1 h)
 
--- with 01's sizes
+-- with the stations' sizes
 abbrev pub LastRecords : ℕ → Text → Table → Type 0
 LastRecords base s t = LastRecordsBy size base s t
 
@@ -231,7 +231,7 @@ start_le ls (suc j) zero h = absurd (omega arith)
 start_le [] (suc j) (suc k) h = omega arith
 start_le (l ∷ ls) (suc j) (suc k) h = omega (arith, start_le ls j k (omega arith))
 
--- the names of a line stand in it, and a name that starts after another one starts behind its end
+-- the names of a line stand in it, and a name that starts after another one starts after its end
 name_at : {l : Text} {e b : ℕ} {m : Name} {ms : List Name} → Rising l e b ms → In m ms → At m.text m.start l
 name_at (next h c r) (head f) = rw f c
 name_at (next h c r) (tail i) = name_at r i

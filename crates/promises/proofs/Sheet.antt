@@ -1,4 +1,4 @@
--- W-214 holds: each line is in one class, a source adds its own totals, 20 and 21 come exactly by their conditions, and sheets add up.
+-- What is promised of the sheet holds: each line is in one class, a source adds its own totals, 20 and 21 come exactly by their conditions, and sheets add up.
 -- Assumes nothing.
 use Prim.Native.Nat.{ℕ, ◌+◌, ◌≤◌, ◌<◌}
 use mathlib.Core.Path.{◌≡◌, refl, sym, ap, ◌∙◌}
@@ -16,15 +16,15 @@ use Rattle.rules.specs.Assemble.{Pass, second_pass, pass_at_by, pass_at, assembl
 use Rattle.requests.specs.Symbols.{in_order, symbols}
 use Rattle.requests.specs.Sheet.{max_sources, max_total, skip, origin, bare_label, datum, emitting, wordless, ending, classes, Totals, one_refused, numbers_in, accepted_sheet, answer_sheet, source_sheet, plus, sources, any_over, add_source}
 use Rattle.promises.specs.Stages.{Checked}
-use Rattle.promises.specs.Demand1.{line_count, PassCondition, PassRefusesExactly}
+use Rattle.promises.specs.Refusals.{line_count, PassCondition, PassRefusesExactly}
 use Rattle.promises.specs.Longest.{AtMostTwoALine}
 use Rattle.promises.specs.Nearest.{In, head, tail}
 use Rattle.promises.specs.Symbols.{SymbolsAreListed, EachListFits}
 use Rattle.promises.specs.Sheet.{EachInOneClass, OfAccepted, IsSheet, of_accepted, of_refused, SheetCondition, source_more, total_over, sheeting, SheetRefusesExactly, SourceAdded, SourcesAreAdded, OfSeries, no_source, with_source, AcceptedLines, no_lines, accepted_lines, refused_lines, ClassesAddUp, SheetsAddUp}
 use Rattle.promises.proofs.Compared.{clash, Compared, less, more, equal, compared}
 use Rattle.promises.proofs.Stages.{is_checked, checked_by, apart, are_apart, Runs, done, refuse_if_lem, refuses_exactly, none_holds}
-use Rattle.promises.proofs.Demand1.{pass_refuses_exactly}
-use Rattle.promises.proofs.Demand1Assemble.{counted}
+use Rattle.promises.proofs.Refusals.{pass_refuses_exactly}
+use Rattle.promises.proofs.RefusalsAssemble.{counted}
 use Rattle.promises.proofs.Accepted.{not_refused, checks_passed}
 use Rattle.promises.proofs.Longest.{at_most_two_a_line}
 use Rattle.promises.proofs.Records.{labels_are_last}

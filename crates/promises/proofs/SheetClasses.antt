@@ -1,4 +1,4 @@
--- W-214: the class of each line of an accepted source, which is the one that its text and the list say, and how many there are of each.
+-- The sheet: the class of each line of an accepted source, which is the one that its text and the list say, and how many there are of each.
 -- Assumes nothing.
 use Rattle.std.specs.Prelude.{Some, slice_get}
 use Prim.Native.Nat.{ℕ, zero, suc, ◌+◌, ◌-◌, ◌<◌, ◌≤◌}
@@ -17,12 +17,12 @@ use Rattle.rules.specs.Encode.{Content, literal, address, long_address, mnemonic
 use Rattle.rules.specs.Answer.{accepted}
 use Rattle.rules.specs.Assemble.{Put, Pass, Place, putting, first_pass_by, places_at, data_contents, code_contents_by, code_places_by, code_places, pass_at_by, pass_at, address_after}
 use Rattle.requests.specs.Sheet.{Class, skip, origin, bare_label, datum, emitting, wordless, ending, class_number, word_class, class_of, read_classes, classes, how_many, marked_in}
-use Rattle.promises.specs.Demand1.{line_count, IsLine, Reached}
+use Rattle.promises.specs.Refusals.{line_count, IsLine, Reached}
 use Rattle.promises.specs.Explain.{PutsWords, PutsNone}
 use Rattle.promises.specs.Sheet.{Ends, ReadClass, skipped_line, org_line, only_label, data_line, word_line, wordless_line, InClass, ended, read, HowMany, no_entry, one_more, as_many}
 use Rattle.promises.proofs.Compared.{clash, Compared, less, more, equal, compared}
-use Rattle.promises.proofs.Demand1Passes.{not_end}
-use Rattle.promises.proofs.Demand1Assemble.{counted}
+use Rattle.promises.proofs.RefusalsPasses.{not_end}
+use Rattle.promises.proofs.RefusalsAssemble.{counted}
 use Rattle.promises.proofs.Accepted.{not_refused, checks_passed}
 use Rattle.promises.proofs.Tasks.{pass_line}
 use Rattle.promises.proofs.Fit.{Holds, holds_then}

@@ -1,4 +1,4 @@
--- W-214's examples hold by computation. Assumes nothing.
+-- The sheet's examples hold by computation. Assumes nothing.
 use Rattle.rules.specs.Option.{bind, or_else}
 use mathlib.Core.Path.{refl}
 use mathlib.Core.List.{flat_map}

@@ -1,4 +1,4 @@
--- W-214: what the text of a line says of its class is what 01's steps read in it, and the other way round. Assumes nothing.
+-- The sheet: what the text of a line says of its class is what the six steps read in it, and the other way round. Assumes nothing.
 use Rattle.std.specs.Prelude.{Option, None, Some}
 use Prim.Native.Nat.{ℕ}
 use mathlib.Core.Path.{◌≡◌, refl, sym, ap, ◌∙◌}

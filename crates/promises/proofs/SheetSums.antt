@@ -1,4 +1,4 @@
--- W-214: totals added up. The sum's laws, the bounds of a series' totals, and so what a series comes to, in parts and in any order.
+-- The sheet: totals added up. The sum's laws, the bounds of a series' totals, and so what a series comes to, in parts and in any order.
 -- Assumes nothing.
 use Prim.Native.Nat.{ℕ, suc, ◌+◌, ◌*◌, ◌≤◌, ◌<◌, max}
 use mathlib.Core.Path.{◌≡◌, refl, sym, ap, ◌∙◌}

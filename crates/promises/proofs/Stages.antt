@@ -9,10 +9,10 @@ use native.Mathlib.Omega.{arith}
 use borrow.Author.Tests.{eqb-true, eqb-false}
 use lib.Dec.{eqb}
 use Rattle.rules.specs.Answer.{Answer, accepted, refused, refuse_if, refuse_at, and_then}
-use Rattle.promises.specs.Demand1.{Lowest}
+use Rattle.promises.specs.Refusals.{Lowest}
 use Rattle.promises.specs.Stages.{Stage, all, by_line, numbers, OneOf, here, there, Ahead, ahead, behind, Checked, at_once, after, CheckedBefore, by_stage, within_line, on_line, further_on, FirstOf, RefusesExactly}
 use Rattle.promises.proofs.Compared.{clash, Compared, less, more, equal, compared}
-use Rattle.promises.proofs.Demand1Search.{Found, found, nowhere, lowest_once}
+use Rattle.promises.proofs.RefusalsSearch.{Found, found, nowhere, lowest_once}
 
 -- no number has two stages
 abbrev pub Apart : List Stage → Type 0

@@ -1,4 +1,4 @@
--- W-211: what derives is read. A sum, a product or an atom in front of a text is read up to what is behind it, where parentheses may be
+-- Sums in DC: what derives is read. A sum, a product or an atom in front of a text is read up to what is after it, where parentheses may be
 -- opened as deep as it nests; so a text derives one expression at most. Assumes nothing.
 use Rattle.std.specs.Prelude.{Some}
 use Prim.Native.Nat.{ℕ, zero, suc, ◌≤◌, max}
@@ -16,7 +16,7 @@ use Rattle.promises.specs.Sums.{Sum, Product, Atom, one_product, adding, subtrac
 use Rattle.promises.proofs.Compared.{clash}
 use Rattle.promises.proofs.SumNumbers.{Solid, empty, solid, Plain, plain_solid, plain_some, Ends, operator, number_first_lem}
 
--- what may stand behind a product: an operator that does not go on with it
+-- what may stand after a product: an operator that does not go on with it
 data Follows : Text → Type 0 where
   other : {c : ℕ} {r : Text} → is_operator c ≡ true → is_times c ≡ false → Follows (c ∷ r)
 

@@ -1,4 +1,4 @@
--- W-211: a number without a sign is read exactly if it is one or more good digits after its prefix, and no byte of it is an operator;
+-- Sums in DC: a number without a sign is read exactly if it is one or more good digits after its prefix, and no byte of it is an operator;
 -- and a number in front of a text is the bytes before the first operator. Assumes nothing.
 use Rattle.std.specs.Prelude.{None, Some}
 use Prim.Native.Nat.{ℕ, suc, ◌+◌, ◌*◌, ◌≤◌, ◌<◌}
@@ -19,7 +19,7 @@ use Rattle.promises.specs.Readings.{Prefix, dollar, zero_x, no_prefix, Sign, plu
 use Rattle.promises.proofs.Compared.{clash}
 use Rattle.promises.proofs.Readings.{readings_mean}
 
--- ---- digits: what W-204's promise says of them behind a plus sign, below a bound that they just meet
+-- ---- digits: what the promise of readings says of them after a plus sign, below a bound that they just meet
 -- good digits worth v
 pub record Good (radix : ℕ) (d : Text) (v : ℕ) : Type 0 where
   pub some_digit : d ≢ []
@@ -163,7 +163,7 @@ plain_some p e = go p.prefix e p.good.some_digit
     go (no_prefix e g) q n = n q
 
 -- ---- a number in front
--- what may stand behind it
+-- what may stand after it
 pub data Ends : Text → Type 0 where
   end : Ends []
   operator : {c : ℕ} {r : Text} → is_operator c ≡ true → Ends (c ∷ r)

@@ -1,4 +1,4 @@
--- W-211: what is read derives. The text in front of what is left is a sum, a product or an atom, no deeper than parentheses may be
+-- Sums in DC: what is read derives. The text in front of what is left is a sum, a product or an atom, no deeper than parentheses may be
 -- opened. Assumes nothing.
 use Rattle.std.specs.Prelude.{None, Some}
 use Prim.Native.Nat.{ℕ, zero, suc, ◌≤◌}

@@ -1,4 +1,4 @@
--- W-211: a text reads as a value, as out of range or as a bad digit exactly as the grammar and whole numbers say; and the examples.
+-- Sums in DC: a text reads as a value, as out of range or as a bad digit exactly as the grammar and whole numbers say; and the examples.
 -- Assumes nothing.
 use Rattle.std.specs.Prelude.{Option, None, Some}
 use Prim.Native.Nat.{ℕ, zero, suc, ◌+◌, ◌-◌, ◌*◌, ◌^◌, ◌<◌, ◌≤◌}

@@ -1,4 +1,4 @@
--- W-202 holds: the sorted table is the list that the records make, and the names in it fit into the source. Assumes nothing.
+-- What is promised of the labels holds: the sorted table is the list that the records make, and the names in it fit into the source. Assumes nothing.
 use Prim.Native.Nat.{ℕ, ◌+◌, ◌<◌, ◌≤◌}
 use mathlib.Core.Path.{◌≡◌, refl, sym, ap}
 use mathlib.Core.List.{List, [], ◌∷◌}
@@ -11,7 +11,7 @@ use Rattle.rules.specs.Answer.{Answer, accepted, refused, and_then}
 use Rattle.rules.specs.Assemble.{Pass, pass_at}
 use Rattle.rules.proofs.Names.{Rising, next, names_rise, names_few}
 use Rattle.requests.specs.Symbols.{in_order, symbols}
-use Rattle.promises.specs.Demand1.{PassCondition}
+use Rattle.promises.specs.Refusals.{PassCondition}
 use Rattle.promises.specs.Nearest.{In, head, tail, start_after}
 use Rattle.promises.specs.Symbols.{IsEntry, Before, earlier_line, earlier_step, IsSymbols, SymbolsAreListed}
 use Rattle.promises.proofs.Compared.{clash, Compared, less, more, equal, compared}

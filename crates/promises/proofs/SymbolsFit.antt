@@ -1,4 +1,4 @@
--- The bounds of W-202's list: how many labels there are, where they lie, and how long their names are together. Assumes nothing.
+-- The bounds of the list of labels: how many labels there are, where they lie, and how long their names are together. Assumes nothing.
 use Rattle.std.specs.Prelude.{Some, slice_get}
 use Prim.Native.Nat.{ℕ, zero, suc, ◌+◌, ◌<◌, ◌≤◌}
 use mathlib.Core.Path.{◌≡◌, refl}
@@ -15,14 +15,14 @@ use Rattle.rules.specs.Answer.{Answer, accepted, refused, and_then}
 use Rattle.rules.specs.Assemble.{Pass, putting, first_pass_by, pass_at_by, pass_at, address_after}
 use Rattle.rules.proofs.Standing.{at_within}
 use Rattle.requests.specs.Symbols.{in_order, symbols}
-use Rattle.promises.specs.Demand1.{next_address, Reached, start, further, PassCondition, base_over, address_over}
+use Rattle.promises.specs.Refusals.{next_address, Reached, start, further, PassCondition, base_over, address_over}
 use Rattle.promises.specs.Nearest.{In, head, tail}
 use Rattle.promises.specs.Symbols.{names_length, EntryFits, SymbolsFit, EachListFits}
 use Rattle.promises.proofs.Compared.{clash}
 use Rattle.promises.proofs.Accepted.{not_refused, checks_passed}
 use Rattle.promises.proofs.Tasks.{pass_line}
 use Rattle.promises.proofs.Fit.{Holds, holds_then}
-use Rattle.promises.proofs.Demand1Labels.{recorded_room}
+use Rattle.promises.proofs.RefusalsLabels.{recorded_room}
 use Rattle.promises.proofs.Records.{apart, Made, LastRecords, labels_are_last, stands_at, records_stand}
 use Rattle.promises.proofs.Nearest.{clear}
 use Rattle.promises.proofs.Sorted.{Ascending, ended, ahead, Sorted}

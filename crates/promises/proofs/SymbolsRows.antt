@@ -1,4 +1,4 @@
--- W-202's refusals, and what a call leaves in the four slices. Assumes nothing.
+-- The refusals of the list of labels, and what a call leaves in the four slices. Assumes nothing.
 use Prim.Native.Nat.{ℕ, ◌≤◌}
 use mathlib.Core.Path.{◌≡◌, refl, ap}
 use mathlib.Core.Bool.{Bool, true, false, ◌||◌}
@@ -15,11 +15,11 @@ use Rattle.rules.specs.Answer.{Answer, accepted, refused, refuse_if, and_then}
 use Rattle.rules.specs.Assemble.{pass_at, over}
 use Rattle.requests.specs.Symbols.{in_order, symbols, Rows, short_rows, room_rows, symbols_answer, holding_rows, write_rows, symbols_rows}
 use Rattle.promises.specs.Stages.{all, Checked}
-use Rattle.promises.specs.Demand1.{PassCondition, passing, assembling}
+use Rattle.promises.specs.Refusals.{PassCondition, passing, assembling}
 use Rattle.promises.specs.Symbols.{SymbolsAreListed, RowsShorter, short_starts, short_lengths, short_addresses, short_lines, RowsCondition, of_pass, rows_short, SymbolsRefuseExactly, RowsWritten, SymbolsAreWritten}
 use Rattle.promises.proofs.Compared.{clash}
 use Rattle.promises.proofs.Stages.{is_checked, not_checked, checked_by, still_checked, apart, are_apart, Runs, done, none_holds, refuse_if_lem, and_then_lem, runs_by, refuses_exactly}
-use Rattle.promises.proofs.Demand1Assemble.{pass_known, pass_answered}
+use Rattle.promises.proofs.RefusalsAssemble.{pass_known, pass_answered}
 use Rattle.promises.proofs.Symbols.{symbols_are_listed}
 
 -- the four lengths, by what the test answers

@@ -12,7 +12,7 @@ use Rattle.rules.specs.Line.{SourceLine, Instruction, Task, skipped, end, org, n
 use Rattle.rules.specs.Label.{Table, record_all}
 use Rattle.rules.specs.Answer.{Answer, accepted, refused, and_then}
 use Rattle.rules.specs.Assemble.{Sizes, Encoder, Pass, address_after, is_end, leaving, step_by, putting, first_pass_by, data_contents, code_contents_by}
-use Rattle.promises.specs.Demand1.{next_address}
+use Rattle.promises.specs.Refusals.{next_address}
 use Rattle.promises.proofs.Compared.{clash}
 
 -- the promise's address after a line is the rules'

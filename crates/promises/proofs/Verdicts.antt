@@ -1,4 +1,4 @@
--- W-205 of an instruction: the verdict on it is right, and no other is. Assumes nothing.
+-- The verdict on an instruction: the verdict on it is right, and no other is. Assumes nothing.
 use Rattle.std.specs.Prelude.{Option, None, Some}
 use Rattle.rules.specs.Option.{or_else}
 use Prim.Native.Nat.{ℕ, ◌<◌, ◌≤◌}

@@ -1,5 +1,5 @@
--- W-210: 01's assembling call and W-205's, lent a table: their refusals, what they write and say, that the eleven change nothing, and that
--- demand 3 and W-209 hold under every accepted table. Assumes nothing.
+-- Branch tables: the stations' call and the one that says why a line has no word, lent a table: their refusals, what they write and say, that the eleven change nothing, and that
+-- moving is assembling and branches land under every accepted table. Assumes nothing.
 use Rattle.std.specs.Prelude.{ℕ, ◌≡◌, ◌↔◌, List, ◌∷◌, ◌++◌, length, take, ℤ}
 use Rattle.rules.specs.Text.{Text}
 use Rattle.rules.specs.Line.{Instruction, size}
@@ -11,8 +11,8 @@ use Rattle.manual.specs.Manual.{InByte}
 use Rattle.requests.specs.Explain.{Verdict, explain_all, explain, explain_all_by}
 use Rattle.requests.specs.Branches.{assemble_under, assemble_under_answer, assemble_under_slices, explain_all_under, explain_under}
 use Rattle.promises.specs.Stages.{RefusesExactly}
-use Rattle.promises.specs.Demand1.{PassCondition, passing, assembling, Shorter, SamePast}
-use Rattle.promises.specs.Demand3.{Demand3For, WordsDifferFor}
+use Rattle.promises.specs.Refusals.{PassCondition, passing, assembling, Shorter, SamePast}
+use Rattle.promises.specs.MovedLists.{MovesAsAssembledFor, WordsDifferFor}
 use Rattle.promises.specs.Nearest.{In}
 use Rattle.promises.specs.Lands.{ByByte, LandFor}
 use Rattle.promises.specs.Explain.{ExplainCondition, explaining, Explained}
@@ -23,7 +23,7 @@ pub data UnderCondition (t : Text) (C : ℕ → ℕ → Type 0) : ℕ → ℕ �
   of_table : {n p : ℕ} → TableCondition t n p → UnderCondition t C n p
   of_call : {n p : ℕ} → C n p → UnderCondition t C n p
 
--- ---- 01's call
+-- ---- the stations' call
 -- refusals 1 to 7, of the list under the table t
 pub data ListCondition (t : Text) (base : ℕ) (s : Text) (x : Slices) : ℕ → ℕ → Type 0 where
   of_pass : {n p : ℕ} → PassCondition size base s n p → ListCondition t base s x n p
@@ -36,7 +36,7 @@ AssembleUnderRefusesExactly =
     (t : Text) (base : ℕ) (s : Text) (x : Slices)
     → RefusesExactly (loading ++ assembling) (UnderCondition t (ListCondition t base s x)) (assemble_under_answer t base s x)
 
--- under an accepted table the list is that of 01's passes, "in place of the built-in eleven names" the table's
+-- under an accepted table the list is that of the two passes, "in place of the built-in eleven names" the table's
 unfoldable pub ListsUnder : Type 0
 ListsUnder =
     (t : Text) (ns : List Mnemonic) → Accepted t ns → (base : ℕ) (s : Text) → assemble_under t base s ≡ assemble_by size (encode_by (other_mnemonics ++ ns)) base s
@@ -55,15 +55,15 @@ pub record AssembleUnderWrites : Type 0 where
   pub acceptance : (t : Text) (base : ℕ) (s : Text) (x : Slices) (n : ℕ) → assemble_under_answer t base s x ≡ accepted n
       → UnderWrites t base s n x (assemble_under_slices t base s x)
 
--- "the moving law holds under every accepted table": all of demand 3
+-- "the moving law holds under every accepted table": all of it
 pub record MovesUnder (t : Text) (ns : List Mnemonic) : Type 0 where
-  pub demand_3 : Demand3For size (encoded (encode_by (other_mnemonics ++ ns))) (assemble_under t)
+  pub moves_as_assembled : MovesAsAssembledFor size (encoded (encode_by (other_mnemonics ++ ns))) (assemble_under t)
   pub differ : WordsDifferFor (assemble_under t)
 
 unfoldable pub TablesMove : Type 0
 TablesMove = (t : Text) (ns : List Mnemonic) → Accepted t ns → MovesUnder t ns
 
--- W-209 under a table: the instruction i has the name of a row, its first operand is o, and d is "within −128 to 127"
+-- Branches land under a table: the instruction i has the name of a row, its first operand is o, and d is "within −128 to 127"
 pub record OfTable (ns : List Mnemonic) (i : Instruction) (o : Text) (d : ℤ) : Type 0 where
   pub condition : ℕ
   pub row : In (mnemonic i.mnemonic (branch condition)) ns
@@ -74,7 +74,7 @@ pub record OfTable (ns : List Mnemonic) (i : Instruction) (o : Text) (d : ℤ) :
 unfoldable pub BranchesLandUnder : Type 0
 BranchesLandUnder = (t : Text) (ns : List Mnemonic) → Accepted t ns → LandFor size (encode_by (other_mnemonics ++ ns)) (assemble_under t) (OfTable ns) ByByte
 
--- ---- W-205's
+-- ---- why a line has no word
 -- refusals 16 and 17 come before 1 to 6 and 13
 unfoldable pub ExplainUnderRefusesExactly : Type 0
 ExplainUnderRefusesExactly =
@@ -93,12 +93,12 @@ pub record ExplainsAllUnder : Type 0 where
   pub lines : (t : Text) (ns : List Mnemonic) → Accepted t ns → (base : ℕ) (s : Text) → explain_all_under t base s ≡ explain_all_by (other_mnemonics ++ ns) base s
 
 -- ---- the eleven
--- "those eleven and 01's conditions", in any order
+-- "those eleven" with their conditions, in any order
 pub record TheEleven (ns : List Mnemonic) : Type 0 where
   pub each : (n : Mnemonic) → In n branches → In n ns
   pub no_other : (n : Mnemonic) → In n ns → In n branches
 
--- "With those eleven and 01's conditions loaded, every answer is as without": every list, answer and slice of 01's call, every verdict
+-- "With those eleven" and their "conditions loaded, every answer is as without": every list, answer and slice of the stations' call, every verdict
 pub record AsWithout (t : Text) : Type 0 where
   pub list : (base : ℕ) (s : Text) → assemble_under t base s ≡ assemble base s
   pub answer : (base : ℕ) (s : Text) (x : Slices) → assemble_under_answer t base s x ≡ assemble_answer base s x

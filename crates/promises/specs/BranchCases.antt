@@ -1,4 +1,4 @@
--- W-210's odd tables and what is loaded of each, as a table; and sources under some of them, at base 0. Assumes nothing.
+-- Odd branch tables and what is loaded of each, as a table; and sources under some of them, at base 0. Assumes nothing.
 use Rattle.std.specs.Prelude.{ℕ, ◌≡◌, List, [], ◌∷◌, ◌++◌, map}
 use Rattle.rules.specs.Text.{Text, bytes}
 use Rattle.rules.specs.Encode.{branch, Mnemonic, mnemonic}

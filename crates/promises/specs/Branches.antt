@@ -1,4 +1,4 @@
--- W-210, "Our own branch names": when a table is accepted, with which names, and which command is blamed with 16 or 17, said of the bytes as
+-- Branch tables, "Our own branch names": when a table is accepted, with which names, and which command is blamed with 16 or 17, said of the bytes as
 -- rows written one after another and apart from how they are read; and how many of a table's bytes count. Assumes nothing.
 use Rattle.std.specs.Prelude.{ℕ, ◌*◌, ◌≤◌, ◌<◌, ◌≡◌, ◌↔◌, ◌≢◌, List, [], ◌∷◌, ◌++◌, length, take, replicate}
 use Rattle.rules.specs.Text.{Text}
@@ -28,7 +28,7 @@ unfoldable pub rows_bytes : List Row → Text
 rows_bytes [] = []
 rows_bytes (r ∷ rs) = row_bytes r ++ rows_bytes rs
 
--- four bytes are a name and spaces behind it, all that there are
+-- four bytes are a name and spaces after it, all that there are
 pub record Padded (name bytes : Text) : Type 0 where
   pub spaces : ℕ
   pub padded : bytes ≡ name ++ replicate spaces 32
@@ -46,7 +46,7 @@ pub data Blank : ℕ → Type 0 where
   tab : {b : ℕ} → 9 ≤ b → b ≤ 13 → Blank b
   space : Blank 32
 
--- 17: what is wrong with the name of the row r behind the rows rs
+-- 17: what is wrong with the name of the row r after the rows rs
 pub data Misnamed (rs : List Row) (r : Row) : Type 0 where
   starts_blank : Blank r.first → Misnamed rs r
   -- "with a lower-case letter"
@@ -56,7 +56,7 @@ pub data Misnamed (rs : List Row) (r : Row) : Type 0 where
   -- "or a mnemonic other than the eleven"
   taken : {n : Mnemonic} → In n other_mnemonics → Padded n.name (four r) → Misnamed rs r
 
--- s stands in t behind the rows rs; the row r does
+-- s stands in t after the rows rs; the row r does
 pub record Behind (rs : List Row) (s t : Text) : Type 0 where
   pub stands : t ≡ rows_bytes rs ++ s
 
@@ -64,7 +64,7 @@ pub record RowBehind (rs : List Row) (r : Row) (t : Text) : Type 0 where
   pub rest : Text
   pub stands : t ≡ rows_bytes rs ++ (row_bytes r ++ rest)
 
--- what is wrong with the command behind the rows rs; "place the command's offset"
+-- what is wrong with the command after the rows rs; "place the command's offset"
 pub data TableCondition (t : Text) : ℕ → ℕ → Type 0 where
   -- "16: a cut, missing or unknown command, a 17th row or a condition over 15"
   cut : {rs : List Row} {s : Text} → Behind rs (1 ∷ s) t → length s < 5 → TableCondition t 16 (6 * length rs)
@@ -97,6 +97,6 @@ pub record Accepted (t : Text) (ns : List Mnemonic) : Type 0 where
 unfoldable pub LoadAcceptsExactly : Type 0
 LoadAcceptsExactly = (t : Text) (ns : List Mnemonic) → (loaded t ≡ accepted ns) ↔ Accepted t ns
 
--- 16 rows of six bytes and an end byte: nothing behind them counts
+-- 16 rows of six bytes and an end byte: nothing after them counts
 unfoldable pub FrontOfATable : Type 0
 FrontOfATable = (t : Text) → loaded (take 97 t) ≡ loaded t

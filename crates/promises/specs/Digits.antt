@@ -1,4 +1,4 @@
--- W-206, "Digit values by formula": paper 01's table of digit values, written out, and that the rules' values are its entries. Assumes nothing.
+-- "Digit values by formula": the rules' table of digit values, written out, and that the rules' values are its entries. Assumes nothing.
 use Rattle.std.specs.Prelude.{ℕ, ◌<◌, ◌≤◌, ◌≡◌, List, [], ◌∷◌, length, get_or}
 use Rattle.rules.specs.Number.{digit_value}
 

@@ -1,4 +1,4 @@
--- Paper 01's station examples P1 to P11, as a table of sources and their lists, and W-208's of 01's call. Assumes nothing.
+-- The rules' station examples, as a table of sources and their lists, and those of byte −1 in the stations' call. Assumes nothing.
 use Rattle.std.specs.Prelude.{ℕ, ◌≡◌, List, [], ◌∷◌, map}
 use Rattle.rules.specs.Text.{Text, bytes}
 use Rattle.rules.specs.Answer.{accepted}
@@ -78,7 +78,7 @@ examples = P1 ∷ P2 ∷ P3 ∷ P4 ∷ P5 ∷ P6 ∷ P7 ∷ P8 ∷ P9 ∷ P10 �
 unfoldable pub ExamplesHold : Type 0
 ExamplesHold = map (λ e. assemble e.base e.source) examples ≡ map (λ e. accepted e.list) examples
 
--- W-208, "Byte −1 on the new boards": "The old call still emits it", of a label and as written; and -2
+-- byte −1 "on the new boards": "The old call still emits it", of a label and as written; and -2
 unfoldable pub minus_one : Example
 minus_one =
     example 0 (bytes "BRA X\nORG 1\nX:BRA X\nBRA -1\nBRA -2")

@@ -1,5 +1,5 @@
--- W-205, "The line with no word": what each reason says of a line, its address and the recorded labels, from 02's words and apart from
--- how it is decided; which verdict on a line is right; the call's refusals; and that 01's rows and the table of forms agree. Assumes nothing.
+-- "The line with no word": what each reason says of a line, its address and the recorded labels, from the rules' words and apart from
+-- how it is decided; which verdict on a line is right; the call's refusals; and that the stations' rows and the table of forms agree. Assumes nothing.
 use Rattle.std.specs.Prelude.{ℕ, suc, ◌+◌, ◌≤◌, ◌<◌, ◌≡◌, ◌↔◌, ◌≢◌, true, List, [], ◌∷◌, ◌++◌, length, take, drop, Some, slice_get}
 use Rattle.rules.specs.Text.{Text, bytes, starts}
 use Rattle.rules.specs.Number.{Failure, failed, signed_reading, reading16, reading8}
@@ -11,10 +11,10 @@ use Rattle.rules.specs.Answer.{accepted}
 use Rattle.rules.specs.Assemble.{Pass, Place, Encoder, second_pass_by, pass_at}
 use Rattle.requests.specs.Explain.{Reason, not_instruction, unknown_mnemonic, wrong_count, wrong_kinds, bad_number, not_recorded, out_of_reach, Verdict, emitted, because, explain_all_by, explain_by}
 use Rattle.promises.specs.Stages.{Stage, all, RefusesExactly}
-use Rattle.promises.specs.Demand1.{line_count, IsLine, Reached, PassCondition, passing}
+use Rattle.promises.specs.Refusals.{line_count, IsLine, Reached, PassCondition, passing}
 use Rattle.promises.specs.Nearest.{In, RecordedAtBy}
 
--- 02's order of the reasons
+-- the rules' order of the reasons
 unfoldable pub rank : Reason → ℕ
 rank not_instruction = 1
 rank unknown_mnemonic = 2
@@ -25,7 +25,7 @@ rank not_recorded = 6
 rank out_of_reach = 7
 
 -- ---- operands
--- a text behind `#`
+-- a text after `#`
 abbrev pub behind_hash : Text → Text
 behind_hash s = 35 ∷ s
 
@@ -204,7 +204,7 @@ pub record ExplainsAll : Type 0 where
 unfoldable pub ExplainsAtEveryBase : Type 0
 ExplainsAtEveryBase = (names : List Mnemonic) (b : ℕ) (s : Text) (p : Pass) → pass_at b s ≡ accepted p → explain_all_by names b s ≡ explain_all_by names 0 s
 
--- ---- 01's rows and the table of forms
+-- ---- the stations' rows and the table of forms
 -- an operand stands in a form's place: by its kind, or as a recorded label where other text may stand
 pub data StandsIn (ls : Table) (x : Operand) (s : Text) : Type 0 where
   by_kind : IsKind s (kind_for x) → StandsIn ls x s

@@ -1,4 +1,4 @@
--- W-205's odd lines, as a table of sources, lines and answers at base 0. Assumes nothing.
+-- Odd lines and the verdicts on them, as a table of sources, lines and answers at base 0. Assumes nothing.
 use Rattle.std.specs.Prelude.{ℕ, ◌≡◌, List, [], ◌∷◌, map, ◌++◌}
 use Rattle.rules.specs.Text.{Text, bytes}
 use Rattle.rules.specs.Number.{no_digits, bad_digit, out_of_range}
@@ -83,7 +83,7 @@ of_names_like_kinds =
     ∷ says (bytes "DBRA D0,D1") 1 (because wrong_kinds)
     ∷ []
 
--- what failed in a number: behind `#`, of JMP, of a branch
+-- what failed in a number: after `#`, of JMP, of a branch
 unfoldable pub of_numbers : List Case
 of_numbers =
     says (bytes "MOVE #zz,D0") 1 (because (bad_number bad_digit))

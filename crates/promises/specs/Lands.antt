@@ -1,4 +1,4 @@
--- 02's W-209, "Branches land": where the displacements of branches lead, in 01's lists, in those of the manual's call, and in every list
+-- "Branches land": where the displacements of branches lead, in the stations' lists, in those of the manual's call, and in every list
 -- that moves make of them. Said of the list, the line and the label's last record, apart from how a word is found. Assumes nothing.
 use Rattle.std.specs.Prelude.{ℕ, ◌+◌, ◌/◌, ◌%◌, ◌<◌, ◌≡◌, List, [], ◌∷◌, ◌++◌, length, take, drop, ℤ, pos, negsuc, ◌+ℤ◌, Some, None}
 use Rattle.rules.specs.Text.{Text, bytes}
@@ -10,10 +10,10 @@ use Rattle.rules.specs.Tally.{Tallied, tallied}
 use Rattle.manual.specs.Manual.{InByte, InWord, sign_of, sign_of_word, Condition}
 use Rattle.requests.specs.ManualCall.{manual_size, manual_encode}
 use Rattle.requests.specs.ManualAssemble.{assemble_manual}
-use Rattle.promises.specs.Demand1.{IsLine, Reached}
+use Rattle.promises.specs.Refusals.{IsLine, Reached}
 use Rattle.promises.specs.Nearest.{RecordedAtBy}
-use Rattle.promises.specs.Demand2Manual.{marked_zero, words_before, words_after}
-use Rattle.promises.specs.Demand3.{Call, last_total, last_list}
+use Rattle.promises.specs.ListedForms.{marked_zero, words_before, words_after}
+use Rattle.promises.specs.MovedLists.{Call, last_total, last_list}
 use Rattle.promises.specs.ManualWritten.{InBranch, branch_named}
 
 -- ---- where words lead
@@ -86,7 +86,7 @@ LandFor z e call Asked Leads =
     (base : ℕ) (s : Text) (p : Pass) (l : List Place) → pass_at_by z base s ≡ accepted p → call base s ≡ accepted l
     → (j a : ℕ) (i : Instruction) (o : Text) (t : ℕ) (d : ℤ) → Aims z base s j a i o t d → Asked i o d → Landed Leads e p j a t l
 
--- 01's call, "within −128 to 127". "The operand that is out of range but reads as a signed number is not included."
+-- the stations' call, "within −128 to 127". "The operand that is out of range but reads as a signed number is not included."
 unfoldable pub BranchesLand : Type 0
 BranchesLand = LandFor size encode assemble (Eleven InByte) ByByte
 

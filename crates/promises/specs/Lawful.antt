@@ -1,4 +1,4 @@
--- Which sizes and encoders move: what demand 3 asks of a size and an encoder, 01's or another, and that 01's have it. Assumes nothing.
+-- Which sizes and encoders move: what a size and an encoder owe for that, the stations' or another, and that the stations' have it. Assumes nothing.
 use Rattle.std.specs.Prelude.{ℕ, ◌+◌, ◌*◌, ◌≤◌, ◌≡◌, List, [], ◌∷◌, map, length}
 use Rattle.rules.specs.Line.{Instruction, size}
 use Rattle.rules.specs.Label.{Label, Table}
@@ -38,7 +38,7 @@ pub record Lawful (z : Sizes) (e : Encoder) (most : ℕ) : Type 0 where
   -- and they end at most 4 bytes after what it takes, so that none stands above 2^30 + 1
   pub ends : (t : Table) (a : ℕ) (i : Instruction) → 2 * length (places_at a (words_by e t a i)) ≤ z i + 4
 
--- 01's size and words are lawful, with two places a line, whatever the mnemonics in use
+-- the stations' size and words are lawful, with two places a line, whatever the mnemonics in use
 unfoldable pub RulesAreLawful : Type 0
 RulesAreLawful = (names : List Mnemonic) → Lawful size (encode_by names) 2
 
@@ -53,6 +53,6 @@ Short (long_address x ∷ cs) = ⊥
 abbrev pub ShortAddresses : Encoder → Type 0
 ShortAddresses e = (t : Table) (a : ℕ) (i : Instruction) → Short (words_by e t a i)
 
--- 01's words hold none
+-- the stations' words hold none
 unfoldable pub RulesAreShort : Type 0
 RulesAreShort = (names : List Mnemonic) → ShortAddresses (encode_by names)

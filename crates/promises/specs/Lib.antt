@@ -1,9 +1,9 @@
 pub mod Examples
 pub mod Stages
-pub mod Demand1
-pub mod Demand2Manual
+pub mod Refusals
+pub mod ListedForms
 pub mod Lawful
-pub mod Demand3
+pub mod MovedLists
 pub mod Pairs
 pub mod Longest
 pub mod Nearest
@@ -16,7 +16,7 @@ pub mod ExplainCases
 pub mod ManualWritten
 pub mod ManualFaults
 pub mod ManualCall
-pub mod ManualDemand3
+pub mod ManualMovedLists
 pub mod ManualRefusals
 pub mod ManualLists
 pub mod ManualExamples

@@ -12,7 +12,7 @@ AtMostALine =
     (z : Sizes) (e : Encoder) (most : ℕ) → Lawful z e most → (s : Text) (b : ℕ) (l : List Place) → assemble_by z e b s ≡ accepted l
     → (length l ≤ most * length (cut_at 10 s)) × (length (cut_at 10 s) ≤ max_lines)
 
--- 01's has at most two, and so at most 8,192 places
+-- the stations' has at most two, and so at most 8,192 places
 unfoldable pub AtMostTwoALine : Type 0
 AtMostTwoALine =
     (s : Text) (b : ℕ) (l : List Place) → assemble b s ≡ accepted l

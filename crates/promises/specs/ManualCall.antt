@@ -1,4 +1,4 @@
--- 02's W-207, the manual's own words: an instruction's size, how many words there are, and that size and words are lawful. Assumes nothing.
+-- The manual's call: an instruction's size, how many words there are, and that size and words are lawful. Assumes nothing.
 use Rattle.std.specs.Prelude.{ℕ, ◌*◌, ◌≤◌, ◌≡◌, List, length, None, Some}
 use Rattle.rules.specs.Limits.{max_lines}
 use Rattle.rules.specs.Text.{Text, cut_at}
@@ -21,7 +21,7 @@ pub record SizeIsLength : Type 0 where
 unfoldable pub ThreeWords : Type 0
 ThreeWords = (i : Instruction) → manual_size i ≤ 2 * 3
 
--- so demand 3 asks no more of them than they have
+-- so the promises of moving ask no more of them than they have
 unfoldable pub ManualIsLawful : Type 0
 ManualIsLawful = Lawful manual_size manual_encode 3
 

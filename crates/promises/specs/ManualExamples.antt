@@ -1,4 +1,4 @@
--- 02's W-207 and W-208 by example: sources of the manual's call with the refusal or the list that they have. Assumes nothing.
+-- The manual's call by example: sources of the manual's call with the refusal or the list that they have. Assumes nothing.
 use Rattle.std.specs.Prelude.{ℕ, ◌≡◌, List, [], ◌∷◌, map}
 use Rattle.rules.specs.Text.{Text, bytes}
 use Rattle.rules.specs.Answer.{Answer, accepted, refused}
@@ -47,7 +47,7 @@ ranges =
     ∷ gives (bytes "BRA +127\nBRA -128") (place 0 0x607F 0 ∷ place 2 0x6080 0 ∷ [])
     ∷ gives (bytes "DBRA D7,-1\nDBRA D0,+0") (place 0 0x51CF 0 ∷ place 2 0xFFFF 0 ∷ place 4 0x51C8 0 ∷ place 6 0x0000 0 ∷ []) ∷ []
 
--- W-208: -1 is out of range for a branch, of a label and as written, -2 is not; 01's fall-through; DBRA keeps -1
+-- -1 is out of range for a branch, of a label and as written, -2 is not; the fall-through of the stations' call; DBRA keeps -1
 unfoldable pub minus_one : List Example
 minus_one =
     fails 15 1 (bytes "BRA X\nORG 1\nX:") ∷ fails 15 1 (bytes "BRA -1")
@@ -64,7 +64,7 @@ lines =
     ∷ gives (bytes "NOP ,\nBRA -2,") (place 0 0x4E71 0 ∷ place 2 0x60FE 0 ∷ [])
     ∷ gives (bytes "$10:JMP $10") (place 0 0x4EF9 0 ∷ place 2 0x0000 0 ∷ place 4 0x0010 0 ∷ []) ∷ []
 
--- the words that 01's call does not have, at base $12340, and those that it has
+-- the words that the stations' call does not have, at base $12340, and those that it has
 unfoldable pub words : Example
 words =
     record {

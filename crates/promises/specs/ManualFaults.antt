@@ -1,4 +1,4 @@
--- 02's W-207, the manual's own words: which instruction is refused by 14 and which by 15, said of its text, the labels and plain integers.
+-- The manual's call: which instruction is refused by 14 and which by 15, said of its text, the labels and plain integers.
 -- Assumes nothing.
 use Rattle.std.specs.Prelude.{ℕ, ◌<◌, ◌≡◌, ◌↔◌, List, [], ◌∷◌, ℤ, Option, None, Some}
 use Rattle.rules.specs.Text.{Text, bytes}
@@ -9,7 +9,7 @@ use Rattle.rules.specs.Forms.{text}
 use Rattle.manual.specs.Manual.{InWord, Condition, Instruction}
 use Rattle.requests.specs.ManualCall.{manual_encode, manual_fault}
 use Rattle.promises.specs.Explain.{IsKind}
-use Rattle.promises.specs.Demand2Manual.{D}
+use Rattle.promises.specs.ListedForms.{D}
 use Rattle.promises.specs.ManualWritten.{SignedNumber, Reaches, InBranch, branch_named, WrittenHere}
 
 -- the text s gives the displacement d at address a: "of a recorded label or a signed number"

@@ -1,5 +1,5 @@
--- 02's W-207, the manual's own words: in the list of every accepted source each instruction line has the manual's words of the instruction
--- that it says, from its address on and in its place, with 02's marks. Assumes nothing.
+-- The manual's call: in the list of every accepted source each instruction line has the manual's words of the instruction
+-- that it says, from its address on and in its place, with the rules' marks. Assumes nothing.
 use Rattle.std.specs.Prelude.{ℕ, ◌+◌, ◌≡◌, List, [], ◌∷◌, ◌++◌}
 use Rattle.rules.specs.Text.{Text}
 use Rattle.rules.specs.Line.{Instruction as Said, instruction, line_of}
@@ -8,8 +8,8 @@ use Rattle.rules.specs.Assemble.{Pass, Place, pass_at_by}
 use Rattle.manual.specs.Manual.{Instruction, manual_words}
 use Rattle.requests.specs.ManualCall.{manual_size, manual_encode}
 use Rattle.requests.specs.ManualAssemble.{assemble_manual}
-use Rattle.promises.specs.Demand1.{IsLine, Reached}
-use Rattle.promises.specs.Demand2Manual.{words_before, words_after}
+use Rattle.promises.specs.Refusals.{IsLine, Reached}
+use Rattle.promises.specs.ListedForms.{words_before, words_after}
 use Rattle.promises.specs.ManualWritten.{WrittenHere}
 
 -- words at a, a + 2 and so on, each with its mark

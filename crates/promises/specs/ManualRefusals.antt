@@ -1,5 +1,5 @@
--- Demand 1 for the manual's call, 02's W-207: which calls are refused, with which number and place and in which order, and what a call
--- writes. 1 to 6 are Demand1's with this call's sizes; 14 and 15 are said in ManualFaults. Assumes nothing.
+-- Refusals of the manual's call: which calls are refused, with which number and place and in which order, and what a call
+-- writes. 1 to 6 are Refusals's with this call's sizes; 14 and 15 are said in ManualFaults. Assumes nothing.
 use Rattle.std.specs.Prelude.{ℕ, suc, ◌≡◌, List, [], ◌∷◌, length}
 use Rattle.rules.specs.Text.{Text}
 use Rattle.rules.specs.Line.{Instruction, instruction, line_of}
@@ -10,7 +10,7 @@ use Rattle.rules.specs.Tally.{held}
 use Rattle.requests.specs.ManualCall.{manual_size}
 use Rattle.requests.specs.ManualAssemble.{assemble_manual, manual_answer, manual_slices}
 use Rattle.promises.specs.Stages.{Stage, all, by_line, RefusesExactly}
-use Rattle.promises.specs.Demand1.{IsLine, Reached, PassCondition, Shorter, SamePast}
+use Rattle.promises.specs.Refusals.{IsLine, Reached, PassCondition, Shorter, SamePast}
 use Rattle.promises.specs.ManualFaults.{NoEncoding, OutOfRange}
 
 -- the line after the first j ones is read at address a and is the instruction i; ls are the labels that the source records (`FoundIsLast`)

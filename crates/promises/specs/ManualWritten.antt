@@ -1,4 +1,4 @@
--- 02's W-207, the manual's own words: the forms as they are written, each with its instruction of the manual and the marks of its words,
+-- The manual's call: the forms as they are written, each with its instruction of the manual and the marks of its words,
 -- said of the text and apart from how it is read; and that these have their words, and nothing else has. Assumes nothing.
 use Rattle.std.specs.Prelude.{ℕ, ◌+◌, ◌^◌, ◌≤◌, ◌<◌, ◌≡◌, ◌≢◌, List, [], ◌∷◌, map, ℤ, pos, negsuc, neg_ℤ, ◌+ℤ◌, Option, None, Some}
 use Rattle.rules.specs.Text.{Text, bytes}
@@ -12,7 +12,7 @@ use Rattle.manual.specs.Manual.{InByte, InWord, Layout, word, long, direct, indi
 use Rattle.requests.specs.ManualCall.{manual_encode}
 use Rattle.promises.specs.Readings.{BadDigit, worth, Means32, Means16, Means8}
 use Rattle.promises.specs.Explain.{behind_hash, IsKind, Numeric}
-use Rattle.promises.specs.Demand2Manual.{D, at_a, L, W, Words}
+use Rattle.promises.specs.ListedForms.{D, at_a, L, W, Words}
 
 -- ---- operands
 -- An as a text
@@ -30,7 +30,7 @@ pub record Reaches (ls : Table) (a : ℕ) (s : Text) (d : ℤ) : Type 0 where
   pub found : find s ls ≡ Some target
   pub leads : pos (a + 2) +ℤ d ≡ pos target
 
--- "The eleven branches use the byte form, and a displacement of 0 is out of range for them", by W-208 −1 too; "DBRA has its 16-bit displacement"
+-- "The eleven branches use the byte form, and a displacement of 0 is out of range for them", and so is −1; "DBRA has its 16-bit displacement"
 abbrev pub InBranch : ℤ → Type 0
 InBranch d = InByte d × (d ≢ pos 0) × (d ≢ negsuc 0)
 
@@ -69,7 +69,7 @@ pub data WrittenHere (ls : Table) (a : ℕ) : Text → Option Text → List Text
   load : {n m : ℕ} → n < 8 → m < 8 → WrittenHere ls a (bytes "MOVE") L (at_a n ∷ D m ∷ []) (MOVE long (indirect n) (direct m)) (0 ∷ [])
   store : {n m : ℕ} → n < 8 → m < 8 → WrittenHere ls a (bytes "MOVE") L (D n ∷ at_a m ∷ []) (MOVE long (direct n) (indirect m)) (0 ∷ [])
   copy : {n m : ℕ} → n < 8 → m < 8 → WrittenHere ls a (bytes "MOVE") W (D n ∷ D m ∷ []) (MOVE word (direct n) (direct m)) (0 ∷ [])
-  -- "MOVE to and from a label and JMP use the absolute long form"; "Only other text (W-205), or what follows MOVEA's `#`, names a label."
+  -- "MOVE to and from a label and JMP use the absolute long form"; "Only other text, or what follows MOVEA's `#`, names a label."
   load_label : {l : Text} {x n : ℕ} → IsKind l text → find l ls ≡ Some x → n < 8
       → WrittenHere ls a (bytes "MOVE") L (l ∷ D n ∷ []) (MOVE long (absolute x) (direct n)) (0 ∷ 2 ∷ 3 ∷ [])
   store_label : {l : Text} {x n : ℕ} → IsKind l text → find l ls ≡ Some x → n < 8
@@ -108,7 +108,7 @@ pub record HasWords (a : ℕ) (cs : List Content) (ins : Instruction) (ms : List
   pub words : map (λ p. p.word) (places_at a cs) ≡ manual_words ins
   pub marks : map (λ p. p.mark) (places_at a cs) ≡ ms
 
--- "for the operand forms of 01" it "gives the manual's encoding": no form is left out
+-- for all these operand forms it "gives the manual's encoding": no form is left out
 pub record Encoded (ls : Table) (a : ℕ) (i : Said) (ins : Instruction) (ms : List ℕ) : Type 0 where
   pub contents : List Content
   pub emits : manual_encode ls a i ≡ Some contents

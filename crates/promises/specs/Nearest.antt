@@ -1,4 +1,4 @@
--- W-201, "Which label is this near?": the answer by the records that the lines make, apart from the table of labels and the search
+-- "Which label is this near?": the answer by the records that the lines make, apart from the table of labels and the search
 -- in it; its refusals; and that it moves with the base. Assumes nothing.
 use Rattle.std.specs.Prelude.{ℕ, zero, suc, ◌+◌, ◌<◌, ◌≤◌, ◌≡◌, ◌↔◌, List, [], ◌∷◌, ◌++◌, length, take, drop, Some}
 use Rattle.rules.specs.Text.{Text, cut_at}
@@ -8,7 +8,7 @@ use Rattle.rules.specs.Label.{find}
 use Rattle.rules.specs.Assemble.{Sizes, Pass, pass_at_by, pass_at}
 use Rattle.requests.specs.Nearest.{Nearest, nearest}
 use Rattle.promises.specs.Stages.{Stage, all, RefusesExactly}
-use Rattle.promises.specs.Demand1.{IsLine, Reached, PassCondition, passing}
+use Rattle.promises.specs.Refusals.{IsLine, Reached, PassCondition, passing}
 
 -- x is one of the list
 pub data In {A : Type 0} (x : A) : List A → Type 0 where
@@ -41,7 +41,7 @@ FoundIsLast =
     (z : Sizes) (base : ℕ) (s : Text) (p : Pass) → pass_at_by z base s ≡ accepted p
     → (l : Text) (x : ℕ) → (find l p.labels ≡ Some x) ↔ RecordedAtBy z base s l x
 
--- with 01's sizes
+-- with the stations' sizes
 abbrev pub Records : ℕ → Text → Text → ℕ → ℕ → ℕ → Type 0
 Records base s n i k a = RecordsBy size base s n i k a
 

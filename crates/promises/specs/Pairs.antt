@@ -1,4 +1,4 @@
--- 02's W-207, the mover's part, for every list of well paired marks, whatever made it. Assumes nothing.
+-- The mover, for every list of well paired marks, whatever made it. Assumes nothing.
 use Rattle.std.specs.Prelude.{ℕ, zero, suc, ◌+◌, ◌*◌, ◌%◌, ◌^◌, ◌<◌, ◌≤◌, ◌≡◌, ◌≢◌, cond, List, [], ◌∷◌, map, ltb, eqb, length, get_or, ℤ, pos, negsuc, ◌+ℤ◌, nat_abs, None, Some, slice_get}
 use Rattle.rules.specs.Limits.{last_address, distance_limit}
 use Rattle.rules.specs.Number.{modulo}
@@ -7,13 +7,13 @@ use Rattle.rules.specs.Text.{Text}
 use Rattle.rules.specs.Assemble.{Sizes, Encoder, Place, Slices, short, assemble_by}
 use Rattle.rules.specs.Relocate.{far, outside, moved_address, first_index, first_bad_mark, move_words, move_answer, move_slices}
 use Rattle.rules.specs.Tally.{held, moves, tallied, tally, tally_list}
-use Rattle.promises.specs.Demand1.{BadMark, Congruent}
+use Rattle.promises.specs.Refusals.{BadMark, Congruent}
 use Rattle.promises.specs.Lawful.{Lawful}
-use Rattle.promises.specs.Demand3.{Call, last_total, last_list}
+use Rattle.promises.specs.MovedLists.{Call, last_total, last_list}
 
--- ---- 01's lists move as before
+-- ---- the stations' lists move as before there were pairs
 
--- 01's mover as it was before 02: a place, the words, and the answer with "10 a mark not 0 or 1"
+-- the mover as it was before there were pairs: a place, the words, and the answer with "10 a mark not 0 or 1"
 unfoldable pub place_before : ℤ → Place → Place
 place_before d p =
     record {

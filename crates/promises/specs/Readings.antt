@@ -1,4 +1,4 @@
--- W-204, "Number reading says what failed": what each of the reader's four answers means, said of the text's bytes and by plain sums,
+-- "Number reading says what failed": what each of the reader's four answers means, said of the text's bytes and by plain sums,
 -- apart from the reader and for each type of number; what a line's number has to do with its task; and examples. Assumes nothing.
 use Rattle.std.specs.Prelude.{ℕ, ◌+◌, ◌*◌, ◌^◌, ◌<◌, ◌≤◌, ◌≡◌, ◌≢◌, ◌↔◌, Bool, true, false, ◌||◌, List, [], ◌∷◌, ◌++◌, map, length, get_or, ℤ, pos, negsuc, neg_ℤ, Option, None, Some}
 use Rattle.rules.specs.Text.{Text, bytes, starts}

@@ -1,4 +1,4 @@
--- W-214, "One sheet for a plant": of which class a line is, by its text and by the list; what a source adds to the totals; refusals 20 and
+-- "One sheet for a plant": of which class a line is, by its text and by the list; what a source adds to the totals; refusals 20 and
 -- 21; that the classes add up to the lines, and the sheets of a series' parts to that of the series, in any order. Assumes nothing.
 use Rattle.std.specs.Prelude.{ℕ, suc, ◌+◌, ◌^◌, ◌<◌, ◌≤◌, ◌≡◌, ◌≢◌, true, List, [], ◌∷◌, ◌++◌, length, Some, slice_get}
 use Rattle.rules.specs.Text.{Text, bytes, uppers, trim, starts, contains}
@@ -9,7 +9,7 @@ use Rattle.rules.specs.Answer.{accepted, refused, and_then}
 use Rattle.rules.specs.Assemble.{Pass, Place, pass_at, assemble}
 use Rattle.requests.specs.Sheet.{Class, skip, origin, bare_label, datum, emitting, wordless, ending, Totals, totals, no_totals, add_source, add_sheet, plant_sheet}
 use Rattle.promises.specs.Stages.{Stage, all, RefusesExactly}
-use Rattle.promises.specs.Demand1.{line_count, IsLine, PassCondition}
+use Rattle.promises.specs.Refusals.{line_count, IsLine, PassCondition}
 use Rattle.promises.specs.Nearest.{In}
 use Rattle.promises.specs.Symbols.{IsSymbols}
 use Rattle.promises.specs.Explain.{PutsWords, PutsNone}

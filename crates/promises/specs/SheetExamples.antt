@@ -1,4 +1,4 @@
--- W-214's odd lines and limits, as tables of totals, sources and answers; and P1's script, alone and in a series. Assumes nothing.
+-- The sheet's odd lines and limits, as tables of totals, sources and answers; and the bezel's script, alone and in a series. Assumes nothing.
 use Rattle.std.specs.Prelude.{ℕ, ◌+◌, ◌^◌, ◌≡◌, List, [], ◌∷◌, map}
 use Rattle.rules.specs.Text.{Text, bytes}
 use Rattle.rules.specs.Answer.{Answer, accepted, refused}

@@ -34,7 +34,7 @@ pub data CheckedBefore (m q n p : ℕ) : List Stage → Type 0 where
   on_line : {ns : List ℕ} {ss : List Stage} → Ahead m n ns → q ≡ p → CheckedBefore m q n p (by_line ns ∷ ss)
   further_on : {s : Stage} {ss : List Stage} → CheckedBefore m q n p ss → CheckedBefore m q n p (s ∷ ss)
 
--- "condition n of 01 holds, at that place, and none that 01 checks before it"
+-- condition n holds, "at that place, and none that" is checked "before it"
 abbrev pub FirstOf : List Stage → (ℕ → ℕ → Type 0) → ℕ → ℕ → Type 0
 FirstOf stages Condition n p = Condition n p × ((m q : ℕ) → CheckedBefore m q n p stages → ¬ Condition m q)
 

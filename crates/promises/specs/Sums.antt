@@ -1,4 +1,4 @@
--- W-211, "Sums in DC": which texts are sums, by a grammar; what a sum is worth, by arithmetic in whole numbers; and that a text's reading
+-- "Sums in DC": which texts are sums, by a grammar; what a sum is worth, by arithmetic in whole numbers; and that a text's reading
 -- is what these two say, apart from the reader and its steps; and examples. Assumes nothing.
 use Rattle.std.specs.Prelude.{ℕ, suc, ◌^◌, ◌<◌, ◌≤◌, max, ◌≡◌, ◌≢◌, true, false, List, [], ◌∷◌, ◌++◌, ℤ, pos, ◌+ℤ◌, ◌-ℤ◌, ◌*ℤ◌, Option, None, Some}
 use Rattle.rules.specs.Text.{Text, bytes, starts}
@@ -62,14 +62,14 @@ InRange (sum a b) = InRange a × InRange b × Fits (whole_value (sum a b))
 InRange (difference a b) = InRange a × InRange b × Fits (whole_value (difference a b))
 InRange (product a b) = InRange a × InRange b × Fits (whole_value (product a b))
 
--- ---- a text's reading: "A malformed or deeper sum, or any step below 0 or above 2^32 − 1, yields no value; among W-204's answers the
+-- ---- a text's reading: "A malformed or deeper sum, or any step below 0 or above 2^32 − 1, yields no value; among the answers of a reading the
 -- first two are a bad digit, which comes before the last, too large or too small."
 pub data MeansSum (t : Text) : Reading ℕ → Type 0 where
   has_value : {a : Expression} {v : ℕ} → Derives t a → depth a ≤ 16 → InRange a → whole_value a ≡ pos v → MeansSum t (read v)
   leaves_range : {a : Expression} → Derives t a → depth a ≤ 16 → ¬ InRange a → MeansSum t (failed out_of_range)
   no_sum : ((a : Expression) → Derives t a → ¬ (depth a ≤ 16)) → MeansSum t (failed bad_digit)
 
--- ---- DC's value: "may be a sum in square brackets", and is one if its first byte is `[`; else it is a number, as W-204 has it
+-- ---- DC's value: "may be a sum in square brackets", and is one if its first byte is `[`; else it is a number
 pub data MeansValue (t : Text) (r : Reading ℕ) : Type 0 where
   bracket_first : starts (bytes "[") t ≡ true → MeansSum t r → MeansValue t r
   no_bracket_first : starts (bytes "[") t ≡ false → Means32 t r → MeansValue t r

@@ -1,4 +1,4 @@
--- W-202, "Symbols with their lines": the list by the records that the lines make, apart from the table of labels and how it is sorted;
+-- "Symbols with their lines": the list by the records that the lines make, apart from the table of labels and how it is sorted;
 -- its refusals; what a call writes into the four slices; and the bounds of what is listed. Assumes nothing.
 use Rattle.std.specs.Prelude.{ℕ, suc, ◌+◌, ◌<◌, ◌≤◌, ◌≡◌, ◌↔◌, List, [], ◌∷◌, map, length, take, drop, Some, slice_get}
 use Rattle.rules.specs.Limits.{max_lines, max_labels, address_limit}
@@ -8,7 +8,7 @@ use Rattle.rules.specs.Label.{Label}
 use Rattle.rules.specs.Answer.{accepted, refused}
 use Rattle.requests.specs.Symbols.{symbols, Rows, symbols_answer, symbols_rows}
 use Rattle.promises.specs.Stages.{RefusesExactly}
-use Rattle.promises.specs.Demand1.{IsLine, PassCondition, passing, assembling}
+use Rattle.promises.specs.Refusals.{IsLine, PassCondition, passing, assembling}
 use Rattle.promises.specs.Nearest.{In, start_after, Records, LastRecord}
 
 -- x is a list's entry i, from 0

@@ -1,4 +1,4 @@
--- W-212, "A tidy copy": line by line what the copy is, said from the line's text and apart from the tasks and the pieces by which the
+-- "A tidy copy": line by line what the copy is, said from the line's text and apart from the tasks and the pieces by which the
 -- definition goes; that it is read as the original and gives its list in every call; its own copy; its length; its refusals. Assumes nothing.
 use Rattle.std.specs.Prelude.{ℕ, ◌<◌, ◌≤◌, ◌≡◌, ◌≢◌, ◌↔◌, true, false, cond, List, [], ◌∷◌, ◌++◌, map, length, take, drop, eqb}
 use Rattle.rules.specs.Text.{Text, bytes, blank, uppers, trim, cut_at, pieces, uncut, around, first_cut, starts}
@@ -12,10 +12,10 @@ use Rattle.requests.specs.ManualAssemble.{assemble_manual}
 use Rattle.requests.specs.Branches.{assemble_under}
 use Rattle.requests.specs.Tidy.{tidy_line, tidy, tidy_answer, tidy_slice}
 use Rattle.promises.specs.Stages.{Stage, all, RefusesExactly}
-use Rattle.promises.specs.Demand1.{SourceCondition, checking, names_of}
+use Rattle.promises.specs.Refusals.{SourceCondition, checking, names_of}
 
 -- ---- which lines
--- 01's steps 1 to 3, by how a trimmed line starts: skipped, END, ORG, or a line that reaches step 4
+-- steps 1 to 3, by how a trimmed line starts: skipped, END, ORG, or a line that reaches step 4
 pub data Kind : Type 0 where
   skip fin origin step4 : Kind
 
@@ -101,8 +101,8 @@ CopyReadsAlike = (l : Text) → ReadsAlike l
 unfoldable pub ByFind : Encoder → Type 0
 ByFind e = (t u : Table) → ((n : Text) → find n t ≡ find n u) → (a : ℕ) (i : Instruction) → e t a i ≡ e u a i
 
--- "At every base where the original is accepted, the copy gives the same list": of whatever sizes and such an encoder; in 01's call, with
--- whatever mnemonics in use and under every branch table (W-210); and in the manual's call (W-207)
+-- "At every base where the original is accepted, the copy gives the same list": of whatever sizes and such an encoder; in the stations' call, with
+-- whatever mnemonics in use and under every branch table; and in the manual's call
 pub record CopyGivesList : Type 0 where
   pub by_find : (z : Sizes) (e : Encoder) → ByFind e → (base : ℕ) (s : Text) (l : List Place)
       → assemble_by z e base s ≡ accepted l → assemble_by z e base (tidy s) ≡ accepted l

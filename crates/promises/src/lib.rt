@@ -1,3 +1,3 @@
 #![tactic(auto)]
 
-//! The owner's demands about paper 01's definitions: what is promised stands in specs/, how it is proved in proofs/.
+//! The promises about the rules' definitions on which code stands: what is promised stands in specs/, how it is proved in proofs/.

@@ -1,4 +1,4 @@
--- Conditions 9 and 19 are those by which the bench refuses, in 02's order. Assumes nothing.
+-- Conditions 9 and 19 are those by which the bench refuses, in the rules' order. Assumes nothing.
 use Prim.Native.Nat.{ℕ, ◌%◌, ◌<◌, ◌≤◌}
 use mathlib.Core.Path.{◌≡◌, refl}
 use mathlib.Core.Bool.{Bool, true, false, not, ◌||◌}
@@ -11,10 +11,10 @@ use Rattle.rules.specs.Answer.{accepted}
 use Rattle.machine.specs.Machine.{Run, run_of}
 use Rattle.machine.specs.Bench.{short_list, misplaced, bench_answer, bench_of, state_at}
 use Rattle.promises.specs.Stages.{Checked}
-use Rattle.promises.specs.Demand1.{Lowest}
+use Rattle.promises.specs.Refusals.{Lowest}
 use Rattle.promises_bench.specs.BenchCall.{ListShorter, short_addresses, short_words, Misplaced, odd, above, BenchCondition, count_over, misplaced_at, benching, BenchRefusesExactly}
 use Rattle.promises.proofs.Compared.{clash}
-use Rattle.promises.proofs.Demand1Search.{none_found, search_finds}
+use Rattle.promises.proofs.RefusalsSearch.{none_found, search_finds}
 use Rattle.promises.proofs.Stages.{apart, are_apart, is_checked, checked_by, Runs, done, refuse_if_lem, refuse_at_lem, refuses_exactly, none_holds}
 use Rattle.promises.proofs.Accepted.{not_refused, not_refused_at}
 

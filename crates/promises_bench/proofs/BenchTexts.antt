@@ -14,7 +14,7 @@ use Rattle.rules.specs.Text.{Text, bytes, blank, upper, uppers, trim_start, keep
 use Rattle.rules.specs.Number.{Reading, read, digit_value, digits, some_digits, ranged, below, within, without, unsigned_reading, signed_reading, hex_tail, by_prefix, reading16, reading8, immediate, value_of, imm8, imm16}
 use Rattle.rules.specs.Line.{Instruction as Said, instruction, instruction_of, operands_of, is_data, rest_line, label_line, trimmed_line, line_of}
 use Rattle.rules.proofs.Readings.{ranged_value}
-use Rattle.promises.specs.Demand2Manual.{D, at_a, L, W}
+use Rattle.promises.specs.ListedForms.{D, at_a, L, W}
 
 -- ---- plain bytes: no blank, comma, dot or colon
 pub record Plain (b : ℕ) : Type 0 where

@@ -19,7 +19,7 @@ use Rattle.machine.specs.Form.{Valid, manual, listed, condition_at}
 use Rattle.machine.proofs.Inverse.{complete, inverse, halts, byte_back, word_same}
 use Rattle.machine.specs.declared.Form.{Form}
 use Rattle.machine.specs.declared.Form.TheVariants.{Nop, Moveq, MoveWord, Load, Store, Add, Sub, Cmp, Muls, MulsImmediate, Tst, Subq, Asl, Branch}
-use Rattle.promises.specs.Demand2Manual.{D, InReach, label, Branch as Branched, BRA, BCC, BCS, BNE, BEQ, BGE, BLT, BGT, BLE, condition_of, branch_name, Written, moveq, load, store, copy, muls_data, muls, add, sub, cmp, tst, subq, asl, nop, branch}
+use Rattle.promises.specs.ListedForms.{D, InReach, label, Branch as Branched, BRA, BCC, BCS, BNE, BEQ, BGE, BLT, BGT, BLE, condition_of, branch_name, Written, moveq, load, store, copy, muls_data, muls, add, sub, cmp, tst, subq, asl, nop, branch}
 use Rattle.promises_bench.specs.BenchWords.{DecodesExactly, HaltsExactly, RunsAs, Said, LinesRun, WordsHaveLines}
 use Rattle.promises.proofs.ManualLaws.{imm8_byte, bytes_read_back, displaced_byte}
 use Rattle.promises.proofs.ManualForms.{every_form_has_a_line, branch_lines}

@@ -5,7 +5,7 @@ use Rattle.rules.specs.Answer.{accepted, refused}
 use Rattle.machine.specs.Machine.{State, Run}
 use Rattle.machine.specs.Bench.{fill_of, bench_of, registers_after, memory_after}
 use Rattle.promises.specs.Stages.{Stage, all, RefusesExactly}
-use Rattle.promises.specs.Demand1.{Lowest}
+use Rattle.promises.specs.Refusals.{Lowest}
 use Rattle.promises_bench.specs.BenchRuns.{IsRun}
 
 -- the address of each of the first n entries is even and has room for a word

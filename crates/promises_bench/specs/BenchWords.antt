@@ -8,7 +8,7 @@ use Rattle.machine.specs.Form.{Valid, word_of, manual}
 use Rattle.machine.specs.Decode.{decode_of}
 use Rattle.machine.specs.declared.Form.{Form}
 use Rattle.machine.specs.declared.Decoded.TheVariants.{Is, Halt}
-use Rattle.promises.specs.Demand2Manual.{LineSays, emitted, marked_zero}
+use Rattle.promises.specs.ListedForms.{LineSays, emitted, marked_zero}
 
 -- a word is a form's exactly if it is the form's word by the manual's fields, so no other word runs; and $4E72 alone is the halt
 unfoldable pub DecodesExactly : Type 0

@@ -11,7 +11,7 @@ use Rattle.rules.specs.Label.{Table}
 use Rattle.rules.specs.Answer.{refused, and_then}
 use Rattle.rules.specs.Assemble.{Sizes, Pass}
 use Rattle.requests.specs.Nearest.{nearest_in, told_nearest, nearest}
-use Rattle.promises.specs.Demand1.{next_address, Reached, start, further}
+use Rattle.promises.specs.Refusals.{next_address, Reached, start, further}
 use Rattle.promises.specs.Lawful.{shift_label, shift_table, shift_pass}
 use Rattle.promises.specs.Nearest.{records, NearestMoves}
 use Rattle.promises.proofs.Nearest.{pass_at_lem, nearest_moves}

@@ -13,7 +13,7 @@ use Rattle.rules.specs.Label.{find, recorded, has_room, record_all}
 use Rattle.rules.specs.Answer.{accepted, refuse_if, refuse_at, and_then}
 use Rattle.rules.specs.Assemble.{Pass, address_after, is_end, leaving, step_by, putting, first_pass_by, first_high, checks, pass_at_by, pass_at}
 use Rattle.manual.specs.Manual.{Condition, T, CC, CS, NE, EQ, PL, MI, GE, LT, GT, LE}
-use Rattle.promises.specs.Demand1.{IsLine, start}
+use Rattle.promises.specs.Refusals.{IsLine, start}
 use Rattle.promises.specs.Nearest.{FoundIsLast, RecordedAtBy}
 use Rattle.promises.specs.Readings.{Means, MeansWritten, Signed}
 use Rattle.promises.specs.ManualWritten.{branch_named}

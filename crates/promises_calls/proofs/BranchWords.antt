@@ -16,10 +16,10 @@ use Rattle.rules.specs.Encode.{literal, branch, Mnemonic, branches, other_mnemon
 use Rattle.rules.specs.Answer.{accepted, and_then}
 use Rattle.rules.specs.Assemble.{Encoder, Pass, Place, code_contents_by, code_places_by, second_pass_by, pass_at, assemble_by}
 use Rattle.manual.specs.Manual.{InByte, byte, sign_of, Condition, T, CC, CS, NE, EQ, PL, MI, GE, LT, GT, LE}
-use Rattle.promises.specs.Demand1.{IsLine, Reached}
+use Rattle.promises.specs.Refusals.{IsLine, Reached}
 use Rattle.promises.specs.Nearest.{FoundIsLast}
 use Rattle.promises.specs.Readings.{Signed, Means, MeansWritten}
-use Rattle.promises.specs.Demand2Manual.{Displaced, label, signed_number, marked_zero, words_before, words_after}
+use Rattle.promises.specs.ListedForms.{Displaced, label, signed_number, marked_zero, words_before, words_after}
 use Rattle.promises.specs.ManualWritten.{branch_named}
 use Rattle.promises.specs.BranchCalls.{ListsUnder}
 use Rattle.promises.proofs.Compared.{clash}

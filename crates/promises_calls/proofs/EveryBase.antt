@@ -22,16 +22,16 @@ use Rattle.requests.specs.ManualCall.{branched, heads, same_suffix, head_in, oth
 use Rattle.requests.specs.ManualAssemble.{assemble_manual}
 use Rattle.requests.specs.Branches as Table
 use Rattle.requests.specs.Branches.{is_row, four_of, condition_of, keep_name, unpadded, broken, any_lower, earlier, misnamed, check_from, checked, row_of, rows_from, rows, loaded}
-use Rattle.promises.specs.Demand1.{IsLine, start}
+use Rattle.promises.specs.Refusals.{IsLine, start}
 use Rattle.promises.specs.Nearest.{head, FoundIsLast}
-use Rattle.promises.specs.ManualDemand3.{FaultsAtEveryBase}
+use Rattle.promises.specs.ManualMovedLists.{FaultsAtEveryBase}
 use Rattle.promises.specs.ManualWritten.{branch_named}
 use Rattle.promises.specs.Branches.{Accepted, LoadAcceptsExactly}
 use Rattle.promises.specs.BranchCalls.{ListsUnder}
 use Rattle.promises.specs.Lands.{Aims, Accepts, back, back_said, loop, loop_said}
 use Rattle.promises.proofs.Compared.{clash}
 use Rattle.promises.proofs.Records.{found_is_last}
-use Rattle.promises.proofs.ManualDemand3.{faults_at_every_base}
+use Rattle.promises.proofs.ManualMovedLists.{faults_at_every_base}
 use Rattle.promises.proofs.Branches.{load_accepts_exactly}
 use Rattle.promises.proofs.BranchCalls.{lists_under}
 use Rattle.promises.proofs.LandsExamples.{every_branch_is_asked}

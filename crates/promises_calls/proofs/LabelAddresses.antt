@@ -9,12 +9,12 @@ use Rattle.rules.specs.Line.{line_of}
 use Rattle.rules.specs.Answer.{accepted}
 use Rattle.rules.specs.Assemble.{Sizes, Pass, pass_at_by}
 use Rattle.requests.specs.ManualCall.{manual_size}
-use Rattle.promises.specs.Demand1.{next_address, Reached, start, further, PassCondition, base_over, address_over, passing}
+use Rattle.promises.specs.Refusals.{next_address, Reached, start, further, PassCondition, base_over, address_over, passing}
 use Rattle.promises.specs.Nearest.{RecordsBy, records, RecordedAtBy, recorded_at, FoundIsLast}
 use Rattle.promises.specs.ManualWritten.{Addresses32, NoFormLeftOut, WordsAreTheManuals, FieldsHoldHere}
 use Rattle.promises.proofs.Compared.{Compared, less, more, equal, compared}
 use Rattle.promises.proofs.Stages.{apart, are_apart, none_holds}
-use Rattle.promises.proofs.Demand1Assemble.{pass_known, pass_answered}
+use Rattle.promises.proofs.RefusalsAssemble.{pass_known, pass_answered}
 use Rattle.promises.proofs.Records.{found_is_last}
 use Rattle.promises.proofs.ManualWords.{no_form_left_out, words_are_the_manuals, fields_hold_here}
 use Rattle.promises_calls.specs.LabelAddresses.{LabelsAreLow, SourcesHaveForms}

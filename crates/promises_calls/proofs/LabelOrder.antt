@@ -14,14 +14,14 @@ use Rattle.rules.specs.Label.{Label, Table, find, recorded, has_room, label_of, 
 use Rattle.rules.specs.Answer.{Answer, accepted, refused, and_then}
 use Rattle.rules.specs.Assemble.{Sizes, Pass, address_after, putting, first_pass_by, pass_at_by}
 use Rattle.rules.proofs.Names.{Rising, over, next, names_rise}
-use Rattle.promises.specs.Demand1.{IsLine, names_of, on_top, Reached, start, further}
+use Rattle.promises.specs.Refusals.{IsLine, names_of, on_top, Reached, start, further}
 use Rattle.promises.specs.Nearest.{In, head, tail, start_after, records}
 use Rattle.promises.proofs.Compared.{clash, Compared, less, more, equal, compared}
 use Rattle.promises.proofs.Accepted.{not_refused, checks_passed}
 use Rattle.promises.proofs.Tasks.{next_address_lem, pass_line}
 use Rattle.promises.proofs.Shapes.{end_unlabelled}
-use Rattle.promises.proofs.Demand1Lines.{line_at, no_line}
-use Rattle.promises.proofs.Demand1Passes.{reached_once, not_end}
+use Rattle.promises.proofs.RefusalsLines.{line_at, no_line}
+use Rattle.promises.proofs.RefusalsPasses.{reached_once, not_end}
 use Rattle.promises.proofs.Same.{same_eq}
 use Rattle.promises.proofs.Kept.{not_same, mapped, map_in}
 use Rattle.promises.proofs.Records.{Apart, apart, Made}
@@ -38,7 +38,7 @@ record First (P : Label → Type 0) (n : Text) (x : Label) : Type 0 where
   named : x.name ≡ n
   first : {y : Label} → P y → y.name ≡ n → x.start ≤ y.start
 
--- the labels of a table have first records that start from c on, each behind the one before
+-- the labels of a table have first records that start from c on, each after the one before
 data Rise (P : Label → Type 0) : ℕ → Table → Type 0 where
   no_label : {c : ℕ} → Rise P c []
   ranked_on : {c : ℕ} {l : Label} {t : Table} (x : Label) → First P l.name x → c ≤ x.start → Rise P (suc x.start) t → Rise P c (l ∷ t)
@@ -62,7 +62,7 @@ module _ (P Q : Label → Type 0) (f : (x : Label) → P x → Q x) (g : (x : La
   ranks_by : {b c : ℕ} {t : Table} → b ≤ c → Ranks P b t → Ranks Q c t
   ranks_by l k = record { rise = rise_by k.rise; covers = λ {x} q. k.covers (g x q); below = λ {x} q. let h = k.below (g x q) in omega arith }
 
--- one more record, x, which starts behind all others
+-- one more record, x, which starts after all others
 module _ (P : Label → Type 0) (b : ℕ) (x : Label) (l : b ≤ x.start) (low : (y : Label) → P y → y.start < b) where
   abbrev Q : Label → Type 0
   Q y = P y ⊎ (y ≡ x)

@@ -16,7 +16,7 @@ use Rattle.text.proofs.Until.{cut_here, cut_later}
 use Rattle.text.proofs.Trim.{keep_end_none, trim_end_none}
 use Rattle.text.proofs.Pieces.{pieces_trim}
 use Rattle.tidylaws.proofs.Cuts.{cut_around}
-use Rattle.promises.specs.Demand1.{IsLine}
+use Rattle.promises.specs.Refusals.{IsLine}
 use Rattle.promises.specs.Nearest.{In, start_after, RecordsBy, records}
 use Rattle.promises.proofs.Decided.{Decided, yes, no, decided_true, decided_false}
 use Rattle.promises_calls.specs.Directives.{Each, no_bytes, next_byte, Blanks, Solid, NoColon, Bare, bare_empty, bare_one, bare_more, Trims, Colon, Pieces, piece, Begins, Holds, Skipped, Fourth, NoLabel, no_piece, one_piece, starts_dc, starts_ds}

@@ -19,18 +19,18 @@ use Rattle.rules.specs.Tally.{moved_place, tally_list, tallied}
 use Rattle.requests.specs.Explain.{Verdict, emitted, because, why_task, explain_by}
 use Rattle.requests.specs.ManualCall.{manual_size, manual_encode}
 use Rattle.requests.specs.ManualAssemble.{assemble_manual}
-use Rattle.promises.specs.Demand1.{IsLine, Reached, start, further}
-use Rattle.promises.specs.Demand2Manual.{marked_zero, words_before, words_after}
+use Rattle.promises.specs.Refusals.{IsLine, Reached, start, further}
+use Rattle.promises.specs.ListedForms.{marked_zero, words_before, words_after}
 use Rattle.promises.specs.Nearest.{FoundIsLast}
 use Rattle.promises.specs.Explain.{RecordedAt, Right, words, reason, ExplainsExactly}
 use Rattle.promises.specs.Lawful.{RulesAreLawful}
-use Rattle.promises.specs.Demand3.{last_total}
+use Rattle.promises.specs.MovedLists.{last_total}
 use Rattle.promises.specs.Lands.{Landed, LandsMoved, BranchesLand, BranchesLandBy, ManualBranchesLand, LoopsLand}
 use Rattle.promises.specs.BranchCalls.{ListsUnder, BranchesLandUnder}
 use Rattle.promises.proofs.Compared.{clash}
 use Rattle.promises.proofs.Accepted.{not_refused, checks_passed}
 use Rattle.promises.proofs.Tasks.{is_end_lem, not_end}
-use Rattle.promises.proofs.Demand1Lines.{line_at}
+use Rattle.promises.proofs.RefusalsLines.{line_at}
 use Rattle.promises.proofs.Asked.{asked, put_at_lem, ended, over}
 use Rattle.promises.proofs.Records.{found_is_last}
 use Rattle.promises.proofs.LineVerdicts.{contents, Told, worded, reasoned, task_told}
@@ -39,7 +39,7 @@ use Rattle.promises.proofs.Explain.{explains_exactly}
 use Rattle.promises.proofs.Lawful.{rules_are_lawful}
 use Rattle.promises.proofs.ManualLists.{cut, line_encoded}
 use Rattle.promises.proofs.ManualCall.{size_is_length}
-use Rattle.promises.proofs.ManualDemand3.{plain}
+use Rattle.promises.proofs.ManualMovedLists.{plain}
 use Rattle.promises.proofs.Lands.{branches_land, branches_land_by, manual_branches_land, loops_land}
 use Rattle.promises.proofs.BranchCalls.{lists_under}
 use Rattle.promises.proofs.BranchLands.{branches_land_under}
@@ -48,7 +48,7 @@ use Rattle.promises.proofs.Fit.{listed}
 use Rattle.promises.proofs.Twice.{Reached as Moved, inside_reached}
 use Rattle.promises.proofs.Paired.{grouped_good}
 use Rattle.promises.proofs.Moves.{last_total_inside, last_list_is}
-use Rattle.promises.proofs.Demand3.{sixteen, low}
+use Rattle.promises.proofs.MovedLists.{sixteen, low}
 use Rattle.promises_calls.specs.BranchWords.{Worded, BranchesSay, BranchesSayBy, BranchesSayUnder}
 use Rattle.promises_calls.proofs.BranchWords.{branches_say, branches_say_by, branches_say_under}
 use Rattle.promises_calls.specs.Landing.{OneSays, one_says, SayingBranchesStand, SayingBranchesStandBy, SayingBranchesStandUnder, BranchesStandBy, Consecutive, no_place, next_place, DataPlaces, two_words, without_value, CodePlaces, its_words, no_instruction, LinePlaces, past_all, ends_here, a_line, together, MakesBy, makes_words, makes_none, MakesSize, makes_size, StandsInTurn, BranchesStand, BranchesStandUnder, ManualBranchesStand, LoopsStand}
@@ -191,7 +191,7 @@ called z e base s l h = go (pass_at_by z base s) refl h
     go (accepted p) f k = record { pass = p; passes = f; made = cc }
     go (refused n q) f k = clash cc
 
--- ---- 01's call
+-- ---- the stations' call
 module _ (names : List Mnemonic) (base : ℕ) (s : Text) (p : Pass) (h : pass_at base s ≡ accepted p) where
   ran : first_pass_by size base base [] (lines_of s) ≡ accepted p
   unfolding pass_at_by

@@ -13,7 +13,7 @@ use Rattle.rules.proofs.Standing.{at_within}
 use Rattle.rules.proofs.Names.{Rising, over, next, names_rise, names_few}
 use Rattle.promises.specs.Nearest.{In, head, tail, start_after, RecordsBy}
 use Rattle.promises.proofs.Compared.{clash, Compared, less, more, equal, compared}
-use Rattle.promises.proofs.Demand1Passes.{reached_once}
+use Rattle.promises.proofs.RefusalsPasses.{reached_once}
 use Rattle.promises.proofs.Records.{Apart, apart}
 use Rattle.promises_calls.specs.NamesApart.{PartedRecords, one_record, ends_in_front, ends_after, TwoStarts, two_first, two_outer, two_last, NamesApart}
 

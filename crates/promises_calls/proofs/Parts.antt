@@ -75,7 +75,7 @@ front_of (b ∷ s) = go (blank b) refl (front_of s)
     go true e q = record { front = b ∷ q.front; rest = q.rest; cut = ap (λ (x : Text). b ∷ x) q.cut; blanks = next_byte e q.blanks; stays = q.stays }
     go false e q = record { front = []; rest = b ∷ s; cut = refl; blanks = no_bytes; stays = led e }
 
--- and at the end, behind a last one
+-- and at the end, after a last one
 data Last (t : Text) : Type 0 where
   last_none : t ≡ [] → Last t
   last_some : (s : Text) (c : ℕ) → t ≡ s ++ (c ∷ []) → blank c ≡ false → Last t

@@ -6,9 +6,9 @@ use native.Mathlib.Omega.{arith}
 use lib.ListN.{get_or}
 use Rattle.rules.specs.Assemble.{Slices}
 use Rattle.rules.specs.Relocate.{move_answer, move_by, move_slices}
-use Rattle.promises.specs.Demand1.{SamePast, MoveWrites}
+use Rattle.promises.specs.Refusals.{SamePast, MoveWrites}
 use Rattle.promises.specs.Pairs.{answer_before}
-use Rattle.promises.proofs.Demand1.{accepted_writes}
+use Rattle.promises.proofs.Refusals.{accepted_writes}
 use Rattle.promises.proofs.Pairs.{moves_as_before}
 use Rattle.promises_calls.specs.PlainMoves.{PlainMoved, SlicesMoveAsBefore}
 

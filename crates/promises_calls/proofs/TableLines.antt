@@ -12,9 +12,9 @@ use Rattle.rules.specs.Answer.{accepted, and_then}
 use Rattle.rules.specs.Assemble.{Encoder, Pass, Place, places_at, code_contents_by, code_places_by, second_pass_by, pass_at, assemble_by}
 use Rattle.manual.specs.Manual.{Condition, T, CC, CS, NE, EQ, PL, MI, GE, LT, GT, LE}
 use Rattle.requests.proofs.Mnemonics.{in_both}
-use Rattle.promises.specs.Demand1.{IsLine, Reached}
+use Rattle.promises.specs.Refusals.{IsLine, Reached}
 use Rattle.promises.specs.Nearest.{In, head, tail}
-use Rattle.promises.specs.Demand2Manual.{words_before, words_after}
+use Rattle.promises.specs.ListedForms.{words_before, words_after}
 use Rattle.promises.specs.ManualWritten.{branch_named}
 use Rattle.promises.specs.BranchCalls.{ListsUnder}
 use Rattle.promises.proofs.Compared.{clash}

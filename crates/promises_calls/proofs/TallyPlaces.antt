@@ -11,10 +11,10 @@ use Rattle.rules.specs.Answer.{Answer, accepted, refused, refuse_at}
 use Rattle.rules.specs.Assemble.{Place}
 use Rattle.rules.specs.Relocate.{moved_address, moved_word, added_word, added_high}
 use Rattle.rules.specs.Tally.{Tallied, first_outside, tally_answer, add_if, new_total, first_word, moved_place, tally_list, tallied}
-use Rattle.promises.specs.Demand1.{Congruent}
+use Rattle.promises.specs.Refusals.{Congruent}
 use Rattle.promises.proofs.Accepted.{not_refused}
 use Rattle.promises.proofs.Compared.{clash}
-use Rattle.promises.proofs.Demand1Written.{pair_congruent}
+use Rattle.promises.proofs.RefusalsWritten.{pair_congruent}
 use Rattle.promises.proofs.Lists.{All, all_at}
 use Rattle.promises.proofs.Residues.{pair_added, low_lt}
 use Rattle.promises.proofs.Twice.{Reached, inside_reached, reached_zero, none_inside}

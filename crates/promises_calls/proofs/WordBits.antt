@@ -8,7 +8,7 @@ use native.Mathlib.Nat.{mul_assoc, add-mul, mul-le-mul_right}
 use Rattle.manual.specs.Manual.{Field, join, widths, Fit, layout, operation_word}
 use Rattle.promises_calls.specs.WordBits.{StandsAbove, FieldsAreBits}
 
--- fields behind a value: the value times what they span, and their own
+-- fields after a value: the value times what they span, and their own
 spread : (v x y b j : ℕ) → (v * x + b) * y + j ≡ v * (x * y) + (b * y + j)
 spread v x y b j = let e = add-mul (v * x) b y in let a = mul_assoc v x y in omega arith
 

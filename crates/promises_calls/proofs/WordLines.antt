@@ -12,11 +12,11 @@ use Rattle.rules.specs.Encode.{Content, mnemonics, encode}
 use Rattle.rules.specs.Answer.{accepted}
 use Rattle.rules.specs.Assemble.{Pass, first_pass_by, pass_at_by, pass_at}
 use Rattle.requests.specs.Sheet.{Class, class_number}
-use Rattle.promises.specs.Demand1.{IsLine, Reached}
+use Rattle.promises.specs.Refusals.{IsLine, Reached}
 use Rattle.promises.specs.Explain.{PutsWords}
 use Rattle.promises.specs.Sheet.{Ends, word_line, InClass, read}
 use Rattle.promises.proofs.Compared.{clash}
-use Rattle.promises.proofs.Demand1Passes.{reached_once}
+use Rattle.promises.proofs.RefusalsPasses.{reached_once}
 use Rattle.promises.proofs.Accepted.{not_refused, checks_passed}
 use Rattle.promises.proofs.Asked as Asked
 use Rattle.promises.proofs.Asked.{Lined, asks, ends, past_end, past_lines, lined}

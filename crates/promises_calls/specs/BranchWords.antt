@@ -9,11 +9,11 @@ use Rattle.rules.specs.Answer.{accepted}
 use Rattle.rules.specs.Assemble.{Encoder, Pass, Place, place, pass_at, assemble_by, assemble}
 use Rattle.manual.specs.Manual.{InByte, sign_of, Condition, T, CC, CS, NE, EQ, PL, MI, GE, LT, GT, LE}
 use Rattle.requests.specs.Branches.{assemble_under}
-use Rattle.promises.specs.Demand1.{IsLine, Reached}
+use Rattle.promises.specs.Refusals.{IsLine, Reached}
 use Rattle.promises.specs.Nearest.{In, RecordedAtBy}
 use Rattle.promises.specs.Readings.{Signed, Means, MeansWritten}
-use Rattle.promises.specs.Demand2Manual.{words_before, words_after}
-use Rattle.promises.specs.Demand3.{Call}
+use Rattle.promises.specs.ListedForms.{words_before, words_after}
+use Rattle.promises.specs.MovedLists.{Call}
 use Rattle.promises.specs.ManualWritten.{branch_named}
 use Rattle.promises.specs.Branches.{Accepted}
 

@@ -10,7 +10,7 @@ use Rattle.manual.specs.Manual.{Condition}
 use Rattle.requests.specs.ManualCall.{manual_size}
 use Rattle.requests.specs.ManualAssemble.{assemble_manual}
 use Rattle.requests.specs.Branches.{assemble_under}
-use Rattle.promises.specs.Demand3.{Call}
+use Rattle.promises.specs.MovedLists.{Call}
 use Rattle.promises.specs.Branches.{Accepted}
 use Rattle.promises.specs.BranchCalls.{OfTable}
 use Rattle.promises.specs.Lands.{Aims, back, back_said, loop, loop_said}

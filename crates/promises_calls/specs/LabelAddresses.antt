@@ -9,7 +9,7 @@ use Rattle.rules.specs.Assemble.{Sizes, Pass, pass_at_by}
 use Rattle.manual.specs.Manual.{Layout, layout, extensions, Instruction}
 use Rattle.requests.specs.ManualCall.{manual_size, manual_encode}
 use Rattle.promises.specs.Nearest.{RecordsBy}
-use Rattle.promises.specs.Demand2Manual.{Words}
+use Rattle.promises.specs.ListedForms.{Words}
 use Rattle.promises.specs.ManualWritten.{WrittenHere, Encoded, IsManual}
 
 -- with any sizes: no record that a line of an accepted source makes lies at 2^30 or above

@@ -12,9 +12,9 @@ use Rattle.requests.specs.Explain.{Reason, emitted, because, explain_by}
 use Rattle.requests.specs.ManualCall.{manual_size}
 use Rattle.requests.specs.ManualAssemble.{assemble_manual}
 use Rattle.requests.specs.Branches.{assemble_under}
-use Rattle.promises.specs.Demand1.{next_address}
-use Rattle.promises.specs.Demand2Manual.{marked_zero}
-use Rattle.promises.specs.Demand3.{Call}
+use Rattle.promises.specs.Refusals.{next_address}
+use Rattle.promises.specs.ListedForms.{marked_zero}
+use Rattle.promises.specs.MovedLists.{Call}
 use Rattle.promises.specs.ManualWritten.{InBranch}
 use Rattle.promises.specs.Branches.{Accepted}
 use Rattle.promises.specs.BranchCalls.{OfTable}
@@ -22,7 +22,7 @@ use Rattle.promises.specs.Lands.{ByByte, ByWord, Aims, Eleven, Branches, Loops, 
 use Rattle.promises_calls.specs.BranchWords.{BranchWord, BranchLine, OfEleven, InUse, OfRow}
 
 -- ---- a line's places
--- places from the address a on, each two bytes behind the one before
+-- places from the address a on, each two bytes after the one before
 pub data Consecutive : ℕ → List Place → Type 0 where
   no_place : {a : ℕ} → Consecutive a []
   next_place : {a : ℕ} {p : Place} {ps : List Place} → p.address ≡ a → Consecutive (a + 2) ps → Consecutive a (p ∷ ps)
@@ -64,7 +64,7 @@ pub data MakesSize (j a : ℕ) (i : Instruction) : List Place → Type 0 where
 
 -- ---- the line after the first j ones
 -- of the list l its places among the code are these words and no others, with mark 0 and from its address a on; and they lead to t, and stay so
--- at the same index, behind all data and the code of the lines before, by whatever moves
+-- at the same index, after all data and the code of the lines before, by whatever moves
 pub record StandsInTurn (Leads : List ℕ → ℕ → ℤ → Type 0) (z : Sizes) (Makes : ℕ → ℕ → Instruction → List Place → Type 0)
     (base : ℕ) (s : Text) (j a t : ℕ) (l : List Place) : Type 0 where
   pub data_places : List (List Place)

@@ -3,7 +3,7 @@ use Rattle.std.specs.Prelude.{ℕ, ◌<◌, ◌≤◌, ◌≡◌, ◌≢◌, len
 use Rattle.rules.specs.Answer.{accepted, refused}
 use Rattle.rules.specs.Assemble.{Slices}
 use Rattle.rules.specs.Relocate.{move_answer, move_slices}
-use Rattle.promises.specs.Demand1.{Congruent, SamePast}
+use Rattle.promises.specs.Refusals.{Congruent, SamePast}
 use Rattle.promises.specs.Pairs.{answer_before}
 
 -- y is x with its first n places moved by d

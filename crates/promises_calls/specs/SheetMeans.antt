@@ -5,7 +5,7 @@ use Rattle.rules.specs.Line.{size}
 use Rattle.rules.specs.Answer.{accepted}
 use Rattle.rules.specs.Assemble.{Place, assemble}
 use Rattle.requests.specs.Sheet.{Totals, plant_sheet, mean_of}
-use Rattle.promises.specs.Demand1.{PassCondition}
+use Rattle.promises.specs.Refusals.{PassCondition}
 
 -- of a series, source by source: the words of the lists, and the number of accepted scripts
 pub data WordsAndScripts : List Text → ℕ → ℕ → Type 0 where

@@ -4,11 +4,11 @@ use Rattle.std.specs.Prelude.{ℕ, zero, suc, ◌+◌, ◌≡◌, ◌≢◌, ◌
 use Rattle.rules.specs.Text.{Text, bytes}
 use Rattle.rules.specs.Line.{Name, name, line_of}
 use Rattle.rules.specs.Assemble.{Sizes}
-use Rattle.promises.specs.Demand1.{Reached}
+use Rattle.promises.specs.Refusals.{Reached}
 use Rattle.promises.specs.Nearest.{In, RecordsBy}
 use Rattle.promises_calls.specs.Directives.{Each, Blanks, Solid, NoColon, Bare, Trims, Ends, Pieces, Begins, Holds, Skipped, Org, Fourth, NoLabel}
 
--- of a text r with `before` in front: the name m stands there behind g and before t, and starts after all that is in front of it
+-- of a text r with `before` in front: the name m stands there after g and before t, and starts after all that is in front of it
 pub record Starts (before r g : Text) (m : Name) (t : Text) : Type 0 where
   pub cut : r ≡ g ++ (m.text ++ t)
   pub place : m.start ≡ length (before ++ g)
@@ -27,7 +27,7 @@ pub data Fifth (before r : Text) : List Name → Type 0 where
   -- the trimmed text in front of the first colon
   before_colon : {u g gap : Text} {m : Name} (t : Text) → Trims r u → Data u → Blanks g → Bare m.text → m.text ≢ [] → NoColon m.text → Blanks gap
       → Starts before r g m (gap ++ (58 ∷ t)) → Fifth before r (m ∷ [])
-  -- "a first piece not starting DC or DS (upper-cased)", with another behind it
+  -- "a first piece not starting DC or DS (upper-cased)", with another after it
   first_piece : {u g v q : Text} {m : Name} {ps : List Text} → Trims r u → Data u → NoColon r → Blanks g → Solid m.text → m.text ≢ [] → Ends v
       → Pieces v (q ∷ ps) → ¬ Begins (bytes "DC") m.text → ¬ Begins (bytes "DS") m.text → Starts before r g m v → Fifth before r (m ∷ [])
 
@@ -40,7 +40,7 @@ pub data LineRecords (s : Text) : List Name → Type 0 where
   -- no colon: the fifth step's alone, if any
   without_fourth : {t : Text} {ms : List Name} → Fourth s t → NoColon s → Fifth [] s ms → LineRecords s ms
   -- "A colon: the trimmed text before the first one is recorded as a label (it may be empty)"; an empty one starts at its colon. Then the
-  -- fifth step's, of all that stands behind the colon
+  -- fifth step's, of all that stands after the colon
   with_fourth : {t f gap : Text} {m : Name} {ms : List Name} (r : Text) → Fourth s t → Blanks f → Bare m.text → NoColon m.text → Blanks gap
       → (m.text ≡ [] → gap ≡ []) → Starts [] s f m (gap ++ (58 ∷ r)) → Fifth (f ++ (m.text ++ (gap ++ bytes ":"))) r ms → LineRecords s (m ∷ ms)
 
@@ -49,7 +49,7 @@ unfoldable pub NamesStart : Type 0
 NamesStart = (s : Text) (ns : List Name) → ((line_of s).names ≡ ns) ↔ LineRecords s ns
 
 -- ---- the source
--- behind the first j lines of s, and what stands in front of it, with the byte 10 at the end of each: the line l
+-- after the first j lines of s, and what stands in front of it, with the byte 10 at the end of each: the line l
 pub data LineAt : Text → ℕ → Text → Text → Type 0 where
   this_line : {s l : Text} (rest : Text) → s ≡ l ++ rest → Each (eqb 10) false l → (rest ≢ [] → (t : Text) × (rest ≡ 10 ∷ t)) → LineAt s zero [] l
   line_behind : {s k t front l : Text} {j : ℕ} → s ≡ k ++ (10 ∷ t) → Each (eqb 10) false k → LineAt t j front l → LineAt s (suc j) (k ++ (10 ∷ front)) l

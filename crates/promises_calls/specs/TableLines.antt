@@ -8,8 +8,8 @@ use Rattle.rules.specs.Answer.{accepted}
 use Rattle.rules.specs.Assemble.{Pass, Place, pass_at, assemble}
 use Rattle.manual.specs.Manual.{Condition}
 use Rattle.requests.specs.Branches.{assemble_under}
-use Rattle.promises.specs.Demand1.{IsLine, Reached}
-use Rattle.promises.specs.Demand2Manual.{words_before, words_after}
+use Rattle.promises.specs.Refusals.{IsLine, Reached}
+use Rattle.promises.specs.ListedForms.{words_before, words_after}
 use Rattle.promises.specs.Nearest.{In}
 use Rattle.promises.specs.ManualWritten.{branch_named}
 use Rattle.promises.specs.Branches.{Accepted}

@@ -2,7 +2,7 @@
 use Rattle.std.specs.Prelude.{ℕ, ◌<◌, ◌≡◌, List, length, ℤ, pos, ◌+ℤ◌, Some, slice_get}
 use Rattle.rules.specs.Assemble.{Place}
 use Rattle.rules.specs.Tally.{Tallied, tally_list, tallied}
-use Rattle.promises.specs.Demand1.{Congruent}
+use Rattle.promises.specs.Refusals.{Congruent}
 
 -- the place p' is p at a total
 pub record PlaceAt (total : ℤ) (p p' : Place) : Type 0 where

@@ -7,7 +7,7 @@ use Rattle.manual.specs.Manual.{Field, widths, Layout, layout, Instruction, oper
 pub record StandsAbove (w : ℕ) (f : Field) (n : ℕ) : Type 0 where
   pub bits : w / 2 ^ n % 2 ^ f.width ≡ f.bits
 
--- of every instruction none of whose fields runs over: its operation word has sixteen bits, and each field above those behind it
+-- of every instruction none of whose fields runs over: its operation word has sixteen bits, and each field above those after it
 pub record InItsBits (i : Instruction) : Type 0 where
   pub sixteen : operation_word i < 2 ^ 16
   pub each : (front : List Field) (f : Field) (back : List Field) → layout i ≡ front ++ (f ∷ back) → StandsAbove (operation_word i) f (widths back)

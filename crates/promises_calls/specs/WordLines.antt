@@ -6,7 +6,7 @@ use Rattle.rules.specs.Encode.{encode}
 use Rattle.rules.specs.Answer.{accepted}
 use Rattle.rules.specs.Assemble.{Pass, pass_at}
 use Rattle.requests.specs.Sheet.{emitting}
-use Rattle.promises.specs.Demand1.{Reached}
+use Rattle.promises.specs.Refusals.{Reached}
 use Rattle.promises.specs.Explain.{PutsWords}
 use Rattle.promises.specs.Sheet.{InClass}
 

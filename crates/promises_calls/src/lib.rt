@@ -1,6 +1,6 @@
 #![tactic(auto)]
 
-//! What is promised of the calls beside the two of the demands: each function is a promise, its name the promise's, its clause the
+//! What is promised of the calls beside assembling and moving: each function is a promise, its name the promise's, its clause the
 //! statement. None does anything: that its clause holds is what the check proves.
 //!
 //! The plain call is assembling by the rules' own words, the manual's call that by the manual's. Refusals 1 to 6 are those of a source at

@@ -7,7 +7,7 @@ ghost use Rattle.promises.specs.Examples.{MinusOneIsEmitted};
 ghost use Rattle.promises.specs.ManualWritten.{NoFormLeftOut, WordsAreTheManuals, FieldsHoldHere};
 ghost use Rattle.promises.specs.ManualFaults.{FaultsExactly, WordsOrFault};
 ghost use Rattle.promises.specs.ManualCall.{SizeIsLength, ThreeWords, ManualIsLawful, AtMostThree};
-ghost use Rattle.promises.specs.ManualDemand3.{ManualMoves, ManualListsArePaired, FaultsAtEveryBase};
+ghost use Rattle.promises.specs.ManualMovedLists.{ManualMoves, ManualListsArePaired, FaultsAtEveryBase};
 ghost use Rattle.promises.specs.ManualRefusals.{ManualRefusesExactly, ManualRefusalChangesNothing, ManualAcceptedWrites};
 ghost use Rattle.promises.specs.ManualLists.{ListsAreManual};
 ghost use Rattle.promises.specs.ManualExamples.{ManualExamples};
@@ -65,7 +65,7 @@ pub fn operation_words()
 {}
 
 /// And the manual's fields are bits of those words: of every instruction none of whose fields runs over, the operation word is below
-/// 65,536, and each field is what a division by two to the power of the bits behind it, and the rest by two to the power of the field's
+/// 65,536, and each field is what a division by two to the power of the bits after it, and the rest by two to the power of the field's
 /// width, leave of the word.
 #[tactic(auto, using(crate::proofs::WordBits::fields_are_bits))]
 pub fn fields_are_bits()
@@ -93,7 +93,7 @@ pub fn three_words_at_most()
 {}
 
 /// The manual's list of an accepted source has at most three places for each line of the source, and at most 12,288 in all.
-#[tactic(auto, using(promises::proofs::ManualDemand3::at_most_three))]
+#[tactic(auto, using(promises::proofs::ManualMovedLists::at_most_three))]
 pub fn at_most_three()
     ensures { AtMostThree }
 {}
@@ -132,21 +132,21 @@ pub fn manual_is_lawful()
 /// bases' difference is no multiple of 65,536. The marks say what moves at one base too: with labels and lines d higher the second pass
 /// gives the list that the tally has at d. Moves made one after another follow the tally, and one move by its last total, if that is in
 /// range, is accepted and gives its last list.
-#[tactic(auto, using(promises::proofs::ManualDemand3::manual_moves))]
+#[tactic(auto, using(promises::proofs::ManualMovedLists::manual_moves))]
 pub fn manual_moves()
     ensures { ManualMoves }
 {}
 
 /// In every list of the manual's call no mark is above 3, each 2 has a 3 after it and each 3 a 2 before it; every word with a mark has
 /// sixteen bits, and no address is above 2^30 + 1.
-#[tactic(auto, using(promises::proofs::ManualDemand3::manual_lists_are_paired))]
+#[tactic(auto, using(promises::proofs::ManualMovedLists::manual_lists_are_paired))]
 pub fn manual_lists_are_paired()
     ensures { ManualListsArePaired }
 {}
 
 /// The faults 14 and 15 do not depend on the base: of a source that passes refusals 1 to 6 at two bases, what is refused at the one is
 /// refused at the other, with the same number and line.
-#[tactic(auto, using(promises::proofs::ManualDemand3::faults_at_every_base))]
+#[tactic(auto, using(promises::proofs::ManualMovedLists::faults_at_every_base))]
 pub fn faults_at_every_base()
     ensures { FaultsAtEveryBase }
 {}

@@ -4,7 +4,7 @@
 ghost use Rattle.promises_calls.specs.PlainMoves.{SlicesMoveAsBefore};
 ghost use Rattle.promises_calls.specs.TallyPlaces.{TallyPlaces};
 ghost use Rattle.promises.specs.Lawful.{RulesAreShort};
-ghost use Rattle.promises.specs.Demand3.{ShortWordsDiffer};
+ghost use Rattle.promises.specs.MovedLists.{ShortWordsDiffer};
 ghost use Rattle.promises.specs.Pairs.{MovesAsBefore, PairsFollowTally, PairsAddTotal, OneMoveForPairs, LawfulListsArePaired, MarkExamples, PairExamples};
 
 /// The plain call's instructions, whatever mnemonics are in use, have no label's address of 32 bits among their words.
@@ -15,7 +15,7 @@ pub fn rules_are_short()
 
 /// Of a lawful size and encoder without such addresses: where a source is accepted at two bases whose difference is no multiple of
 /// 65,536, the marks of its lists are the same, and a word differs exactly when its mark is 1.
-#[tactic(auto, using(promises::proofs::Demand3::short_words_differ))]
+#[tactic(auto, using(promises::proofs::MovedLists::short_words_differ))]
 pub fn short_words_differ()
     ensures { ShortWordsDiffer }
 {}

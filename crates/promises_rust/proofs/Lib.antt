@@ -13,7 +13,7 @@ pub mod RustLine
 pub mod RustValue
 pub mod RustPass
 pub mod RustLabels
-pub mod Demand2Rust
+pub mod RustLists
 pub mod RustRefused
 pub mod RustSums
 pub mod RustDecimal

@@ -2,7 +2,7 @@
 use mathlib.Core.Path.{refl}
 use Rattle.rules.specs.Text.{bytes}
 use Rattle.promises_rust.specs.RustStr.{is_whitespace, trim_start, trim_end, trim, extend, split_by, split_whitespace, filter, is_empty, get, splitn_2, to_upper, to_uppercase, starts_with, contains}
-use Rattle.promises_rust.specs.Demand2Rust.{behind_colon, names_data, value_piece, stands_alone, line_value, is_sum, asks_for_a_sum, lines_without_sums, lines_with_sums, SumsAsked}
+use Rattle.promises_rust.specs.RustLists.{behind_colon, names_data, value_piece, stands_alone, line_value, is_sum, asks_for_a_sum, lines_without_sums, lines_with_sums, SumsAsked}
 
 pub sums_asked : SumsAsked
 unfolding bytes is_whitespace trim_start trim_end trim extend split_by split_whitespace filter is_empty get splitn_2 to_upper to_uppercase starts_with contains behind_colon names_data value_piece stands_alone line_value is_sum asks_for_a_sum lines_without_sums lines_with_sums

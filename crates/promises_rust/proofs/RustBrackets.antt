@@ -9,7 +9,7 @@ use Rattle.rules.specs.Text.{Text, bytes, uppers, blank, trim_start, keep_end, t
 use Rattle.rules.specs.Line.{is_directive}
 use Rattle.rules.specs.Directive.{piece_directive, directive_of, after_colon}
 use Rattle.promises_rust.specs.RustStr.{starts_with}
-use Rattle.promises_rust.specs.Demand2Rust.{is_sum, asks_for_a_sum, is_end_line, ask_for_sums, holds_bracket, NoBracketNoSum}
+use Rattle.promises_rust.specs.RustLists.{is_sum, asks_for_a_sum, is_end_line, ask_for_sums, holds_bracket, NoBracketNoSum}
 use Rattle.promises_rust.proofs.RustText.{eqb_comm, split_is}
 use Rattle.promises_rust.proofs.RustPlain.{data_piece, trimmed_piece, line_piece, line_value_is}
 

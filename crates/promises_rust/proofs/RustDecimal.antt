@@ -14,7 +14,7 @@ use Rattle.rules.specs.Number.{Reading, read, failed}
 use Rattle.rules.specs.Sum.{sum_reading}
 use Rattle.promises.proofs.Sums.{sums_mean}
 use Rattle.promises_rust.specs.RustStr.{all, is_ascii_digit, is_empty, digit, to_digit, digits, digits_from, split, starts_with}
-use Rattle.promises_rust.specs.Demand2Rust.{line_value, is_sum, asks_for_a_sum}
+use Rattle.promises_rust.specs.RustLists.{line_value, is_sum, asks_for_a_sum}
 use Rattle.promises_rust.specs.RustSums.{Given, without_sum, sum_fails, sum_worth, AllGiven, no_line, a_line, put_value, EverySourceIsGiven}
 
 -- ---- digits of a number
@@ -33,7 +33,7 @@ module _ (d : ℕ) (h : d < 10) where
   unfolding to_digit digit bind
   is_digit = let z : 48 + d - 48 ≡ d = omega arith in rw (ascii_digit, z, lt-ltb d 10 h)
 
-  -- a digit behind others
+  -- a digit after others
   digits_last : (s : Text) (w v : ℕ) → digits_from 10 w s ≡ Some v → digits_from 10 w (s ++ ((48 + d) ∷ [])) ≡ Some (v * 10 + d)
   unfolding digits_from
   digits_last [] w v e = let z : Some w ≡ Some v = e in let q : w ≡ v = cc in rw (digits_from, is_digit, q)

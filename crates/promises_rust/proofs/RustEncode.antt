@@ -1,4 +1,4 @@
--- Each encoder of the Rust gives the words of paper 01: labels as they are found, addresses modulo 65,536. Assumes nothing.
+-- Each encoder of the Rust gives the words of the rules: labels as they are found, addresses modulo 65,536. Assumes nothing.
 use Rattle.std.specs.Prelude.{Option, None, Some, option_map}
 use Rattle.std.proofs.lemmas.Option.{none-some}
 use Rattle.rules.specs.Option.{bind, or_else}
@@ -19,7 +19,7 @@ use Rattle.rules.specs.Encode.{Content, literal, address, long_address, moveq, m
 use Rattle.rules.proofs.Readings.{All}
 use Rattle.promises_rust.specs.RustStr.{when, is_empty, equals, starts_with, as_u16, i8_as_u16, HashMap, look_up, Arm, match}
 use Rattle.promises_rust.specs.RustAssembler.{AssemblyInstruction, Code, no_ext, parse_immediate, parse_immediate_u16, parse_data_register, parse_address_register, parse_branch_displacement, encode_moveq, encode_move_with_ext, encode_movea_with_ext, encode_muls_with_ext, encode_branch, encode_add, encode_sub, encode_cmp_with_ext, encode_jump, encode_tst, encode_subq, encode_asl, encode_dbra, encode_instruction_with_ext, ◌or◌, ◌and◌, ◌<<◌}
-use Rattle.promises_rust.specs.Demand2Rust.{inst_at}
+use Rattle.promises_rust.specs.RustLists.{inst_at}
 use Rattle.promises.proofs.Same.{same_eq}
 use Rattle.promises_rust.proofs.RustText.{equals_is, after_is}
 use Rattle.promises_rust.proofs.RustNumber.{Small, clash, imm8_is, imm8_small, imm16_is, imm16_none}

@@ -52,7 +52,7 @@ ds_b : Mark (bytes "DS.B")
 unfolding bytes blank
 ds_b = record { solid = cons refl (cons refl (cons refl (cons refl nil))); dotted = later (later here) }
 
--- one stands in front of the value or behind it
+-- one stands in front of the value or after it
 abbrev pub Has : Text → Text → Text → Bool
 Has p f b = contains p (uppers f) || contains p (uppers b)
 

@@ -23,7 +23,7 @@ pub data Closed : Bool → Text → Type 0 where
   blank_next : {x : Bool} {b : ℕ} {s : Text} → blank b ≡ true → Closed false s → Closed x (b ∷ s)
   full_next : {x : Bool} {b : ℕ} {s : Text} → blank b ≡ false → Closed true s → Closed x (b ∷ s)
 
--- the rest of a piece, and what is behind it
+-- the rest of a piece, and what is after it
 unfoldable pub run : Text → Text
 run [] = []
 run (b ∷ s) = elim (blank b) [ true ↦ [] | false ↦ b ∷ run s ]
@@ -455,7 +455,7 @@ starts_open nil o = refl
 starts_open (cons e r) at_end = refl
 starts_open (cons {b = a} e r) (at_blank {b} f) = rw (starts, no_blank a b e f)
 
--- behind a front nothing is started
+-- after a front nothing is started
 pub starts_front : {p : Text} → Solid p → {f : Text} → Closed true f → (y : Text) → starts p (f ++ y) ≡ starts p f
 unfolding starts
 starts_front nil c y = refl
@@ -587,7 +587,7 @@ unfolding uppers
 quiet_dot quiet_end = clear
 quiet_dot (quiet q s) = past q.no_dot (quiet_dot s)
 
--- what is looked for stands in front of it or behind it
+-- what is looked for stands in front of it or after it
 pub contains_hole : {p : Text} → Mark p → {f : Text} → Closed false f → {n : Text} → AllQuiet n → {y : Text} → Open y
     → contains p (uppers (f ++ (n ++ y))) ≡ (contains p (uppers f) || contains p (uppers y))
 contains_hole {p} k {f} c {n} q {y} o =

@@ -13,8 +13,8 @@ use Rattle.rules.specs.Label.{Label, Table, find, recorded, has_room, label_of, 
 use Rattle.rules.specs.Encode.{is_some}
 use Rattle.promises_rust.specs.RustStr.{rust_is_some, HashMap, insert, look_up}
 use Rattle.promises_rust.specs.RustAssembler.{State, insert_label}
-use Rattle.promises_rust.specs.Demand2Rust.{insert_all, keys}
-use Rattle.promises.proofs.Demand1Labels.{length_recorded, full_new, recorded_room}
+use Rattle.promises_rust.specs.RustLists.{insert_all, keys}
+use Rattle.promises.proofs.RefusalsLabels.{length_recorded, full_new, recorded_room}
 use Rattle.promises_rust.proofs.RustOperand.{Agrees}
 use Rattle.promises_rust.proofs.RustPass.{insert_agrees}
 

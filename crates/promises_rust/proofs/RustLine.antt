@@ -1,4 +1,4 @@
--- A line: the body of the Rust's loop does what paper 01 reads in the line. Assumes nothing.
+-- A line: the body of the Rust's loop does what the rules read in the line. Assumes nothing.
 use Rattle.std.specs.Prelude.{Option, None, Some}
 use Rattle.rules.specs.Option.{bind}
 use Prim.Native.Nat.{ℕ, suc, ◌+◌, ◌-◌}
@@ -16,7 +16,7 @@ use Rattle.rules.specs.Directive.{piece_directive, directive_of, after_colon}
 use Rattle.promises_rust.specs.RustStr.{at, add_u32, filter, is_empty, split, split_whitespace, splitn_2, to_uppercase, starts_with, join}
 use Rattle.promises_rust.specs.RustStr as Rust
 use Rattle.promises_rust.specs.RustAssembler.{AssemblyInstruction, parse_org_directive, Parts, label_and_directive, directive_size, directive_value, parse_data_directive_with_value, rust_is_l, rust_instruction_size, parse_instruction, State, continue, break, set_address, insert_label, push_value, handle_directive, handle_instruction, handle_rest, handle_label, handle_org, body}
-use Rattle.promises_rust.specs.Demand2Rust.{inst_at, perform_task, insert_all, perform, is_end_line, LinesAreTheRusts}
+use Rattle.promises_rust.specs.RustLists.{inst_at, perform_task, insert_all, perform, is_end_line, LinesAreTheRusts}
 use Rattle.promises_rust.proofs.RustText.{starts_is, equals_is, contains_is, uppercase_is, trim_is, split_is, nonempty_is, pieces_is, join_is, cut_texts, is_cut, splitn_is, contains_one, second_is, second_trimmed, get_is, AllFull, nil, cons, full_pieces, solid_pieces}
 use Rattle.promises_rust.proofs.RustNumber.{clash, number32, number32_is}
 use Rattle.promises_rust.proofs.RustPlain.{data_piece, trimmed_piece, line_piece, semicolon, Plain, plain_line, AllPlain, none_left, one_more}

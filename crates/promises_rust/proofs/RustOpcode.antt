@@ -1,4 +1,4 @@
--- Opcodes: fields put together by shifts, masks and `|` are the sums of paper 01. Assumes nothing.
+-- Opcodes: fields put together by shifts, masks and `|` are the sums of the rules. Assumes nothing.
 use Prim.Native.Nat.{ℕ, suc, ◌+◌, ◌-◌, ◌*◌, ◌/◌, ◌%◌, ◌^◌, ◌<◌}
 use mathlib.Core.Path.{◌≡◌, refl, ap, ◌∙◌}
 use mathlib.Core.Bool.{Bool, true, false, cond}

@@ -1,4 +1,4 @@
--- Operands: registers, displacements and jump addresses of the Rust are those of paper 01. Assumes nothing.
+-- Operands: registers, displacements and jump addresses of the Rust are those of the rules. Assumes nothing.
 use Rattle.std.specs.Prelude.{Option, None, Some}
 use Rattle.rules.specs.Option.{bind, or_else}
 use Prim.Native.Nat.{ℕ, suc, ◌+◌, ◌-◌, ◌^◌, ◌≤◌, ◌<◌}

@@ -16,7 +16,7 @@ use Rattle.rules.specs.Assemble.{Put, Pass, address_after, putting, first_pass, 
 use Rattle.rules.proofs.Readings.{All}
 use Rattle.promises_rust.specs.RustStr.{HashMap, add_u32, insert, look_up}
 use Rattle.promises_rust.specs.RustAssembler.{AssemblyInstruction, State, continue, set_address, insert_label, push_value, handle_instruction, handle_org, rust_first_pass}
-use Rattle.promises_rust.specs.Demand2Rust.{inst_at, perform_task, insert_all, perform}
+use Rattle.promises_rust.specs.RustLists.{inst_at, perform_task, insert_all, perform}
 use Rattle.promises.proofs.Tasks.{Worded, silent, codes, holds, worded, pass_line}
 use Rattle.promises.proofs.Shapes.{end_unlabelled}
 use Rattle.promises.proofs.Same.{same_eq}

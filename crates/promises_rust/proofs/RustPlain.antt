@@ -13,7 +13,7 @@ use Rattle.rules.specs.Line.{reading_in, number_in, value_reading, value_reading
 use Rattle.rules.specs.Directive.{piece_directive, directive_of, after_colon}
 use Rattle.promises_rust.specs.RustStr.{when, at, get, is_empty, split, split_whitespace, splitn_2, to_uppercase, starts_with}
 use Rattle.promises_rust.specs.RustStr as Rust
-use Rattle.promises_rust.specs.Demand2Rust.{behind_colon, names_data, value_piece, stands_alone, line_value, is_sum, asks_for_a_sum, is_end_line, ask_for_sums}
+use Rattle.promises_rust.specs.RustLists.{behind_colon, names_data, value_piece, stands_alone, line_value, is_sum, asks_for_a_sum, is_end_line, ask_for_sums}
 use Rattle.promises_rust.proofs.RustText.{eqb_comm, starts_is, contains_is, uppercase_is, trim_is, pieces_is, cut_texts, is_cut, splitn_is, contains_one, get_is, AllFull, AllSolid, nil, cons, full_pieces, solid_pieces}
 use Rattle.promises_rust.proofs.RustPieces.{pieces_joined}
 

@@ -15,15 +15,15 @@ use Rattle.rules.specs.Encode.{encode}
 use Rattle.rules.specs.Answer.{Answer, accepted, refused, refuse_if}
 use Rattle.rules.specs.Assemble.{address_after, first_pass_by, first_high, pass_at_by, pass_at, encoded, assemble_by, assemble, Place}
 use Rattle.promises.specs.Stages.{Checked, RefusesExactly}
-use Rattle.promises.specs.Demand1.{SourceCondition, source_over, byte_over, lines_over, checking}
+use Rattle.promises.specs.Refusals.{SourceCondition, source_over, byte_over, lines_over, checking}
 use Rattle.promises_rust.specs.RustStr.{split}
 use Rattle.promises_rust.specs.RustAssembler.{State, continue, break, body}
-use Rattle.promises_rust.specs.Demand2Rust.{perform_task, insert_all, perform, initial, Looped, begun, further, keys, WithinLimits, WithinIsAccepted, AcceptedIsWithin, RustCondition, of_source, address_over, labels_over, at_zero, RefusedByTheRust, ListIsTheRusts}
+use Rattle.promises_rust.specs.RustLists.{perform_task, insert_all, perform, initial, Looped, begun, further, keys, WithinLimits, WithinIsAccepted, AcceptedIsWithin, RustCondition, of_source, address_over, labels_over, at_zero, RefusedByTheRust, ListIsTheRusts}
 use Rattle.promises.proofs.Compared.{clash, Compared, less, more, equal, compared}
 use Rattle.promises.proofs.Stages.{is_checked, not_checked, checked_by, apart, are_apart, Runs, done, and_then_lem, refuses_exactly, none_holds}
-use Rattle.promises.proofs.Demand1Lines.{line_at, no_line, Lines, Either, six, five, either, Fine, fine_next, Through, stop_labels, stop_address, clear, putting_through, From}
-use Rattle.promises.proofs.Demand1Assemble.{checks_run, counted, high_found}
-use Rattle.promises.proofs.Demand1Search.{Found, found, nowhere}
+use Rattle.promises.proofs.RefusalsLines.{line_at, no_line, Lines, Either, six, five, either, Fine, fine_next, Through, stop_labels, stop_address, clear, putting_through, From}
+use Rattle.promises.proofs.RefusalsAssemble.{checks_run, counted, high_found}
+use Rattle.promises.proofs.RefusalsSearch.{Found, found, nowhere}
 use Rattle.promises.proofs.Accepted.{accepts}
 use Rattle.promises.proofs.Tasks.{pass_line}
 use Rattle.promises_rust.proofs.RustText.{split_is}
@@ -32,7 +32,7 @@ use Rattle.promises_rust.proofs.RustLine.{Done, AllDone, next, all_done}
 use Rattle.promises_rust.proofs.RustPlain.{all_plain, not_end}
 use Rattle.promises_rust.proofs.RustPass.{Performed, performed}
 use Rattle.promises_rust.proofs.RustLabels.{Level, Inserted, overflow, fits, inserted}
-use Rattle.promises_rust.proofs.Demand2Rust.{empty_agrees, list_is_the_rusts}
+use Rattle.promises_rust.proofs.RustLists.{empty_agrees, list_is_the_rusts}
 
 module _ (s : Text) (lines : List Text) where
   abbrev C : ℕ → ℕ → Type 0

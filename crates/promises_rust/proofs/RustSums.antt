@@ -19,13 +19,13 @@ use Rattle.promises.specs.Readings.{Prefix, dollar, zero_x, no_prefix, BadDigit}
 use Rattle.promises.specs.Sums.{Sum, one_product, adding, subtracting, Product, one_atom, multiplying, Atom, plain_digits, parenthesised, Derives, MeansSum, has_value}
 use Rattle.promises.proofs.Sums.{sums_mean, sum_low}
 use Rattle.promises_rust.specs.RustStr.{all, is_ascii_digit, is_empty, digits, u_from_str_radix, strip_plus, starts_with}
-use Rattle.promises_rust.specs.Demand2Rust.{line_value, is_sum, asks_for_a_sum, perform}
+use Rattle.promises_rust.specs.RustLists.{line_value, is_sum, asks_for_a_sum, perform}
 use Rattle.promises_rust.specs.RustSums.{put_value, SumsReadAsTheirNumbers, FailedSumsAreTheRusts, Given, without_sum, sum_fails, sum_worth, AllGiven, no_line, a_line, SourcesWithSumsAreTheRusts}
 use Rattle.promises_rust.proofs.RustText.{starts_is}
 use Rattle.promises_rust.proofs.RustNumber.{number32, number32_is}
 use Rattle.promises_rust.proofs.RustPlain.{line_piece, line_value_is, Plain, plain_line}
 use Rattle.promises_rust.proofs.RustLine.{body_is, Done, AllDone, over, next}
-use Rattle.promises_rust.proofs.Demand2Rust.{list_is}
+use Rattle.promises_rust.proofs.RustLists.{list_is}
 use Rattle.promises_rust.proofs.RustRefused.{refuses_as, accepts_within, within_if_accepted}
 use Rattle.promises_rust.proofs.RustHole.{Quiet, quiet_of, AllQuiet, quiet_end, quiet, quiet_append}
 use Rattle.promises_rust.proofs.RustFrames.{Piece, one_piece, line_reads, line_hole}

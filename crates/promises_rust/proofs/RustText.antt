@@ -1,4 +1,4 @@
--- Rust's functions on text are those of paper 01, on all bytes. Assumes nothing.
+-- Rust's functions on text are those of the rules, on all bytes. Assumes nothing.
 use Rattle.std.specs.Prelude.{Option, None, Some}
 use Rattle.rules.specs.Option.{bind}
 use Prim.Native.Nat.{ℕ, zero, suc}

@@ -1,4 +1,4 @@
--- A value that a line of data has is below 2^32, and no line takes more than 4 bytes, by paper 01's reading of a line. Assumes nothing.
+-- A value that a line of data has is below 2^32, and no line takes more than 4 bytes, by the rules' reading of a line. Assumes nothing.
 use Rattle.std.specs.Prelude.{Option, None, Some}
 use Prim.Native.Nat.{ℕ, ◌^◌, ◌≤◌, ◌<◌}
 use mathlib.Core.Path.{◌≡◌, refl}

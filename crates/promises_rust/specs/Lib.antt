@@ -1,4 +1,4 @@
 pub mod RustStr
 pub mod RustAssembler
-pub mod Demand2Rust
+pub mod RustLists
 pub mod RustSums

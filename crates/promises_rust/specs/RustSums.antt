@@ -11,7 +11,7 @@ use Rattle.promises.specs.Sums.{MeansSum}
 use Rattle.promises_rust.specs.RustStr.{at, all, is_whitespace, split, split_whitespace, splitn_2, starts_with, contains, is_ascii_digit, digits}
 use Rattle.promises_rust.specs.RustAssembler.{State, body}
 use Rattle.promises_rust.specs.RustAssembler as Rust
-use Rattle.promises_rust.specs.Demand2Rust.{names_data, line_value, asks_for_a_sum, perform, WithinLimits, RustCondition, at_zero, without_mark}
+use Rattle.promises_rust.specs.RustLists.{names_data, line_value, asks_for_a_sum, perform, WithinLimits, RustCondition, at_zero, without_mark}
 
 -- ---- a line with another value
 -- what is left of a text from its first blank on
@@ -31,7 +31,7 @@ put_piece inside k n (c ∷ s) =
       ]
     ]
 
--- a text of data with n in its value's place: the second piece behind the colon; without a colon the second, or the third behind a label
+-- a text of data with n in its value's place: the second piece after the colon; without a colon the second, or the third after a label
 unfoldable pub put_data_value : Text → Text → Text
 put_data_value n s =
     let parts = splitn_2 58 s in

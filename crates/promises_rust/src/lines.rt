@@ -2,7 +2,7 @@
 
 //! A line alone: what is read in it is what the Rust's loop does with it.
 
-ghost use Rattle.promises_rust.specs.Demand2Rust.{LinesAreTheRusts, NoBracketNoSum, SumsAsked};
+ghost use Rattle.promises_rust.specs.RustLists.{LinesAreTheRusts, NoBracketNoSum, SumsAsked};
 ghost use Rattle.promises_rust.specs.RustSums.{SumsReadAsTheirNumbers, FailedSumsAreTheRusts};
 
 /// In each line that asks for no sum the labels and the task that are read are what the body of the Rust's loop does with the line, in any

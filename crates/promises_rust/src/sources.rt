@@ -2,12 +2,12 @@
 
 //! Whole sources at base 0: their lists, which are accepted, and the refusals. Without sums means that no line that is read asks for one.
 
-ghost use Rattle.promises_rust.specs.Demand2Rust.{ListIsTheRusts, WithinIsAccepted, AcceptedIsWithin, RefusedByTheRust};
+ghost use Rattle.promises_rust.specs.RustLists.{ListIsTheRusts, WithinIsAccepted, AcceptedIsWithin, RefusedByTheRust};
 ghost use Rattle.promises_rust.specs.RustSums.{SourcesWithSumsAreTheRusts, EverySourceIsGiven};
 
 /// Where a source without sums is accepted at base 0, its list, marks left out, is what the Rust original makes of the source cut at byte
 /// 10: the same addresses and words in the same order. Lines after the END line are not read, and may ask for sums.
-#[tactic(auto, using(crate::proofs::Demand2Rust::list_is_the_rusts))]
+#[tactic(auto, using(crate::proofs::RustLists::list_is_the_rusts))]
 pub fn list_is_the_rusts()
     ensures { ListIsTheRusts }
 {}

@@ -14,7 +14,7 @@ use Rattle.rules.specs.Assemble.{Sizes}
 use Rattle.rules.proofs.Standing.{At}
 use Rattle.rules.proofs.Names.{Rising, next, names_rise, over}
 use Rattle.requests.specs.Symbols.{symbols}
-use Rattle.promises.specs.Demand1.{source_over, byte_over, lines_over, PassCondition, of_source, base_over, address_over, labels_over}
+use Rattle.promises.specs.Refusals.{source_over, byte_over, lines_over, PassCondition, of_source, base_over, address_over, labels_over}
 use Rattle.promises.specs.Nearest.{In, head, tail, RecordsBy, records}
 use Rattle.promises.specs.Symbols.{IsSymbols, SymbolsAreListed, EachListFits}
 use Rattle.promises.proofs.Compared.{clash}
@@ -40,7 +40,7 @@ digits_unspaced radix h t e c d f = go c (rw f at e)
     go [] k = let z : false ≡ true = rw h at (both (ltb 16 radix) (only_digits radix d) k).0 in clash cc
     go (b ∷ c) k = go c (both (ltb (digit_shown b) radix) (only_digits radix (c ++ (32 ∷ d))) k).1
 
--- what stands before and behind the last space
+-- what stands before and after the last space
 last_space : (a b c d : Text) → Unspaced b → Unspaced d → a ++ (32 ∷ b) ≡ c ++ (32 ∷ d) → (a ≡ c) × (b ≡ d)
 last_space [] b [] d h k e = (refl, cc)
 last_space [] b (x ∷ c) d h k e = let f : b ≡ c ++ (32 ∷ d) = cc in absurd (h c d f)

@@ -6,7 +6,7 @@ use Rattle.rules.specs.Line.{size}
 use Rattle.rules.specs.Label.{Label}
 use Rattle.rules.specs.Answer.{accepted}
 use Rattle.requests.specs.Symbols.{symbols}
-use Rattle.promises.specs.Demand1.{PassCondition}
+use Rattle.promises.specs.Refusals.{PassCondition}
 use Rattle.promises.specs.Symbols.{IsSymbols}
 use Rattle.symtext.specs.Symlist.{symbols_text}
 

@@ -60,7 +60,7 @@ module _ (t : Text) (end : ℕ) where
     unfolding assemble_verdict
     assembly_agrees e n f = rw f (agrees t end _ _ h r tested e)
 
--- a call of 02, whose source has n bytes
+-- a call beside assembling, whose source has n bytes
 module _ (t : Text) (n : ℕ) (size : n ≡ number_at 13 4 t) where
   pub call_cut : length t < 17 + n → None ≡ call_verdict (17 + number_at 13 4 t) t
   unfolding call_verdict

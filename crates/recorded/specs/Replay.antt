@@ -44,7 +44,7 @@ judged end t agrees places = cond (nat_lt (length t) end) None (cond agrees (Som
 unfoldable pub assemble_verdict : ℕ → Text → Option ℕ
 assemble_verdict end t = judged end t (agrees_in (part 30 end t) (part 5 30 t) (part end (length t) t)) (count_of (terms_in (part 5 30 t)))
 
--- a call of 02: two numbers, the source's length, the source, the text that must be answered
+-- a call beside assembling: two numbers, the source's length, the source, the text that must be answered
 unfoldable pub call_verdict : ℕ → Text → Option ℕ
 call_verdict end t = judged end t (call_agrees_in (number_at 0 1 t) (number_at 5 4 t) (number_at 9 4 t) (part 17 end t) (part end (length t) t)) 0
 

@@ -1,6 +1,6 @@
 #![tactic(auto)]
 
-//! Recorded calls: each is read from the bytes of its record, made again, and compared, the assembler's place by place and 02's by
+//! Recorded calls: each is read from the bytes of its record, made again, and compared, the assembler's place by place and the others' by
 //! their texts. A record starts with the number of the call that it records; compare/src/record.rs says how it goes on.
 //! There is no heap: what is printed is put at the front of a slice that is lent.
 ghost use Rattle.std.specs.Prelude.{◌≡◌, ◌+◌, ◌*◌, ◌^◌, ◌<◌, ◌≤◌, true, ◌↔◌, length, None};
@@ -24,12 +24,12 @@ const TERMS: usize = 25;
 
 const ROW: usize = 7;
 
-// Where the source starts in a record of the assembler's call, and in one of 02's, after three numbers.
+// Where the source starts in a record of the assembler's call, and in one of another, after three numbers.
 const FRONT: usize = HEAD + TERMS;
 
 const CALL_FRONT: usize = HEAD + 12;
 
-// The bytes of the longest source, and the places of the slices; both are above paper 01's limits.
+// The bytes of the longest source, and the places of the slices; both are above the rules' limits.
 const SOURCE: usize = 40000;
 
 const PLACES: usize = 9000;
@@ -40,7 +40,7 @@ pub const RECORD: usize = FRONT + SOURCE + ROW * PLACES;
 /// Room for what is printed.
 pub const COUNTS: usize = 256;
 
-// The number of the assembler's call; all others are 02's.
+// The number of the assembler's call; all others are of `calls`.
 const ASSEMBLE: u8 = 1;
 
 // What the slices hold before a call, so that a place that must not change can be told.
@@ -227,7 +227,7 @@ pub fn start() -> Tally
     }
 }
 
-// In how many places a record of one of 02's calls agrees; None where it differs.
+// In how many places a record of one of the other calls agrees; None where it differs.
 fn judge_call(bytes: &[u8]) -> Option<usize>
     requires { 17 ≤ length bytes.now }
     ensures { result ≡ call_verdict (17 + number_at 13 4 bytes.now) bytes.now }

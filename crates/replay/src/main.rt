@@ -1,7 +1,7 @@
 #![tactic(auto)]
 
 //! Replays recorded calls: standard input holds calls with the answers that they must get, made by the Rust original and by
-//! the papers' words. Each is made again, and every place of the slices is compared, or its text. It takes no argument, and prints
+//! the rules' words. Each is made again, and every place of the slices is compared, or its text. It takes no argument, and prints
 //! on standard output how many records agree, in how many words, and the number of the first that differs, if one does.
 //! If the input cannot be read to its end it prints nothing. It says that on standard error, and there too if the last record is
 //! cut off, if standard output does not take all that it prints, or if it is given an argument.

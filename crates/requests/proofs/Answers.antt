@@ -1,4 +1,4 @@
--- W-205: the call's answer on a line, by what the first pass came to. Assumes nothing.
+-- Why a line has no word: the call's answer on a line, by what the first pass came to. Assumes nothing.
 use Rattle.std.specs.Prelude.{None, Some, slice_get}
 use Rattle.std.proofs.lemmas.Option.{none-some, same_Some}
 use Prim.Native.Nat.{ℕ, zero, suc, ◌<◌, ◌≤◌}

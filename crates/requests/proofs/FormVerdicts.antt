@@ -1,4 +1,4 @@
--- W-205: the verdict on operands of a right count, a law for each of 01's groups of forms, test by test. Assumes nothing.
+-- Why a line has no word: the verdict on operands of a right count, a law for each of the stations' groups of forms, test by test. Assumes nothing.
 use Rattle.std.specs.Prelude.{Option, None, Some}
 use Rattle.rules.specs.Option.{or_else}
 use Prim.Native.Nat.{ℕ}

@@ -1,4 +1,4 @@
--- W-205: when an operand makes the word in a form's place, by its kind and by what is wrong with it there. Assumes nothing.
+-- Why a line has no word: when an operand makes the word in a form's place, by its kind and by what is wrong with it there. Assumes nothing.
 use Rattle.std.specs.Prelude.{Option, None, Some}
 use Rattle.rules.specs.Option.{bind, or_else}
 use Prim.Native.Nat.{ℕ}
@@ -23,7 +23,7 @@ unfolding value_of failing is_some
 read_clear (read v) = refl
 read_clear (failed f) = refl
 
--- what stands behind `#`, where it stands so
+-- what stands after `#`, where it stands so
 hash_there : (s : Text) → same_kind (kind_of s) hash ≡ is_some (after (bytes "#") s)
 hash_there s = (kinded s).as_hash ∙ sym (after_starts (bytes "#") s)
 

@@ -1,4 +1,4 @@
--- W-212's examples hold by computation. Assumes nothing.
+-- The examples of the tidy copy hold by computation. Assumes nothing.
 use mathlib.Core.Path.{refl}
 use Rattle.rules.specs.Text.{bytes, blank, upper, uppers, leading, trim_start, keep_end, trim_end, trim, on_first, cut_where, cut_at, drop_empty, pieces, join_more, joined, in_front, first_cut, starts, contains, after, nth, first_text, other_texts}
 use Rattle.rules.specs.Number.{digit_value, digits, some_digits, ranged, below, without, unsigned_reading, hex_tail, by_prefix, reading32, value_of}

@@ -1,4 +1,4 @@
--- W-210, "Our own branch names": a branch table's commands, refusals 16 and 17, its rows, the mnemonics in use under it, and the calls that
+-- "Our own branch names": a branch table's commands, refusals 16 and 17, its rows, the mnemonics in use under it, and the calls that
 -- may be lent one. Assumes nothing.
 use Rattle.std.specs.Prelude.{ℕ, zero, suc, ◌+◌, ◌*◌, Bool, false, not, ◌&&◌, ◌||◌, cond, List, [], ◌∷◌, ◌++◌, leb, ltb, eqb, length, get_or}
 use Rattle.rules.specs.Text.{Text, blank, same}
@@ -101,7 +101,7 @@ names_with rs = other_mnemonics ++ rs
 unfoldable pub under : {A : Type 0} → Text → (List Mnemonic → Answer A) → Answer A
 under t call = and_then (loaded t) (λ rs. call (names_with rs))
 
--- 01's assembling call: its list, its answer, and the slices after it
+-- the stations' call: its list, its answer, and the slices after it
 abbrev pub assemble_under : Text → ℕ → Text → Answer (List Place)
 assemble_under t base s = under t (λ names. assemble_by size (encode_by names) base s)
 
@@ -111,7 +111,7 @@ assemble_under_answer t base s x = and_then (assemble_under t base s) (room x)
 unfoldable pub assemble_under_slices : Text → ℕ → Text → Slices → Slices
 assemble_under_slices t base s x = write_list (assemble_under t base s) x
 
--- "and W-205's": on every line that is read, and on the line k
+-- and the verdicts: on every line that is read, and on the line k
 abbrev pub explain_all_under : Text → ℕ → Text → Answer (List Verdict)
 explain_all_under t base s = under t (λ names. explain_all_by names base s)
 

@@ -1,5 +1,5 @@
--- W-205, "The line with no word": the verdict on each line that is read, "word emitted" or the first of 02's seven reasons, by the
--- table of forms and without the encoder. The mnemonics are those in use, `.._by names`; 01's have the plain names. Assumes nothing.
+-- "The line with no word": the verdict on each line that is read, "word emitted" or the first of the seven reasons, by the
+-- table of forms and without the encoder. The mnemonics are those in use, `.._by names`; the built-in ones have the plain names. Assumes nothing.
 use Rattle.std.specs.Prelude.{ℕ, zero, suc, Bool, true, false, ◌&&◌, ◌||◌, cond, List, [], ◌∷◌, map, ◌++◌, ltb, length, Option, None, Some, slice_get}
 use Rattle.rules.specs.Text.{Text, bytes, after, cut_at}
 use Rattle.rules.specs.Number.{Failure, Reading, read, failed, reading8, reading16, immediate, imm8, imm16, hex_tail}
@@ -136,7 +136,7 @@ explain_all_by names base s = and_then (pass_at base s) (λ p. accepted (verdict
 unfoldable pub explain_by : List Mnemonic → ℕ → Text → ℕ → Answer Verdict
 explain_by names base s k = and_then (explain_all_by names base s) (λ vs. told_line k (verdict_at k vs))
 
--- with 01's mnemonics
+-- with the built-in mnemonics
 abbrev pub explain_all : ℕ → Text → Answer (List Verdict)
 explain_all base s = explain_all_by mnemonics base s
 

@@ -1,4 +1,4 @@
--- 02's W-207, the manual's own words: the assembling call's refusals and list. The passes are 01's over a size and an encoder. Assumes nothing.
+-- The manual's call: its refusals and its list. The passes are those of the rules over a size and an encoder. Assumes nothing.
 use Rattle.std.specs.Prelude.{ℕ, suc, List, [], ◌∷◌, Option, None, Some}
 use Rattle.rules.specs.Text.{Text}
 use Rattle.rules.specs.Line.{Task, skipped, end, org, no_org, label_only, instruction, value, space}

@@ -1,4 +1,4 @@
--- 02's W-207, the manual's own words: what an instruction says, its size, its words and its fault. Assumes nothing.
+-- The manual's call: what an instruction says, its size, its words and its fault. Assumes nothing.
 use Rattle.std.specs.Prelude.{ℕ, ◌+◌, ◌*◌, Bool, true, false, ◌&&◌, ◌||◌, cond, List, [], ◌∷◌, ◌++◌, map, leb, ltb, eqb, length, ℤ, pos, negsuc, neg_ℤ, Option, None, Some, option_map}
 use Rattle.std.proofs.Math.IntN.{sub_ℕ}
 use Rattle.rules.specs.Option.{bind}
@@ -59,7 +59,7 @@ W m h = record { name = m; suffix = Some (bytes "W"); head = h }
 abbrev L : Text → Head → HeadRow
 L m h = record { name = m; suffix = Some (bytes "L"); head = h }
 
--- "Sizes are those that 01 lists as equal to the manual, and L for MOVE with `#` or a label, MOVEA and CMP with `#`"; "JMP (or JUMP) and
+-- sizes are those of the forms that are "equal to the manual, and L for MOVE with `#` or a label, MOVEA and CMP with `#`"; "JMP (or JUMP) and
 -- DBRA have no suffix"; "SIMHALT has no encoding here"; "BPL is 10 and BMI 11"
 unfoldable pub heads : List HeadRow
 heads =
@@ -83,7 +83,7 @@ unfoldable pub head_in : List HeadRow → Text → Option Text → Option Head
 head_in [] m f = None
 head_in (r ∷ rs) m f = elim (same m r.name && same_suffix f r.suffix) [ true ↦ Some r.head | false ↦ head_in rs m f ]
 
--- "other text (W-205)": no `#` in front, and none of Dn, An, (An)
+-- "other text": no `#` in front, and none of Dn, An, (An)
 unfoldable pub other_text : Text → Option Text
 other_text s = cond (same_kind (kind_of s) other_kind) (Some s) None
 
@@ -124,7 +124,7 @@ move_long s t =
     else (do l ← other_text s; n ← data_register t; Some (labelled (load n) l))
     else (do n ← data_register s; l ← other_text t; Some (labelled (store n) l))
 
--- the operand forms of a head: "NOP has no operand, a branch one"; "CMP with `#`, which is CMPI"; "Only other text (W-205), or what follows
+-- the operand forms of a head: "NOP has no operand, a branch one"; "CMP with `#`, which is CMPI"; "Only other text, or what follows
 -- MOVEA's `#`, names a label"
 unfoldable pub form_of : Head → List Text → Option Form
 form_of moveq = two λ s t. do v ← imm8 s; n ← data_register t; Some (said (MOVEQ v n))
@@ -174,7 +174,7 @@ listed (Some x) = x ∷ []
 unfoldable pub displacements : Table → ℕ → Text → List ℤ
 displacements ls a s = listed (option_map (λ t. sub_ℕ t (a + 2)) (find s ls)) ++ listed (signed_digits s)
 
--- "The eleven branches use the byte form, and a displacement of 0 is out of range for them"; W-208: "−1 is out of range for the eleven
+-- "The eleven branches use the byte form, and a displacement of 0 is out of range for them"; "−1 is out of range for the eleven
 -- branches"; "DBRA has its 16-bit displacement"
 unfoldable pub fits : Branching → ℤ → Bool
 fits (branch c) (pos n) = ltb 0 n && ltb n 128

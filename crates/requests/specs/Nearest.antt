@@ -1,4 +1,4 @@
--- W-201, "Which label is this near?": the label whose recorded address is greatest without passing the one asked. Assumes nothing.
+-- "Which label is this near?": the label whose recorded address is greatest without passing the one asked. Assumes nothing.
 use Rattle.std.specs.Prelude.{ℕ, ◌-◌, Bool, ◌&&◌, ◌||◌, cond, [], ◌∷◌, length, leb, ltb, eqb, Option, None, Some}
 use Rattle.rules.specs.Text.{Text}
 use Rattle.rules.specs.Label.{Label, Table}

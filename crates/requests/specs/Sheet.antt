@@ -1,4 +1,4 @@
--- W-214, "One sheet for a plant": the totals of one source at base 0, of a series of sources, and of sheets added up; refusals 20 and
+-- "One sheet for a plant": the totals of one source at base 0, of a series of sources, and of sheets added up; refusals 20 and
 -- 21. Assumes nothing.
 use Rattle.std.specs.Prelude.{ℕ, suc, ◌+◌, ◌-◌, ◌^◌, max, Bool, false, ◌||◌, cond, List, [], ◌∷◌, map, ◌++◌, leb, ltb, eqb, length, replicate}
 use Rattle.rules.specs.Text.{Text, cut_at}

@@ -1,4 +1,4 @@
--- W-202, "Symbols with their lines": the labels of a source, in the order of their lines, and as rows in lent slices. Assumes nothing.
+-- "Symbols with their lines": the labels of a source, in the order of their lines, and as rows in lent slices. Assumes nothing.
 use Rattle.std.specs.Prelude.{ℕ, Bool, true, false, ◌||◌, cond, List, [], ◌∷◌, map, length, ltb}
 use Rattle.rules.specs.Text.{Text}
 use Rattle.rules.specs.Label.{Label, Table}

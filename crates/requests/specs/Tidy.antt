@@ -1,4 +1,4 @@
--- W-212, "A tidy copy": the copy of each line and of a source, its refusals, and the lent slice after a call. Assumes nothing.
+-- "A tidy copy": the copy of each line and of a source, its refusals, and the lent slice after a call. Assumes nothing.
 use Rattle.std.specs.Prelude.{ℕ, true, false, List, [], ◌∷◌, ◌++◌, length, ltb}
 use Rattle.rules.specs.Text.{Text, trim, cut_at, pieces, joined, uncut, around, first_cut}
 use Rattle.rules.specs.Line.{Task, skipped, end, org, no_org, label_only, instruction, value, space, line_of, is_data}

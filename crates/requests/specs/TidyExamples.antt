@@ -1,4 +1,4 @@
--- W-212's tidy copies by example, byte for byte: 02's and those of its readings. Assumes nothing.
+-- Tidy copies by example, byte for byte. Assumes nothing.
 use Rattle.std.specs.Prelude.{◌≡◌, List, [], ◌∷◌, map}
 use Rattle.rules.specs.Text.{Text, bytes}
 use Rattle.requests.specs.Tidy.{tidy}

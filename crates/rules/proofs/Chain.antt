@@ -1,4 +1,4 @@
--- Laws of W-211's definitions: what is left is no longer than the text, and so a chain needs no count. Assumes nothing.
+-- Laws of the definitions of sums: what is left is no longer than the text, and so a chain needs no count. Assumes nothing.
 use Prim.Native.Nat.{ℕ, zero, suc, ◌≤◌}
 use mathlib.Core.Path.{◌≡◌, refl}
 use mathlib.Core.Bool.{Bool, true, false, cond}

@@ -10,7 +10,7 @@ use Rattle.rules.specs.Text.{Text, bytes, uppers, leading, trim, pieces, joined,
 use Rattle.rules.specs.Line.{Name, name, line, data_task, is_directive, data_pieces, nonempty, data_line, is_data, rest_line, after_label, label_line, trimmed_line, line_of}
 use Rattle.rules.proofs.Standing.{At, at_within, at_in, at_start, trim_at, front_led, trim_led, cut_is, after_cut, first_piece}
 
--- names that stand in the line l, from b on, each behind the end of the one before, and end before e
+-- names that stand in the line l, from b on, each after the end of the one before, and end before e
 pub data Rising (l : Text) (e : ℕ) : ℕ → List Name → Type 0 where
   over : {b : ℕ} → b ≤ e → Rising l e b []
   next : {b : ℕ} {m : Name} {ms : List Name} → b ≤ m.start → At m.text m.start l → Rising l e (suc (m.start + length m.text)) ms

@@ -1,7 +1,7 @@
--- A call's answer, by paper 01: accepted, or a refusal's number and place. Assumes nothing.
+-- A call's answer, by the rules: accepted, or a refusal's number and place. Assumes nothing.
 use Rattle.std.specs.Prelude.{ℕ, Bool, true, false, Option, None, Some}
 
--- "Each is (number, place)"; a place is what 01 says at each number: a length, an index, a line or a count
+-- "Each is (number, place)"; a place is what the rules say at each number: a length, an index, a line or a count
 pub data Answer (A : Type 0) : Type 0 where
   accepted : A → Answer A
   refused : ℕ → ℕ → Answer A

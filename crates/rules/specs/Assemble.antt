@@ -1,5 +1,5 @@
--- The two passes, refusals 1 to 7, the list, and the lent slices after a call, by paper 01. The passes are said over a size and an
--- encoder, `.._by`; 01's own size and words have the plain names. A call goes in stages: `checks`, `pass_at`, `encoded`, `room`. Assumes nothing.
+-- The two passes, refusals 1 to 7, the list, and the lent slices after a call, by the rules. The passes are said over a size and an
+-- encoder, `.._by`; the stations' own size and words have the plain names. A call goes in stages: `checks`, `pass_at`, `encoded`, `room`. Assumes nothing.
 use Rattle.std.specs.Prelude.{ℕ, suc, ◌+◌, ◌/◌, ◌%◌, Bool, true, false, ◌||◌, length, drop, leb, ltb, Option, None, Some, unwrap_or}
 use mathlib.Core.List.{List, [], ◌∷◌, map, flat_map, ◌++◌}
 use Rattle.rules.specs.Limits.{max_source, max_lines, address_limit}
@@ -75,7 +75,7 @@ first_pass_by z base a t (l ∷ ls) =
       ]
     ]
 
--- with 01's sizes
+-- with the stations' sizes
 abbrev pub step : ℕ → ℕ → Table → SourceLine → Line → Step
 step base a t l r = step_by size base a t l r
 
@@ -92,7 +92,7 @@ abbrev pub place : ℕ → ℕ → ℕ → Place
 place a w m = record { address = a; word = w; mark = m }
 
 -- "Label addresses in ext are taken modulo 65,536 and carry mark 1; all other words carry 0", the second "at address + 2".
--- 02's W-207: "A 32-bit label address carries mark 2 on its high word and 3 on the low."
+-- "A 32-bit label address carries mark 2 on its high word and 3 on the low."
 unfoldable pub places_at : ℕ → List Content → List Place
 places_at a [] = []
 places_at a (literal w ∷ cs) = place a w 0 ∷ places_at (a + 2) cs
@@ -133,11 +133,11 @@ data_places p = places_at p.address (data_contents p.task)
 unfoldable pub code_places_by : Encoder → Table → Put → List Place
 code_places_by e t p = places_at p.address (code_contents_by e t p.address p.task)
 
--- "Data words come first in source order, and instruction words go in behind the data words."
+-- "Data words come first in source order, and instruction words go in after the data words."
 unfoldable pub second_pass_by : Encoder → Pass → List Place
 second_pass_by e p = flat_map data_places p.puts ++ flat_map (code_places_by e p.labels) p.puts
 
--- with 01's words
+-- with the stations' words
 abbrev pub code_contents : Table → ℕ → Task → List Content
 code_contents t a k = code_contents_by encode t a k
 

@@ -1,4 +1,4 @@
--- W-204, "Every directive .. passes this on": what the number of a line said, for ORG and DC, by paper 01's steps. Assumes nothing.
+-- "Every directive .. passes this on": what the number of a line said, for ORG and DC, by the six steps. Assumes nothing.
 use Rattle.std.specs.Prelude.{ℕ, ◌||◌, cond, List, [], ◌∷◌, eqb, Option, None, Some}
 use Rattle.rules.specs.Text.{Text, bytes, uppers, trim, pieces, joined, uncut, around, first_cut, starts, contains, nth}
 use Rattle.rules.specs.Number.{Reading}

@@ -1,4 +1,4 @@
--- The words of an instruction, by paper 01's second pass. Assumes nothing.
+-- The words of an instruction, by the rules' second pass. Assumes nothing.
 use Rattle.std.specs.Prelude.{ℕ, ◌+◌, ◌*◌, Bool, true, false, ◌&&◌, ◌||◌, cond, List, [], ◌∷◌, ◌++◌, ltb, eqb, ℤ, Option, None, Some}
 use Rattle.std.proofs.Math.IntN.{sub_ℕ}
 use Rattle.rules.specs.Option.{bind, or_else}
@@ -140,7 +140,7 @@ with_value w v = Some (literal w ∷ literal v ∷ [])
 unfoldable pub with_label : Table → ℕ → Text → Option (List Content)
 with_label ls w l = do x ← find l ls; Some (literal w ∷ address x ∷ [])
 
--- ---- 01's rows, each the words of one form by its operands s and t; w is the row's word
+-- ---- the stations' rows, each the words of one form by its operands s and t; w is the row's word
 -- Dn,Dm
 unfoldable pub registers_row : ℕ → Text → Text → Option (List Content)
 registers_row w s t = do n ← data_register s; m ← data_register t; word (w + R m + n)
@@ -231,6 +231,6 @@ encode_operation ls a (branch c) = one_or_more (branch_row ls a c)
 unfoldable pub encode_by : List Mnemonic → Table → ℕ → Instruction → Option (List Content)
 encode_by names ls a i = do o ← operation_in names i.mnemonic; encode_operation ls a o i.operands
 
--- 01's
+-- the stations'
 abbrev pub encode : Table → ℕ → Instruction → Option (List Content)
 encode ls a i = encode_by mnemonics ls a i

@@ -1,4 +1,4 @@
--- Paper 01's forms as a table: of each operation the count of its operands and what its forms have in their places; and W-205's
+-- The stations' forms as a table: of each operation the count of its operands and what its forms have in their places; and the
 -- kinds of operands. Assumes nothing.
 use Rattle.std.specs.Prelude.{ℕ, Bool, true, false, ◌&&◌, cond, List, [], ◌∷◌, leb, eqb, Option, None, Some}
 use Rattle.rules.specs.Text.{Text, bytes, starts}
@@ -28,7 +28,7 @@ kind_number text = 4
 unfoldable pub same_kind : Kind → Kind → Bool
 same_kind k j = eqb (kind_number k) (kind_number j)
 
--- what a form has in a place, as 01 writes it: #i8, #u16, MOVEA's #label, Dn, An, (An), label, JMP's number or label, a branch's d
+-- what a form has in a place: #i8, #u16, MOVEA's #label, Dn, An, (An), label, JMP's number or label, a branch's d
 pub data Operand : Type 0 where
   i8 u16 hash_label Dn An AtAn label jump_target branch_target : Operand
 
@@ -64,7 +64,7 @@ takes n fs = record { count = n; forms = fs }
 abbrev pair : Operand → Operand → List Operand
 pair x y = x ∷ y ∷ []
 
--- "MOVE tries in order", and the other rows of 01's second pass
+-- "MOVE tries in order", and the other rows of the second pass
 unfoldable pub forms_of : Operation → Forms
 forms_of move = takes (exactly 2) (pair u16 Dn ∷ pair AtAn Dn ∷ pair Dn AtAn ∷ pair Dn Dn ∷ pair label Dn ∷ pair Dn label ∷ [])
 forms_of movea = takes (exactly 2) (pair hash_label An ∷ [])

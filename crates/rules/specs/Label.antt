@@ -1,11 +1,11 @@
--- The labels recorded, by paper 01. Assumes nothing.
+-- The labels recorded, by the rules. Assumes nothing.
 use Rattle.std.specs.Prelude.{ℕ, ◌+◌, Bool, true, false, List, [], ◌∷◌, length, ltb, Option, None, Some}
 use Rattle.rules.specs.Limits.{max_labels}
 use Rattle.rules.specs.Text.{Text, same}
 use Rattle.rules.specs.Line.{SourceLine, Name}
 
 -- a recorded label: its name, where its text starts in the source, its address, and
--- "the line, from 1, on which its address was last set" (02)
+-- "the line, from 1, on which its address was last set"
 pub record Label : Type 0 where
   pub name : Text
   pub start : ℕ
@@ -36,7 +36,7 @@ abbrev pub label_of : SourceLine → ℕ → Name → Label
 label_of l a n = record { name = n.text; start = l.start + n.start; address = a; line = l.number }
 
 -- the labels ns of the source line l, recorded in order at the address a;
--- none where "a new label when" 256 "are recorded" (W-203) comes
+-- none where "a new label when" 256 "are recorded" comes
 unfoldable pub record_all : SourceLine → ℕ → List Name → Table → Option Table
 record_all l a [] t = Some t
 record_all l a (n ∷ ns) t =

@@ -1,4 +1,4 @@
--- Paper 01's limits, each named once. Assumes nothing.
+-- The rules' limits, each named once. Assumes nothing.
 use Rattle.std.specs.Prelude.{ℕ, ◌+◌, ◌^◌}
 
 -- "source 32,768 bytes, 4,096 lines"
@@ -8,7 +8,7 @@ max_source = 32768
 abbrev pub max_lines : ℕ
 max_lines = 4096
 
--- W-203: "256 distinct names"; 01 had 1,024
+-- "256 distinct names"
 abbrev pub max_labels : ℕ
 max_labels = 256
 
@@ -24,6 +24,6 @@ last_address = 2 ^ 30 + 1
 abbrev pub distance_limit : ℕ
 distance_limit = 2 ^ 30
 
--- W-211: "Parentheses nest at most 16 deep."
+-- "Parentheses nest at most 16 deep."
 abbrev pub max_nesting : ℕ
 max_nesting = 16

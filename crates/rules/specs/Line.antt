@@ -1,4 +1,4 @@
--- What a line says, by paper 01: the six steps of the first pass, and the size of an instruction. Assumes nothing.
+-- What a line says, by the rules: the six steps of the first pass, and the size of an instruction. Assumes nothing.
 use Rattle.std.specs.Prelude.{ℕ, suc, ◌+◌, Bool, true, false, not, ◌&&◌, ◌||◌, cond, List, [], ◌∷◌, map, ◌++◌, length, eqb, Option, None, Some}
 use Rattle.rules.specs.Text.{Text, bytes, uppers, leading, trim, cut_at, drop_empty, pieces, joined, uncut, around, first_cut, same, starts, contains, nth, first_text, other_texts, last_text}
 use Rattle.rules.specs.Number.{Reading, failed, no_digits, value_of, reading32}
@@ -66,7 +66,7 @@ reading_in (Some p) = reading32 p
 unfoldable pub number_in : Option Text → Option ℕ
 number_in o = value_of (reading_in o)
 
--- DC's value as it reads: "A DC value may be a sum in square brackets" (W-211), else it is a number
+-- DC's value as it reads: "A DC value may be a sum in square brackets", else it is a number
 unfoldable pub value_reading : Text → Reading ℕ
 value_reading s = cond (starts (bytes "[") s) (sum_reading s) (reading32 s)
 
@@ -92,7 +92,7 @@ data_size u =
     (cond (contains (bytes "DC.W") u || contains (bytes "DS.W") u) 2
     (cond (contains (bytes "DC.B") u || contains (bytes "DS.B") u) 1 2))
 
--- step 5: "With `DC.` in the line, the directive's second piece, if a number, is the value"; or if a sum (W-211)
+-- step 5: "With `DC.` in the line, the directive's second piece, if a number, is the value"; or if a sum
 unfoldable pub data_value : Text → Text → Option ℕ
 data_value u d = cond (contains (bytes "DC.") u) (value_of (value_reading_in (nth 1 (pieces d)))) None
 

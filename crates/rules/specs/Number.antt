@@ -1,4 +1,4 @@
--- Numbers in text: one reader over the radix and the bound with W-204's four answers, and paper 01's numbers, what it reads. Assumes nothing.
+-- Numbers in text: one reader over the radix and the bound with four answers, and the rules' numbers, what it reads. Assumes nothing.
 use Rattle.std.specs.Prelude.{ℕ, suc, ◌+◌, ◌-◌, ◌*◌, ◌^◌, ◌%◌, true, false, ◌&&◌, cond, [], ◌∷◌, leb, ltb, eqb, ℤ, pos, negsuc, neg_ℤ, Option, None, Some}
 use Rattle.rules.specs.Option.{bind}
 use Rattle.rules.specs.Text.{Text, bytes, after}
@@ -10,7 +10,7 @@ digit_value b =
     (cond (leb 65 b && leb b 70) (b - 55)
     (cond (leb 97 b && leb b 102) (b - 87) 255))
 
--- ---- reading: 02's W-204
+-- ---- reading
 -- what failed: "no digits, a bad digit, too large or too small"
 pub data Failure : Type 0 where
   no_digits bad_digit out_of_range : Failure
@@ -86,7 +86,7 @@ reading8 s = by_prefix (λ r t. signed_reading r 128 t) s
 unfoldable pub immediate : {A : Type 0} → (Text → Reading A) → Text → Option (Reading A)
 immediate f s = elim (after (bytes "#") s) [ None ↦ None | Some t ↦ Some (f t) ]
 
--- ---- 01's numbers: what is read
+-- ---- the numbers: what is read
 -- the value of a reading, if it has one
 unfoldable pub value_of : {A : Type 0} → Reading A → Option A
 value_of (read a) = Some a

@@ -1,4 +1,4 @@
--- The mover, by paper 01 and 02's W-207: refusals 8 to 11, and the lent slices after a call. To move a list is to relocate it. Assumes nothing.
+-- The mover, by the rules: refusals 8 to 11, and the lent slices after a call. To move a list is to relocate it. Assumes nothing.
 use Rattle.std.specs.Prelude.{ℕ, zero, suc, ◌+◌, ◌*◌, ◌/◌, ◌%◌, ◌^◌, Bool, true, false, not, ◌&&◌, ◌||◌, cond, List, [], ◌∷◌, leb, ltb, eqb, ℤ, pos, negsuc, ◌+ℤ◌, nat_abs, Option, None, Some}
 use Rattle.rules.specs.Limits.{last_address, distance_limit}
 use Rattle.rules.specs.Number.{modulo}

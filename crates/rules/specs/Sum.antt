@@ -1,4 +1,4 @@
--- W-211, sums in DC: the expression that a text in square brackets is, and its value by exact steps, with W-204's answers. Assumes nothing.
+-- Sums in DC: the expression that a text in square brackets is, and its value by exact steps, with the answers of a reading. Assumes nothing.
 use Rattle.std.specs.Prelude.{ℕ, zero, suc, ◌+◌, ◌-◌, ◌*◌, ◌^◌, Bool, true, false, ◌||◌, cond, [], ◌∷◌, leb, eqb, length, drop, Option, None, Some}
 use Rattle.rules.specs.Limits.{max_nesting}
 use Rattle.rules.specs.Text.{Text, cut_where, first_text}
@@ -11,7 +11,7 @@ pub data Expression : Type 0 where
   group : Expression → Expression
   sum difference product : Expression → Expression → Expression
 
--- what stands in front of a text: nothing well-formed, or an expression and the text behind it
+-- what stands in front of a text: nothing well-formed, or an expression and the text after it
 pub data Parse : Type 0 where
   malformed : Parse
   parsed : Expression → Text → Parse
@@ -24,7 +24,7 @@ and_parse (parsed e r) f = f e r
 unfoldable pub applied : ℕ → Expression → Expression → Expression
 applied c a b = cond (eqb c 43) (sum a b) (cond (eqb c 45) (difference a b) (product a b))
 
--- "equal rank goes from the left": each operator that passes f, with the item behind it, after the expression so far; k is at least as many as there are
+-- "equal rank goes from the left": each operator that passes f, with the item after it, after the expression so far; k is at least as many as there are
 unfoldable pub chain_by : (ℕ → Bool) → (Text → Parse) → ℕ → Expression → Text → Parse
 chain_by f item zero a s = parsed a s
 chain_by f item (suc k) a [] = parsed a []
@@ -34,7 +34,7 @@ chain_by f item (suc k) a (c ∷ s) =
 unfoldable pub chain : (ℕ → Bool) → (Text → Parse) → Expression → Text → Parse
 chain f item a s = chain_by f item (length s) a s
 
--- an item, and the chain behind it
+-- an item, and the chain after it
 unfoldable pub series : (ℕ → Bool) → (Text → Parse) → Text → Parse
 series f item s = and_parse (item s) (λ a r. chain f item a r)
 
@@ -62,7 +62,7 @@ as_number (failed x) r = malformed
 unfoldable pub number_first : Text → Parse
 number_first s = let n = first_text (cut_where is_operator s) in as_number (plain_number n) (drop (length n) s)
 
--- the parenthesis behind a sum
+-- the parenthesis after a sum
 unfoldable pub paren_closed : Parse → Parse
 paren_closed malformed = malformed
 paren_closed (parsed a []) = malformed

@@ -1,4 +1,4 @@
--- Moves made one after another, and the tally, by paper 01 and 02's W-207: the tally keeps the first list and a running total. Assumes nothing.
+-- Moves made one after another, and the tally, by the rules: the tally keeps the first list and a running total. Assumes nothing.
 use Rattle.std.specs.Prelude.{ℕ, zero, suc, true, false, List, [], ◌∷◌, map, length, ℤ, pos, ◌+ℤ◌, Option, None, Some}
 use Rattle.rules.specs.Answer.{Answer, accepted, refused, refuse_if, refuse_at}
 use Rattle.rules.specs.Assemble.{Place, Slices}
@@ -49,7 +49,7 @@ first_word [] = 0
 first_word (p ∷ ps) = p.word
 
 -- the tally's list at a total: "first address + total at each place; a word with mark 1 is (first word + total) modulo 65,536",
--- and by 02 the total is added "to each such pair modulo 2^32"
+-- and the total is added "to each such pair modulo 2^32"
 unfoldable pub moved_place : ℤ → Place → ℕ → Place
 moved_place total p next =
     record { address = moved_address total p.address; word = moved_word total p.mark p.word next; mark = p.mark }

@@ -1,4 +1,4 @@
--- Bytes of text, by paper 01: blanks, upper case, trimming, cutting, pieces. Assumes nothing.
+-- Bytes of text, by the rules: blanks, upper case, trimming, cutting, pieces. Assumes nothing.
 use Rattle.std.specs.Prelude.{ℕ, zero, suc, ◌-◌, Bool, true, false, ◌&&◌, ◌||◌, cond, List, [], ◌∷◌, ◌++◌, leb, eqb, Option, None, Some}
 use Prim.Native.Char.{code}
 use Prim.Native.String as S

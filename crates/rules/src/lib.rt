@@ -1,6 +1,6 @@
 #![tactic(auto)]
 
-//! Paper 01's limits, for the code. What they mean stands in specs/, which is all of paper 01 as definitions.
+//! The rules' limits, for the code. What they mean stands in specs/, which has the rules of docs/LANGUAGE.md as definitions.
 
 /// The longest source, in bytes.
 pub const MAX_SOURCE: usize = 32768;

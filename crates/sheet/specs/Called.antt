@@ -1,4 +1,4 @@
--- What W-214's calls from C owe: their answer as numbers, and the twelve totals afterwards. Assumes nothing.
+-- What the sheet's calls from C owe: their answer as numbers, and the twelve totals afterwards. Assumes nothing.
 use Rattle.std.specs.Prelude.{ℕ, ◌≡◌, List}
 use Rattle.rules.specs.Answer.{Answer, accepted, refused}
 use Rattle.requests.specs.Sheet.{Totals, numbers_in}

@@ -1,4 +1,4 @@
--- Totals and answers as the code has them, read as W-214's; and what a sum needs. Assumes nothing.
+-- Totals and answers as the code has them, read as the rules'; and what a sum needs. Assumes nothing.
 use Rattle.std.specs.Prelude.{List, ℕ, ◌+◌, ◌^◌, ◌<◌, get_or, Result, Ok, Err}
 use Rattle.rules.specs.Answer.{Answer, accepted, refused}
 use Rattle.requests.specs.Sheet.{totals}

@@ -1,6 +1,6 @@
 #![tactic(auto)]
 
-//! One sheet for a plant (W-214): totals over a series of sources, each at base 0. A source's totals are those of its lines, added up
+//! One sheet for a plant: totals over a series of sources, each at base 0. A source's totals are those of its lines, added up
 //! from the lines that the first pass kept; no list is written. Refusals 20 and 21.
 ghost use Rattle.std.specs.Prelude.{◌≡◌, ◌≤◌, ◌<◌, ◌*◌, ◌-◌, ◌/◌, ◌^◌, min};
 ghost use Rattle.rules.specs.Limits.{max_labels};

@@ -1,4 +1,4 @@
--- The text of W-214's sheet: a row for each total, then the mean "as two whole numbers". Assumes nothing.
+-- A sheet's text: a row for each total, then the mean "as two whole numbers". Assumes nothing.
 use Rattle.std.specs.Prelude.{ℕ, [], ◌∷◌, ◌++◌}
 use Rattle.rules.specs.Text.{Text, bytes}
 use Rattle.requests.specs.Sheet.{Totals, Mean, mean_of}

@@ -1,6 +1,6 @@
 #![tactic(auto)]
 
-//! What `plantsheet` prints, and what a step of it comes to: a script or a sheet that was read is added to the totals (W-214).
+//! What `plantsheet` prints, and what a step of it comes to: a script or a sheet that was read is added to the totals.
 //! There is no heap: a text is put at the front of a slice that is lent.
 ghost use Rattle.std.specs.Prelude.{◌≡◌, ◌≤◌, length as len, take};
 ghost use Rattle.rules.specs.Text.{Text};

@@ -1,6 +1,6 @@
 #![tactic(auto, unfolding(machine::specs::Machine::act_of, machine::specs::Machine::reaches))]
 
-//! One step of the machine of W-213: which it is, and whether it may be made; and what it does. A form's contract is its row of
+//! One step of the bench's machine: which it is, and whether it may be made; and what it does. A form's contract is its row of
 //! `act_of`, over whatever memory it does not look at.
 ghost use Rattle.std.specs.Prelude.{◌≡◌, ℕ, ◌+◌, ◌*◌, ◌/◌, ◌%◌, ◌^◌, ◌<◌, ◌≤◌, true, List, slice_index, set};
 ghost use Rattle.machine.specs.Form.{Valid};

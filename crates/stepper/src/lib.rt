@@ -1,6 +1,6 @@
 #![tactic(auto)]
 
-//! The bench (W-213): a list is filled into the memory and run, with a limit of steps, or refused before any step.
+//! The bench: a list is filled into the memory and run, with a limit of steps, or refused before any step.
 ghost use Rattle.std.specs.Prelude.{◌≡◌, ◌+◌, ◌≤◌, length, take, replicate, position, None, IfOk, OnOk, OnErr};
 ghost use Rattle.std.specs.Bool.{OnFalse};
 ghost use Rattle.answer.specs.Refusal.{answer_of};

@@ -134,7 +134,7 @@ module _ (t : Text) (at d : ℕ) where
       pub opened : (d ≡ 0 → ⊥) → {r : Option Front} → Says t at (paren_closed (sum_of (d - 1) (drop (at + 1) t))) r → Says t at (atom_of d (drop at t)) r
       opened p says = says_as (rw (drop-cons t at 0 h, add-one at) (atom_paren d (get_or t at 0) (drop (suc at) t) p k)) says
 
--- ---- the parenthesis behind a sum
+-- ---- the parenthesis after a sum
 closed_none : (a : Expression) (r : Text) → length r < 1 → paren_closed (parsed a r) ≡ malformed
 unfolding paren_closed
 closed_none a [] h = refl
@@ -298,7 +298,7 @@ sum_some (Some a) w e = let k : w ≡ exact_value a = cc in rw k (go (exact_valu
     go None = refl
     go (Some v) = refl
 
--- a bracket in front, and what was read behind it
+-- a bracket in front, and what was read after it
 module _ (t : Text) (filled : 0 < length t) (bracket : get_or t 0 0 ≡ 91) {r : Option Front} (says : Says t 1 (sum_of 16 (drop 1 t)) r) where
   inner : bracketed t ≡ ended (sum_of 16 (drop 1 t))
   inner = in_bracket t (λ e. omega arith) bracket

@@ -1,6 +1,6 @@
 #![tactic(auto)]
 
-//! Sums in square brackets (W-211): the readers of sums, products and atoms, which call each other, and what a text says as a number of DC.
+//! Sums in square brackets: the readers of sums, products and atoms, which call each other, and what a text says as a number of DC.
 ghost use Rattle.std.specs.Prelude.{◌≡◌, ℕ, ◌≤◌, ◌+◌, ◌^◌, length, drop, Some};
 ghost use Rattle.std.specs.Option.{option_map};
 ghost use Rattle.rules.specs.Number.{ranged, below};
@@ -16,7 +16,7 @@ use text::ByteTest;
 const MAX_NESTING: usize = 16;
 
 /// What was read from a place on: its worth, None where a number or a step in it is out of range, and where it ends. A reader answers
-/// None where the text is malformed. What is out of range is read on, since a bad digit behind it comes first.
+/// None where the text is malformed. What is out of range is read on, since a bad digit after it comes first.
 #[derive(Clone, Copy, Debug, PartialEq, Eq)]
 pub struct Front {
     pub worth: Option<u32>,

@@ -1,6 +1,6 @@
 #![tactic(auto)]
 
-//! A branch table in a file, for the programs that take `-b FILE` (W-210).
+//! A branch table in a file, for the programs that take `-b FILE`.
 ghost use Rattle.file.specs.FileRead.{FileRead};
 
 use file::read_file;

@@ -1,6 +1,6 @@
 #![tactic(auto)]
 
-//! Bytes of text by paper 01: blanks and trimming, comparing, finding a byte, blank-separated pieces.
+//! Bytes of text by the rules: blanks and trimming, comparing, finding a byte, blank-separated pieces.
 
 ghost use Rattle.std.specs.Prelude.{◌≡◌, ℕ, ◌+◌, ◌≤◌, ◌<◌, Bool, length, drop, position};
 ghost use Rattle.rules.specs.Text.{blank, leading, trim_end, trim, upper, uppers, same, starts, contains};

@@ -1,6 +1,6 @@
 #![tactic(auto)]
 
-//! The tidy copy of a source (W-212): each line that is read, written one after another. A copy is never longer than its source, so the
+//! The tidy copy of a source: each line that is read, written one after another. A copy is never longer than its source, so the
 //! writers ask for as much room as the text that they copy has. There is no heap: the copy is put at the front of a slice that is lent.
 ghost use Rattle.std.specs.Prelude.{◌≡◌, ◌+◌, ◌<◌, ◌≤◌, length, take};
 ghost use Rattle.rules.specs.Limits.{max_source};

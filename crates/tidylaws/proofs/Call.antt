@@ -12,10 +12,10 @@ use Rattle.rules.specs.Answer.{accepted, refused}
 use Rattle.rules.specs.Assemble.{over}
 use Rattle.requests.specs.Tidy.{tidy, room_for, tidy_answer, write_copy, tidy_slice}
 use Rattle.promises.specs.Stages.{all, Checked}
-use Rattle.promises.specs.Demand1.{SourceCondition, checking}
+use Rattle.promises.specs.Refusals.{SourceCondition, checking}
 use Rattle.promises.specs.Tidy.{TidyCondition, of_source, too_short, tidying, TidyRefusesExactly, TidyWrites}
 use Rattle.promises.proofs.Stages.{is_checked, not_checked, checked_by, still_checked, apart, are_apart, Runs, done, refuse_if_lem, refuses_exactly}
-use Rattle.promises.proofs.Demand1Assemble.{source_known, checks_run}
+use Rattle.promises.proofs.RefusalsAssemble.{source_known, checks_run}
 use Rattle.promises.proofs.Accepted.{not_refused, checks_passed}
 
 module _ (room : ℕ) (s : Text) where

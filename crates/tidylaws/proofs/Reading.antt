@@ -10,7 +10,7 @@ use Rattle.rules.specs.Line.{Name, name, Task, Line, line, instruction, operands
 use Rattle.text.proofs.Trim.{leading_none, first_none, drop_leading, leading_trim, trim_trim}
 use Rattle.text.proofs.Pieces.{pieces_trim}
 use Rattle.requests.specs.Tidy.{squeezed, around_colon, tidy_rest, tidy_line}
-use Rattle.promises.specs.Demand1.{names_of}
+use Rattle.promises.specs.Refusals.{names_of}
 use Rattle.promises.specs.Tidy.{Kind, skip, fin, origin, step4, kind_of, CopyReadsAlike}
 use Rattle.tidylaws.proofs.Hits.{leads, Clean, sign, sign_of, free, Holds, Leads, leads_same, leads_beside, leads_trim_end}
 use Rattle.tidylaws.proofs.Neat.{Neat, neat_is, neat_trim, neat_squeezed, neat_colon, pieces_squeezed, some_squeezed}

@@ -1,4 +1,4 @@
--- Each line's copy is what 02 says of it, and the copy has the copies of the lines that are kept. Assumes nothing.
+-- Each line's copy is what the rules say of it, and the copy has the copies of the lines that are kept. Assumes nothing.
 use mathlib.Core.Path.{◌≡◌, refl, sym, ap, ◌∙◌}
 use mathlib.Core.Logic.{◌≢◌}
 use mathlib.Core.List.{List, [], ◌∷◌, ◌++◌, map}

@@ -1,4 +1,4 @@
--- What `tidy` prints for a script, and what it says on standard error of one that is refused (W-212). Assumes nothing.
+-- What `tidy` prints for a script, and what it says on standard error of one that is refused. Assumes nothing.
 use Rattle.std.specs.Prelude.{ℕ, cond, List, [], ltb, take}
 use Rattle.rules.specs.Limits.{max_source}
 use Rattle.rules.specs.Text.{Text}

@@ -1,6 +1,6 @@
 #![tactic(auto)]
 
-//! What `tidy` prints for a script that was read chunk by chunk, its tidy copy, and what it says of a script that is refused (W-212); and
+//! What `tidy` prints for a script that was read chunk by chunk, its tidy copy, and what it says of a script that is refused; and
 //! the answer of a call as a text. There is no heap: a text is put at the front of a slice that is lent.
 ghost use Rattle.std.specs.Prelude.{◌≡◌};
 ghost use Rattle.rules.specs.Text.{Text};

@@ -1,4 +1,4 @@
--- What `whyline` prints for a script (W-205), and what its arguments ask. Assumes nothing.
+-- What `whyline` prints for a script, and what its arguments ask. Assumes nothing.
 use Rattle.std.specs.Prelude.{ℕ, suc, ◌^◌, cond, List, [], ◌∷◌, ◌++◌, map, eqb, leb, Option, None, Some, Result, Ok, Err}
 use Rattle.rules.specs.Text.{Text, bytes}
 use Rattle.rules.specs.Number.{no_digits, bad_digit, out_of_range, Reading, some_digits, ranged, below}
@@ -13,7 +13,7 @@ use Rattle.whytext.specs.declared.WrongArguments.{WrongArguments}
 
 -- ---- a line
 
--- 02's "word emitted", and its seven reasons in few words, "a number and what failed in it" being three of them
+-- "word emitted", and its seven reasons in few words, "a number and what failed in it" being three of them
 abbrev pub phrase : Verdict → Text
 phrase emitted = bytes "word emitted"
 phrase (because not_instruction) = bytes "not an instruction"

@@ -1,6 +1,6 @@
 #![tactic(auto)]
 
-//! What `whyline` prints for a script that was read chunk by chunk: why its lines have no word (W-205); and what its arguments
+//! What `whyline` prints for a script that was read chunk by chunk: why its lines have no word; and what its arguments
 //! ask. A text is put at the front of a slice that is lent: there is no heap.
 ghost use Rattle.std.specs.Prelude.{◌≡◌, ◌+◌, ◌*◌, ◌≤◌, Ok, length as len, take, IfOk};
 ghost use Rattle.rules.specs.Text.{Text};

@@ -1,4 +1,4 @@
--- A word, and the number behind it.
+-- A word, and the number after it.
 use Rattle.std.proofs.Common.{rules}
 use Rattle.rules.specs.Text.{bytes}
 use Rattle.listing.proofs.Adding.{adds_both, adds_all}

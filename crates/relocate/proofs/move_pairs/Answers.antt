@@ -12,7 +12,7 @@ loop-i-preserved c = sweep_steps c.loop-i.invariant (omega arith) _ (c.moved_wor
 pub returns-then-count-eq0 : goal.returns-then-count-eq0
 returns-then-count-eq0 c = no_words _ c.args.marks.now _ c.if-count-eq0.true
 
--- no word stands behind the last
+-- no word stands after the last
 
 pub returns : goal.returns
 returns c =

@@ -1,4 +1,4 @@
--- `close_paren` meets its contract, by the byte behind what was read. Assumes nothing.
+-- `close_paren` meets its contract, by the byte after what was read. Assumes nothing.
 use Rattle.std.proofs.Common.{arith}
 use Rattle.sum.proofs.Readers.{unclosed, other_byte}
 use Rattle.sum.proofs.close_paren.Goals as goal

@@ -1,4 +1,4 @@
--- `command_lines` puts each text behind those before it.
+-- `command_lines` puts each text after those before it.
 use Rattle.std.proofs.Common.{◌∙◌, arith}
 use Rattle.commandline.proofs.Lines.{next}
 use Rattle.commandline.proofs.help.command_lines.Goals as goal

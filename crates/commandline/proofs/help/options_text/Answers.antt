@@ -1,4 +1,4 @@
--- `options_text` puts each text behind those before it.
+-- `options_text` puts each text after those before it.
 use Rattle.std.proofs.Common.{◌∙◌, arith}
 use Rattle.commandline.proofs.Lines.{next}
 use Rattle.commandline.proofs.help.options_text.Goals as goal

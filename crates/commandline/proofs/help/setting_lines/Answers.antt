@@ -1,4 +1,4 @@
--- `setting_lines` puts each text behind those before it.
+-- `setting_lines` puts each text after those before it.
 use Rattle.std.proofs.Common.{◌∙◌, arith}
 use Rattle.commandline.proofs.Lines.{next}
 use Rattle.commandline.proofs.help.setting_lines.Goals as goal

@@ -1,4 +1,4 @@
--- `line_at` leaves a line behind at each turn. Assumes nothing.
+-- `line_at` leaves a line after at each turn. Assumes nothing.
 use Rattle.diagnostic.proofs.Walking.{Walk}
 use Rattle.diagnostic.proofs.shown.line_at.Given as goal
 

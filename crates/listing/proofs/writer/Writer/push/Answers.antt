@@ -1,4 +1,4 @@
--- A byte is set behind what is written.
+-- A byte is set after what is written.
 use Rattle.std.proofs.Common.{refl, arith}
 use Rattle.text.proofs.Over.{set_put}
 use Rattle.listing.proofs.Adding.{adds_put}

@@ -1,4 +1,4 @@
--- As many digits are put behind what is written.
+-- As many digits are put after what is written.
 use Rattle.std.proofs.Common.{refl, arith}
 use Rattle.listing.proofs.Digits.{length_digits}
 use Rattle.listing.proofs.Adding.{adds_put}
