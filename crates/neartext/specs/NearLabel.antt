@@ -13,9 +13,13 @@ use Rattle.neartext.specs.declared.Asked.{Asked}
 unfoldable pub label_text : Text → ℕ → Text
 label_text name distance = name ++ (32 ∷ (decimal distance ++ (10 ∷ [])))
 
--- the line for a script's answer: the name as its last record has it, or the refusal
+-- the line for a label that the script's answer names: the name as its last record has it
+abbrev pub nearest_line : Text → Nearest → Text
+nearest_line s n = label_text (take n.length (drop n.start s)) n.distance
+
+-- the line for a script's answer: the label's, or the refusal's
 unfoldable pub told_text : Text → Answer Nearest → Text
-told_text s (accepted n) = label_text (take n.length (drop n.start s)) n.distance
+told_text s (accepted n) = nearest_line s n
 told_text s (refused n p) = refused_text n p
 
 -- what is printed at a base, for an address and a script

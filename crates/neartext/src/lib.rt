@@ -4,11 +4,13 @@
 //! There is no heap: a text is put at the front of a slice that is lent.
 ghost use Rattle.std.specs.Prelude.{◌≡◌, ◌+◌, ◌≤◌, length as len};
 ghost use Rattle.rules.specs.Text.{Text};
+ghost use Rattle.requests.specs.Nearest.{nearest};
 ghost use Rattle.listing.specs.Writer.{Adds};
 ghost use Rattle.station.specs.Station.{unless_failed, input_text};
 ghost use Rattle.station.specs.Printed.{Printed};
+ghost use Rattle.station.specs.Puts.{Puts, texts};
 ghost use Rattle.station.specs.Reads.{Reads};
-ghost use Rattle.neartext.specs.NearLabel.{label_text, near_text, asked_at, asked_by};
+ghost use Rattle.neartext.specs.NearLabel.{label_text, nearest_line, near_text, asked_at, asked_by};
 
 use answer::Refusal;
 use listing::writer::Writer;
@@ -49,6 +51,9 @@ pub fn asked_by(count: usize, address: &[u8], base: &[u8]) -> Option<Asked>
     }
 }
 
+/// As many bytes as the line of a label takes at most.
+pub const NEAR: usize = MAX_SOURCE + 22;
+
 // Writes a label's line.
 fn push_label(name: &[u8], distance: u32, text: &mut Writer<'_>)
     requires { text.old.len + len name.now + 22 ≤ len text.old.out.now }
@@ -60,33 +65,39 @@ fn push_label(name: &[u8], distance: u32, text: &mut Writer<'_>)
     text.push(b'\n');
 }
 
-// Puts the line for a script at the front, and answers its length.
-fn write_nearest(source: &[u8], base: u32, address: u32, out: &mut [u8; TEXT]) -> usize
-    requires { len source.now ≤ 32768 }
-    ensures { Printed (near_text base address source.now) result out.old out.new }
+// Puts the line of the label near an address at the front, and answers its length; or refuses the script, and puts nothing.
+fn put_nearest(source: &[u8], base: u32, address: u32, out: &mut [u8]) -> Result<usize, Refusal>
+    requires { len source.now + 22 ≤ len out.old }
+    ensures { Puts (texts (nearest_line source.now) (nearest base source.now address)) result out.old out.new }
 {
-    match nearest_label(source, base, address) {
-        Ok(label) => {
-            let end = label.start + label.length;
-            let name = &source[label.start..end];
-            let mut text = Writer::new(out);
-            push_label(name, label.distance, &mut text);
-            text.len
-        }
-        Err(refusal) => write_refusal(refusal, out),
-    }
+    let label = nearest_label(source, base, address)?;
+    let end = label.start + label.length;
+    let name = &source[label.start..end];
+    let mut text = Writer::new(out);
+    push_label(name, label.distance, &mut text);
+    Ok(text.len)
 }
 
 /// The same for a source of any length.
-#[tactic(auto, using(crate::proofs::Told::near_refuses_long))]
-pub fn write_near(source: &[u8], base: u32, address: u32, out: &mut [u8; TEXT]) -> usize
-    ensures { Printed (near_text base address source.now) result out.old out.new }
+pub fn put_near(source: &[u8], base: u32, address: u32, out: &mut [u8]) -> Result<usize, Refusal>
+    requires { 32790 ≤ len out.old }
+    ensures { Puts (texts (nearest_line source.now) (nearest base source.now address)) result out.old out.new }
 {
     let length = source.len();
     if MAX_SOURCE < length {
-        return write_refusal(Refusal::LongSource(length), out);
+        return Err(Refusal::LongSource(length));
     }
-    write_nearest(source, base, address, out)
+    put_nearest(source, base, address, out)
+}
+
+/// Puts the line of the label near an address, or that of the refusal, at the front, and answers its length.
+pub fn write_near(source: &[u8], base: u32, address: u32, out: &mut [u8; TEXT]) -> usize
+    ensures { Printed (near_text base address source.now) result out.old out.new }
+{
+    match put_near(source, base, address, out) {
+        Ok(n) => n,
+        Err(refusal) => write_refusal(refusal, out),
+    }
 }
 
 /// Puts what is printed for an input that is a script at the front, and answers its length: nothing if it was not read whole.
@@ -109,5 +120,5 @@ pub fn near_text(
     if MAX_SOURCE < total {
         return write_refusal(Refusal::LongSource(total), out);
     }
-    write_nearest(&script[..total], base, address, out)
+    write_near(&script[..total], base, address, out)
 }

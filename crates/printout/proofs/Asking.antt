@@ -1,4 +1,4 @@
--- Which line asks what: the lines that an accepted pass reads, and END behind them. Assumes nothing.
+-- Which line asks what: the lines that an accepted pass reads, and END after them. Assumes nothing.
 use Rattle.std.specs.Prelude.{Option, Some, slice_get}
 use Prim.Native.Nat.{ℕ, zero, suc, ◌+◌, ◌≤◌, ◌<◌}
 use mathlib.Core.Path.{◌≡◌, refl, ap}

@@ -208,7 +208,7 @@ unfoldable pub end_at : ℕ → ℕ → List Put → ℕ
 end_at base a [] = a
 end_at base a (u ∷ us) = end_at base (address_after size base u.address u.task) us
 
--- the row of the k-th line, from 0: one that asks, END, or one behind it
+-- the row of the k-th line, from 0: one that asks, END, or one after it
 pub data RowIs (names : List Mnemonic) (t : Table) (base a : ℕ) (us : List Put) (k : ℕ) (l : SourceLine) (r : Text) : Type 0 where
   asks : (u : Put) → slice_get us k ≡ Some u → r ≡ bare_read names t u l → RowIs names t base a us k l r
   ends : length us ≡ k → r ≡ bare_read names t (end_put (end_at base a us)) l → RowIs names t base a us k l r

@@ -80,7 +80,7 @@ unfolding cut_at cut_where on_first
 cut_row [] rest h = refl
 cut_row (b ∷ r) rest h = rw (cut_where, first_whole b r h, cut_row r rest (rest_whole b r h))
 
--- rows, each with byte 10 behind it
+-- rows, each with byte 10 after it
 abbrev pub ended : Text → Text
 ended r = r ++ (10 ∷ [])
 

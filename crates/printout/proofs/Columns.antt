@@ -106,7 +106,7 @@ row_adds n a ps v l g p o q =
     let row = adds_both (adds_both p o) q in
     (row, omega (arith, row.len, row_length n a ps v l g))
 
--- behind END: the 23 bytes between the number and the line
+-- after END: the 23 bytes between the number and the line
 pub unread_adds : (line start : ℕ) (l : Text) {w w₁ w₂ w₃ w₄ : Writer} → line ≤ 9999 → Adds (padded line) w w₁
     → Adds (bytes "  not read             ") w₁ w₂ → Adds l w₂ w₃ → Adds (10 ∷ []) w₃ w₄
     → Adds (unread_row (record { number = line; start = start; text = l })) w w₄ × (w₄.len ≤ w.len + 58 + length l)

@@ -1,4 +1,4 @@
--- The rows of the lines that are kept, one after another, and then of those behind them. Assumes nothing.
+-- The rows of the lines that are kept, one after another, and then of those after them. Assumes nothing.
 use Prim.Native.Nat.{ℕ, zero, suc, ◌+◌, ◌^◌, ◌≤◌, ◌<◌}
 use mathlib.Core.Path.{◌≡◌, refl, sym, ap, ◌∙◌}
 use mathlib.Core.Bool.{Bool, true, false}
@@ -136,7 +136,7 @@ module _ {names : List Mnemonic} {labels : Labelled} {cells : List ℕ} {pass : 
             rows = rowing_more w.rows needs (keeping_inside l) end q _ _ _ (step p) g b;
           }
 
-  -- behind them
+  -- after them
   pub keeping_end : WhyTaskNeeds labels address End
   keeping_end = end_needs h k address w.among w.here
 

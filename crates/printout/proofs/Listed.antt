@@ -60,7 +60,7 @@ module _ (names : List Mnemonic) (t : Table) (a : ℕ) where
   of_others (value n v) = refl
   of_others (space n) = refl
 
--- ---- behind END
+-- ---- after END
 module _ (rest : List Text) where
   unread_values : (ls : List SourceLine) → All Small ls → values_shown (texts ls) (map bare_unread ls ++ rest) ≡ []
   unfolding values_shown

@@ -75,7 +75,7 @@ module _ {source whole rest : Text} {line start k i : ℕ} {first at : Writer} (
       let all : w.done ≡ whole = sym (append-nil w.done) ∙ ap (λ (s : Text). w.done ++ s) (sym e) ∙ w.all in
       record { adds = adds_as w.adds all; low = omega (arith, w.room) }
 
--- ---- lines behind END
+-- ---- lines after END
 pub unread_none : (source : Text) (k i : ℕ) → length source < i → flat_map unread_row (lines_from source k i) ≡ []
 unfolding flat_map
 unread_none source k i h = rw (lines_none source k i h)
@@ -85,7 +85,7 @@ pub unread_step : (source : Text) (k i end : ℕ) → i ≤ length source → en
 unfolding flat_map
 unread_step source k i end h e = rw (lines_step source k i h, add-one k, add-one end, e)
 
--- ---- END, and the lines behind it
+-- ---- END, and the lines after it
 module _ {source : Text} {line start : ℕ} {first : Writer} (needs : LinesNeeds source line start first) where
   here : first.len ≤ length first.out.now
   here = omega (arith, needs.room)

@@ -84,7 +84,7 @@ module _ (names : List Mnemonic) (t : Table) (u : Put) (l : SourceLine) (h : l.n
         let z = second_column l.number columns words l.text tail h (length_digits 16 8 u.address) (words_length (places_of_put names t u)) in
         rw (read_address, w, z) (places_read names t u (32 ∷ (l.text ++ tail)))
 
--- a line behind END
+-- a line after END
 module _ (l : SourceLine) (h : l.number ≤ 9999) where
   abbrev blanks : Text
   blanks = bytes "          "
@@ -316,7 +316,7 @@ module _ (names : List Mnemonic) (base : ℕ) (s : Text) (t : Table) (k : ℕ) (
         unread = λ n i e. let q : accepted (why_task names t u.address u.task) ≡ refused n i = sym told ∙ e in clash cc;
       }
 
--- a line behind END
+-- a line after END
 unread_reason : (names : List Mnemonic) (base : ℕ) (s : Text) (k : ℕ) (l : SourceLine) → l.number ≤ 9999 → explain_by names base s (suc k) ≡ refused 13 (suc k) → ReasonShown names base s k l.text (bare_unread l)
 unread_reason names base s k l small told =
     record {

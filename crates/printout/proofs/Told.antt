@@ -1,5 +1,5 @@
 -- The printout: the labels under the rows, and a source's by the first pass. Assumes nothing.
-use Rattle.std.specs.Prelude.{Some, Result, Ok, Err}
+use Rattle.std.specs.Prelude.{Option, None, Some, Result, Ok, Err}
 use Prim.Native.Nat.{ℕ, ◌+◌, ◌≤◌}
 use mathlib.Core.Path.{◌≡◌, refl, sym, ap, ◌∙◌}
 use mathlib.Core.List.{List, [], ◌∷◌}
@@ -9,7 +9,7 @@ use Rattle.rules.specs.Text.{Text, cut_at}
 use Rattle.rules.specs.Line.{size}
 use Rattle.rules.specs.Label.{Table}
 use Rattle.rules.specs.Encode.{Mnemonic}
-use Rattle.rules.specs.Answer.{accepted, refused, and_then}
+use Rattle.rules.specs.Answer.{Answer, accepted, refused, and_then}
 use Rattle.rules.specs.Assemble.{pass_at_by}
 use Rattle.requests.specs.Symbols.{in_order, symbols}
 use Rattle.promises.specs.Symbols.{EachListFits}
@@ -25,15 +25,16 @@ use Rattle.outline.proofs.Lines.{lines_all, lines_count}
 use Rattle.first.specs.Pass.{pass_in, Holds}
 use Rattle.first.specs.declared.Pass.{Pass}
 use Rattle.first.proofs.Bounds.{InLimits, within}
-use Rattle.listing.specs.Listing.{refused_text}
 use Rattle.listing.specs.Writer.{Begins, Adds}
 use Rattle.listing.specs.declared.writer.Writer.{Writer}
 use Rattle.listing.proofs.Adding.{adds_both}
-use Rattle.std.specs.Borrow.{MutBor}
+use Rattle.std.specs.Borrow.{Bor, MutBor}
+use Rattle.std.specs.Option.{option_copied}
 use Rattle.station.specs.Printed.{Printed}
+use Rattle.station.proofs.Puts.{line_of}
 use Rattle.symtext.specs.Symlist.{symbols_text, told_text as told}
 use Rattle.symtext.proofs.Told.{lines_fit}
-use Rattle.printout.specs.Printout.{under_rows, page_text, printout_by, told_text, printout_under}
+use Rattle.printout.specs.Printout.{under_rows, page_text, printout_by, printout_of, told_text}
 use Rattle.printout.specs.Rows.{LinesNeeds, RowsGive}
 use Rattle.printout.proofs.Keeping.{all_rows}
 
@@ -82,21 +83,33 @@ module _ (names : List Mnemonic) (labels : Labelled) (cells : List ℕ) (pass : 
 
 -- ---- by the first pass
 module _ (names : List Mnemonic) (base : ℕ) (source : Text) where
-  pub told_refusal : {n k : ℕ} → refused n k ≡ pass_at_by size base source → refused_text n k ≡ told_text (printout_by names base source)
-  unfolding told_text printout_by and_then
-  told_refusal e = rw (← e)
+  pub refusal_put : {n k : ℕ} → refused n k ≡ pass_at_by size base source → printout_by names base source ≡ refused n k
+  unfolding printout_by and_then
+  refusal_put e = rw (← e)
 
-  pub told_page : {labels : Labelled} {cells : List ℕ} {p : Pass} → Holds labels cells p → p.base ≡ base → labels.source ≡ source
-      → page_text names p.base labels.source (pass_in labels cells p) ≡ told_text (printout_by names base source)
-  unfolding told_text printout_by and_then
-  told_page h e f = rw (← e, ← f, h.passed)
+  pub page_put : {labels : Labelled} {cells : List ℕ} {p : Pass} → Holds labels cells p → p.base ≡ base → labels.source ≡ source
+      → printout_by names base source ≡ accepted (page_text names p.base labels.source (pass_in labels cells p))
+  unfolding printout_by and_then
+  page_put h e f = rw (← e, ← f, h.passed)
 
--- ---- under a branch table, by what loading it answered
-module _ (t : Text) {r : Result ℕ Refusal} (e : answer_of r ≡ checked t) (base : ℕ) (s : Text) where
-  pub table_refusal : (x : Refusal) → r ≡ Err x → refused_text (number_of x) (place_of x) ≡ printout_under t base s
-  unfolding printout_under told_text
-  table_refusal x f = rw (under_refused (λ names. printout_by names base s) t e x f)
+-- ---- under the branch table that may be lent, by what loading it answered
+module _ (base : ℕ) (s : Text) where
+  pub none_lent : (o : Option (Bor Text)) → ((t : Bor Text) → o ≡ Some t → ⊥) → printout_of (option_copied o) base s ≡ printout_by (names_in (option_copied o)) base s
+  unfolding printout_of names_in
+  none_lent None h = refl
+  none_lent (Some t) h = absurd (h t refl)
 
-  pub table_page : (n : ℕ) → r ≡ Ok n → told_text (printout_by (names_in (Some t)) base s) ≡ printout_under t base s
-  unfolding printout_under
-  table_page n f = rw (under_accepted (λ names. printout_by names base s) t e n f)
+  module _ {o : Option Text} {t : Text} {r : Result ℕ Refusal} (is : o ≡ Some t) (e : answer_of r ≡ checked t) where
+    pub table_refused : (x : Refusal) → r ≡ Err x → printout_of o base s ≡ refused (number_of x) (place_of x)
+    unfolding printout_of
+    table_refused x f = rw (is, under_refused (λ names. printout_by names base s) t e x f)
+
+    pub table_lent : (n : ℕ) → r ≡ Ok n → printout_of o base s ≡ printout_by (names_in o) base s
+    unfolding printout_of
+    table_lent n f = rw is (under_accepted (λ names. printout_by names base s) t e n f)
+
+-- ---- what is printed is the printout, or the line of the refusal
+pub printout_told : (a : Answer Text) → line_of a ≡ told_text a
+unfolding told_text
+printout_told (accepted t) = refl
+printout_told (refused n p) = refl

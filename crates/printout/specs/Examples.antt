@@ -1,4 +1,4 @@
--- Printouts byte for byte: P1's script; lines without words, and behind END; an empty source; under a branch table; refusals. Assumes nothing.
+-- Printouts byte for byte: the bezel's script; lines without words, and after END; an empty source; under a branch table; refusals. Assumes nothing.
 use Rattle.std.specs.Prelude.{◌≡◌, [], ◌∷◌, ◌++◌}
 use Rattle.rules.specs.Text.{Text, bytes}
 use Rattle.printout.specs.Printout.{printout_text, printout_under}

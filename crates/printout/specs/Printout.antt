@@ -1,5 +1,5 @@
 -- What `lagvettu list` prints for a script, an assembly listing for people: a row for each line of the source with its address and its
--- words, or why it has none, and the labels under the rows; over the mnemonics in use, by 01's and under a branch table. Assumes nothing.
+-- words, or why it has none, and the labels under the rows; over the mnemonics in use, by the stations' and under a branch table. Assumes nothing.
 use Rattle.std.specs.Prelude.{ℕ, cond, eqb, length, drop, Option, None, Some}
 use mathlib.Core.List.{List, [], ◌∷◌, ◌++◌, flat_map}
 use Rattle.rules.specs.Text.{Text, bytes}
@@ -45,7 +45,7 @@ end_text (p ∷ ps) v = 10 ∷ []
 unfoldable pub row_text : ℕ → ℕ → List Place → Verdict → Text → Text
 row_text n a ps v l = (front_text n (digits_of 16 8 a) (words_text ps) ++ l) ++ end_text ps v
 
--- a directive, ORG or data with `DC.`, whose number cannot be read is told by what failed in it, any other line by W-205's verdict
+-- a directive, ORG or data with `DC.`, whose number cannot be read is told by what failed in it, any other line by the verdict on it
 unfoldable pub reason_of : Option (Reading ℕ) → Verdict → Verdict
 reason_of None v = v
 reason_of (Some (read n)) v = v
@@ -60,7 +60,7 @@ unfoldable pub read_row : List Mnemonic → Table → Put → SourceLine → Tex
 read_row names t u l =
     row_text l.number u.address (places_of_put names t u) (reason_of (line_reading l.text) (why_task names t u.address u.task)) l.text
 
--- a line behind END
+-- a line after END
 unfoldable pub unread_row : SourceLine → Text
 unread_row l = (front_text l.number (bytes "not read") (bytes "          ") ++ l.text) ++ (10 ∷ [])
 
@@ -84,12 +84,17 @@ page_text names base s p = rows_from names p.labels base base p.puts (lines_of s
 unfoldable pub printout_by : List Mnemonic → ℕ → Text → Answer Text
 printout_by names base s = and_then (pass_at base s) (λ p. accepted (page_text names base s p))
 
+-- by the stations' mnemonics, or under a branch table if one is lent
+unfoldable pub printout_of : Option Text → ℕ → Text → Answer Text
+printout_of None base s = printout_by mnemonics base s
+printout_of (Some t) base s = under t (λ names. printout_by names base s)
+
 -- a refused source has the one line of its refusal
 unfoldable pub told_text : Answer Text → Text
 told_text (accepted t) = t
 told_text (refused n p) = refused_text n p
 
--- by 01's mnemonics, and under a branch table
+-- by the stations' mnemonics, and under a branch table
 unfoldable pub printout_text : ℕ → Text → Text
 printout_text base s = told_text (printout_by mnemonics base s)
 

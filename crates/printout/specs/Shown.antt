@@ -97,14 +97,14 @@ others_shown [] rs = []
 others_shown (l ∷ ls) [] = []
 others_shown (l ∷ ls) (r ∷ rs) = cond (has_value (line_of l).task) [] (places_in r) ++ others_shown ls rs
 
--- all rows together show the list: "Data words come first in source order, and instruction words go in behind the data words."
+-- all rows together show the list: "Data words come first in source order, and instruction words go in after the data words."
 unfoldable pub ShowsList : Type 0
 ShowsList =
     (names : List Mnemonic) (base : ℕ) (s t : Text) (list : List Place) → printout_by names base s ≡ accepted t → assemble_by size (encode_by names) base s ≡ accepted list
     → map sixteen list ≡ values_shown (cut_at 10 s) (cut_at 10 t) ++ others_shown (cut_at 10 s) (cut_at 10 t)
 
 -- ---- reasons
--- what follows the line's bytes: nothing where a word is emitted; else W-205's reason, or what failed in a directive's number (W-204)
+-- what follows the line's bytes: nothing where a word is emitted; else the reason why, or what failed in a directive's number
 abbrev pub ending : Text → Text → Text
 ending l r = drop (27 + length l) r
 

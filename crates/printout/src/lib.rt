@@ -19,11 +19,13 @@ ghost use Rattle.explain.specs.Lines.{WhyTaskNeeds};
 ghost use Rattle.listing.specs.Listing.{digits_of};
 ghost use Rattle.listing.specs.Writer.{Adds};
 ghost use Rattle.station.specs.Printed.{Printed};
+ghost use Rattle.station.specs.Puts.{Puts};
 ghost use Rattle.symtext.specs.Symlist.{symbols_text};
 ghost use Rattle.whytext.specs.Verdicts.{said_of};
-ghost use Rattle.printout.specs.Printout.{padded, word_text, words_text, front_text, end_text, row_text, places_of_put, read_row, unread_row, rows_from, under_rows, page_text, printout_by, told_text, printout_text, printout_under};
+ghost use Rattle.printout.specs.Printout.{padded, word_text, words_text, front_text, end_text, row_text, places_of_put, read_row, unread_row, rows_from, under_rows, page_text, printout_by, printout_of, told_text, printout_text, printout_under};
 ghost use Rattle.printout.specs.Rows.{shown_verdict, put_of, line_at, LineNeeds, LinesNeeds, RowsGive};
 
+use answer::Refusal;
 use encode::Code;
 use explain::Verdict;
 use first::Pass;
@@ -62,7 +64,7 @@ fn push_number(line: usize, text: &mut Writer<'_>)
     text.push_bytes(&digits[..n]);
 }
 
-// What stands behind a word: `*` if its mark is not 0.
+// What stands after a word: `*` if its mark is not 0.
 fn mark_sign(mark: u8) -> u8
     ensures { result ≡ cond (eqb mark 0) 32 42 }
 {
@@ -119,7 +121,7 @@ fn push_front(line: usize, address: u32, code: Option<Code>, text: &mut Writer<'
     text.push(b' ');
 }
 
-// Writes what stands behind them.
+// Writes what stands after them.
 #[tactic(auto, unfolding(crate::specs::Printout::end_text))]
 fn push_end(code: Option<Code>, reason: Verdict, text: &mut Writer<'_>)
     requires { text.old.len + 31 ≤ len text.old.out.now }
@@ -206,7 +208,7 @@ fn push_read(
 
 // ---- Lines that are not read.
 
-// Writes the row of a line behind END.
+// Writes the row of a line after END.
 fn push_unread(source: &[u8], line: usize, span: Span, text: &mut Writer<'_>)
     requires { LineNeeds source.now line span text.old }
     ensures text { Adds (unread_row (line_at source.now line span.start)) text.old text.new }
@@ -236,7 +238,7 @@ fn push_unread_rows(source: &[u8], line: usize, start: usize, text: &mut Writer<
 
 // ---- All lines.
 
-// Writes the rows of the lines behind the kept ones, from END on, which is read at an address.
+// Writes the rows of the lines after the kept ones, from END on, which is read at an address.
 fn push_rest(
     names: Option<&[u8]>,
     labels: &Labels<'_>,
@@ -319,34 +321,67 @@ fn write_page(
     text.len
 }
 
-// Puts the printout of a source at a base, by the names in use, or the line of its refusal, at the front, and answers its length.
-fn write_printout_by(
+// Puts the printout of a source at a base, by the names in use, at the front, and answers its length; or refuses the source, and puts
+// nothing.
+fn put_printout_by(
+    names: Option<&[u8]>,
+    source: &[u8],
+    base: u32,
+    out: &mut [u8],
+) -> Result<usize, Refusal>
+    requires { 401410 ≤ len out.old }
+    ensures { Puts (printout_by (names_in (option_copied names.entry)) base source.now) result out.old out.new }
+{
+    let mut table = [0u32; label::TABLE];
+    let mut cells = [0u32; 2 * rules::MAX_LINES];
+    let mut labels = Labels::new(source, &mut table);
+    let pass = first::enter(&mut labels, base, &mut cells)?;
+    Ok(write_page(names, &labels, &cells, pass, out))
+}
+
+/// Puts the printout of a source at a base, under the branch table `names` if one is lent, at the front, and answers its length; or
+/// refuses the table, or the source after it, and puts nothing.
+pub fn put_printout(
+    names: Option<&[u8]>,
+    source: &[u8],
+    base: u32,
+    out: &mut [u8],
+) -> Result<usize, Refusal>
+    requires { 401410 ≤ len out.old }
+    ensures { Puts (printout_of (option_copied names.entry) base source.now) result out.old out.new }
+{
+    if let Some(table) = names {
+        branches::load_branches(table)?;
+    }
+    put_printout_by(names, source, base, out)
+}
+
+// Puts the printout, or the line of a refusal, at the front, and answers its length.
+fn write_printout_of(
     names: Option<&[u8]>,
     source: &[u8],
     base: u32,
     out: &mut [u8; PRINTOUT],
 ) -> usize
-    ensures { Printed (told_text (printout_by (names_in (option_copied names.entry)) base source.now)) result out.old out.new }
+    ensures { Printed (told_text (printout_of (option_copied names.entry) base source.now)) result out.old out.new }
 {
-    let mut table = [0u32; label::TABLE];
-    let mut cells = [0u32; 2 * rules::MAX_LINES];
-    let mut labels = Labels::new(source, &mut table);
-    match first::enter(&mut labels, base, &mut cells) {
-        Ok(pass) => write_page(names, &labels, &cells, pass, out),
+    match put_printout(names, source, base, out) {
+        Ok(n) => n,
         Err(refusal) => write_refusal(refusal, out),
     }
 }
 
 /// Puts the printout of a source at a base, or the line of its refusal, at the front, and answers its length.
-#[tactic(auto, unfolding(branches::specs::Branch::names_in, crate::specs::Printout::printout_text))]
+#[tactic(auto, unfolding(crate::specs::Printout::printout_of, crate::specs::Printout::printout_text))]
 pub fn write_printout(source: &[u8], base: u32, out: &mut [u8; PRINTOUT]) -> usize
     ensures { Printed (printout_text base source.now) result out.old out.new }
 {
-    write_printout_by(None, source, base, out)
+    write_printout_of(None, source, base, out)
 }
 
 /// The same under the branch table `names`, which is refused before all else.
 // Two calls, and no `Option` of a table: the public calls keep what they take.
+#[tactic(auto, unfolding(crate::specs::Printout::printout_of, crate::specs::Printout::printout_under))]
 pub fn write_printout_branches(
     names: &[u8],
     source: &[u8],
@@ -355,8 +390,5 @@ pub fn write_printout_branches(
 ) -> usize
     ensures { Printed (printout_under names.now base source.now) result out.old out.new }
 {
-    match branches::load_branches(names) {
-        Ok(_) => write_printout_by(Some(names), source, base, out),
-        Err(refusal) => write_refusal(refusal, out),
-    }
+    write_printout_of(Some(names), source, base, out)
 }

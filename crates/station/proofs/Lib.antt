@@ -1,4 +1,5 @@
 pub mod Printed
+pub mod Puts
 pub mod Moving
 pub mod ScriptInput
 pub mod Script

@@ -9,7 +9,7 @@ use Rattle.rules.specs.Answer.{Answer, accepted, refused, refuse_if, and_then}
 use Rattle.rules.specs.Assemble.{Place, Slices, assemble, assemble_answer, write_list, assemble_slices, assemble_by, pass_at_by, room}
 use Rattle.promises.specs.Longest.{AtMostTwoALine}
 use Rattle.promises.proofs.Longest.{at_most_two_a_line}
-use Rattle.promises.proofs.Demand1.{written}
+use Rattle.promises.proofs.Refusals.{written}
 use Rattle.listing.specs.Listing.{list_text}
 use Rattle.station.specs.Station.{answer_text, listed_text, script_text}
 use Rattle.station.proofs.Moving.{long_enough}

@@ -1,4 +1,4 @@
--- What `movelist` prints, byte for byte: P1's list moved to P2's, a pair, refusals, and texts that are no lists. Assumes nothing.
+-- What `movelist` prints, byte for byte: the bezel's list moved by 8,192, a pair, refusals, and texts that are no lists. Assumes nothing.
 use Rattle.std.specs.Prelude.{◌≡◌, [], ◌++◌, pos, negsuc}
 use Rattle.rules.specs.Text.{Text, bytes}
 use Rattle.station.specs.Station.{moved_text}

@@ -1,4 +1,5 @@
 pub mod Station
 pub mod Printed
+pub mod Puts
 pub mod Reads
 pub mod Examples

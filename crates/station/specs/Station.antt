@@ -83,7 +83,7 @@ given_distance count t = cond (eqb count 2) (signed 10 (2 ^ 31) t) None
 unfoldable pub hexadecimal_in : Text → Reading ℕ
 hexadecimal_in t = unsigned_reading 16 (2 ^ 32) (unwrap_or (hex_tail t) t)
 
--- `-b FILE` before the other arguments lends a branch table (W-210): the program's name, these two, and the file's name is not empty
+-- `-b FILE` before the other arguments lends a branch table: the program's name, these two, and the file's name is not empty
 unfoldable pub lends_table : ℕ → Text → Text → Bool
 lends_table count option file = ltb 2 count && (ltb 0 (length file) && same option (bytes "-b"))
 

@@ -10,7 +10,7 @@ use numeral::Failure;
 use numeral::unsigned::{hex_tail, read_number};
 use text::starts_with;
 
-/// What is told before a program's own arguments: whether a branch table is lent, by `-b FILE` (W-210).
+/// What is told before a program's own arguments: whether a branch table is lent, by `-b FILE`.
 #[derive(Clone, Copy, Debug, PartialEq, Eq, Hash)]
 pub struct Given {
     /// A flag: the file's name stays with the caller, and each of the others is a place in either case.

@@ -97,7 +97,7 @@ pub fn read_whole<R: Read, const CHUNK: usize>(from: &mut R, buffer: &mut [u8]) 
     input
 }
 
-/// Reads a script to the end behind a branch table: where that could not be read nothing more is.
+/// Reads a script to the end after a branch table: where that could not be read nothing more is.
 pub fn read_behind<R: Read, const CHUNK: usize>(
     table: Input,
     from: &mut R,

@@ -25,7 +25,7 @@ use listing::writing::{LINE, write_list, write_refused};
 use relocate::relocate;
 use rules::MAX_SOURCE;
 
-/// The places of the longest list there is: three for each line of a source, by W-207's call.
+/// The places of the longest list there is: three for each line of a source, by the manual's call.
 pub const PLACES: usize = 12288;
 
 /// The bytes of its text.
@@ -37,7 +37,7 @@ pub const SCRIPT: usize = MAX_SOURCE;
 /// As much of a list's text as has to be kept: a byte more than the longest has, so that a line too many is seen.
 pub const LIST: usize = TEXT + 1;
 
-/// As much of a branch table as has to be kept: 16 rows of six bytes, and the byte that ends them (W-210).
+/// As much of a branch table as has to be kept: 16 rows of six bytes, and the byte that ends them.
 pub const TABLE: usize = 97;
 
 /// Puts the line of a refusal at the front, and answers its length.

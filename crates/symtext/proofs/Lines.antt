@@ -50,7 +50,7 @@ module _ (s : Text) (x : Rows) where
     lines_more = split k 1 (k + 1) 0 k (omega arith) (omega arith) ∙ ap (λ (t : Text). lines_from s x 0 k ++ t) one
 
     -- there is room for it
-    pub lines_room : RowsFit s x → k < length x.starts → length (lines_from s x 0 k) + length lent + 31 ≤ 131072
+    pub lines_room : RowsFit s x → k < length x.starts → length (lines_from s x 0 k) + length lent + 31 ≤ 36628
     lines_room fit h =
         let n = length x.starts in
         let rest = lines_from s x (k + 1) (n - (k + 1)) in

@@ -12,7 +12,7 @@ use Rattle.rules.specs.Label.{Label}
 use Rattle.rules.specs.Answer.{Answer, accepted, refused, refuse_if, and_then}
 use Rattle.rules.specs.Assemble.{pass_at_by}
 use Rattle.requests.specs.Symbols.{symbols, Rows, rows, short_rows, room_rows, symbols_answer, symbols_rows}
-use Rattle.promises.specs.Demand1.{source_over, of_source}
+use Rattle.promises.specs.Refusals.{source_over, of_source}
 use Rattle.promises.specs.Nearest.{In, head, tail}
 use Rattle.promises.specs.Symbols.{IsEntry, SymbolsAreListed, RowsWritten, names_length, SymbolsFit, EachListFits}
 use Rattle.promises.proofs.Compared.{clash}
@@ -20,8 +20,9 @@ use Rattle.promises.proofs.Sorted.{entry_in}
 use Rattle.promises.proofs.Symbols.{symbols_are_listed}
 use Rattle.promises.proofs.SymbolsFit.{each_list_fits}
 use Rattle.promises.proofs.SymbolsRows.{symbols_are_written}
-use Rattle.listing.specs.Listing.{refused_text}
 use Rattle.listing.proofs.Digits.{few_places, decimal_length}
+use Rattle.station.specs.Puts.{texts}
+use Rattle.station.proofs.Puts.{line_of}
 use Rattle.station.proofs.ScriptInput.{RefusesLong, checks_long}
 use Rattle.symtext.specs.Symlist.{symbol_text, told_text, symbols_text}
 use Rattle.symtext.specs.Rows.{label_at, labels_from, rows_text, RowsFit}
@@ -86,7 +87,7 @@ module _ (base : ℕ) (s : Text) (x : Rows) {y : Rows} {n : ℕ} (answered : acc
   labels : labels_from s cut 0 (length cut.starts) ≡ call.list
   labels = ap (labels_from s cut 0) counted ∙ from_entries s cut call.list 0 (λ i m e h. let z : 0 + i ≡ i = omega arith in rw z (row_is i m e))
 
-  room : length (rows_text s cut) + 20 ≤ 131072
+  room : length (rows_text s cut) + 20 ≤ 36628
   room =
       let short : ¬ (max_source < length s) = λ h. call.listed.clear 1 (length s) (of_source (source_over h)) in
       let text = ap (λ (l : List Label). length (flat_map symbol_text l)) labels in
@@ -103,9 +104,12 @@ module _ (base : ℕ) (s : Text) (x : Rows) {y : Rows} {n : ℕ} (answered : acc
         room = room;
       }
 
-  pub rows_text_lem : rows_text s cut ≡ symbols_text base s
-  unfolding symbols_text told_text
-  rows_text_lem = rw (listed, labels)
+  -- they hold the labels
+  pub rows_listed : symbols base s ≡ accepted (labels_from s cut 0 (length cut.starts))
+  rows_listed = rw (listed, labels)
+
+  pub rows_told : texts (flat_map symbol_text) (symbols base s) ≡ accepted (rows_text s cut)
+  rows_told = rw rows_listed refl
 
 -- ---- a refused call, where each slice has a place for each label
 module _ (x : Rows) (a : max_labels ≤ length x.starts) (b : max_labels ≤ length x.lengths) (c : max_labels ≤ length x.addresses) (d : max_labels ≤ length x.lines) where
@@ -115,7 +119,7 @@ module _ (x : Rows) (a : max_labels ≤ length x.starts) (b : max_labels ≤ len
       rw
       (le-ltb (length x.starts) n (omega arith), le-ltb (length x.lengths) n (omega arith), le-ltb (length x.addresses) n (omega arith), le-ltb (length x.lines) n (omega arith))
 
-  same_refusal : (base : ℕ) (s : Text) (n p : ℕ) → symbols_answer base s x ≡ refused n p → symbols base s ≡ refused n p
+  pub same_refusal : (base : ℕ) (s : Text) (n p : ℕ) → symbols_answer base s x ≡ refused n p → symbols base s ≡ refused n p
   unfolding symbols_answer and_then room_rows refuse_if EachListFits
   same_refusal base s n p e = go (symbols base s) refl
     where
@@ -124,8 +128,16 @@ module _ (x : Rows) (a : max_labels ≤ length x.starts) (b : max_labels ≤ len
       go (accepted l) f =
           let g : accepted (length l) ≡ refused n p = rw (f, room_rows, not_short (length l) (each_list_fits base s l f).count) at e in clash cc
 
-pub refusal_text : (base : ℕ) (s : Text) (x : Rows) {n p : ℕ} → refused n p ≡ symbols_answer base s x
+pub refusal_told : (base : ℕ) (s : Text) (x : Rows) {n p : ℕ} → refused n p ≡ symbols_answer base s x
     → max_labels ≤ length x.starts → max_labels ≤ length x.lengths → max_labels ≤ length x.addresses → max_labels ≤ length x.lines
-    → refused_text n p ≡ symbols_text base s
+    → texts (flat_map symbol_text) (symbols base s) ≡ refused n p
+refusal_told base s x {n} {p} e a b c d = rw (same_refusal x a b c d base s n p (sym e)) refl
+
+-- what is printed is the lines, or that of the refusal
+pub symbols_told : (base : ℕ) (s : Text) → line_of (texts (flat_map symbol_text) (symbols base s)) ≡ symbols_text base s
 unfolding symbols_text told_text
-refusal_text base s x {n} {p} e a b c d = rw (same_refusal x a b c d base s n p (sym e))
+symbols_told base s = go (symbols base s)
+  where
+    go : (a : Answer (List Label)) → line_of (texts (flat_map symbol_text) a) ≡ told_text a
+    go (accepted l) = refl
+    go (refused n p) = refl

@@ -29,10 +29,10 @@ lines_from s x k n = flat_map symbol_text (labels_from s x k n)
 abbrev pub rows_text : Text → Rows → Text
 rows_text s x = lines_from s x 0 (length x.starts)
 
--- rows whose names lie in the source, and whose lines leave of 131,072 bytes the 20 that any number may take
+-- rows whose names lie in the source, and whose lines leave of 36,628 bytes the 20 that any number may take
 pub record RowsFit (s : Text) (x : Rows) : Type 0 where
   pub lengths : length x.lengths ≡ length x.starts
   pub addresses : length x.addresses ≡ length x.starts
   pub lines : length x.lines ≡ length x.starts
   pub within : (k : ℕ) → k < length x.starts → get_or x.starts k 0 + get_or x.lengths k 0 ≤ length s
-  pub room : length (rows_text s x) + 20 ≤ 131072
+  pub room : length (rows_text s x) + 20 ≤ 36628

@@ -1,4 +1,4 @@
--- What `symlist` prints for a script (W-202). Assumes nothing.
+-- What `symlist` prints for a script. Assumes nothing.
 use Rattle.std.specs.Prelude.{ℕ}
 use mathlib.Core.List.{List, [], ◌∷◌, ◌++◌, flat_map}
 use Rattle.rules.specs.Text.{Text}

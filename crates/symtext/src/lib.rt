@@ -3,13 +3,15 @@
 //! What `symlist` prints for a script that was read chunk by chunk: the labels with their addresses and lines. There is no heap:
 //! a text is put at the front of a slice that is lent.
 ghost use Rattle.std.specs.Prelude.{◌≡◌, ◌+◌, ◌≤◌, length as len};
+ghost use mathlib.Core.List.{flat_map};
 ghost use Rattle.rules.specs.Text.{Text};
-ghost use Rattle.requests.specs.Symbols.{rows};
+ghost use Rattle.requests.specs.Symbols.{rows, symbols};
 ghost use Rattle.listing.specs.Writer.{Adds};
 ghost use Rattle.station.specs.Station.{unless_failed, input_text};
 ghost use Rattle.station.specs.Printed.{Printed};
+ghost use Rattle.station.specs.Puts.{Puts, texts};
 ghost use Rattle.station.specs.Reads.{Reads};
-ghost use Rattle.symtext.specs.Symlist.{line_text, symbols_text};
+ghost use Rattle.symtext.specs.Symlist.{line_text, symbol_text, symbols_text};
 ghost use Rattle.symtext.specs.Rows.{rows_text, RowsFit};
 
 use answer::Refusal;
@@ -18,6 +20,9 @@ use rules::{MAX_LABELS, MAX_SOURCE};
 use station::input::Input;
 use station::{SCRIPT, TEXT, write_refusal};
 use symbols::list_symbols;
+
+/// As many bytes as the labels' lines take at most, with those that the last number might.
+pub const SYMBOLS: usize = MAX_SOURCE + 15 * MAX_LABELS + 20;
 
 // Writes a label's line.
 fn push_line(name: &[u8], address: u32, line: u32, text: &mut Writer<'_>)
@@ -42,7 +47,7 @@ fn push_lines(
     text: &mut Writer<'_>,
 )
     requires fits { RowsFit source.now (rows starts.now lengths.now addresses.now lines.now) }
-    requires room { text.old.len + 131072 ≤ len text.old.out.now }
+    requires room { text.old.len + 36628 ≤ len text.old.out.now }
     ensures { Adds (rows_text source.now (rows starts.now lengths.now addresses.now lines.now)) text.old text.new }
 {
     // A row stands at one index of four slices.
@@ -54,34 +59,41 @@ fn push_lines(
     }
 }
 
-/// Puts the lines of a source's labels, or that of its refusal, at the front, and answers their length.
-pub fn write_symbols(source: &[u8], base: u32, out: &mut [u8; TEXT]) -> usize
-    ensures { Printed (symbols_text base source.now) result out.old out.new }
+/// Puts the lines of a source's labels at the front, and answers their length; or refuses the source, and puts nothing.
+pub fn put_symbols(source: &[u8], base: u32, out: &mut [u8]) -> Result<usize, Refusal>
+    requires { 36628 ≤ len out.old }
+    ensures { Puts (texts (flat_map symbol_text) (symbols base source.now)) result out.old out.new }
 {
     let mut starts = [0u32; MAX_LABELS];
     let mut lengths = [0u32; MAX_LABELS];
     let mut addresses = [0u32; MAX_LABELS];
     let mut lines = [0u32; MAX_LABELS];
-    match list_symbols(
+    let count = list_symbols(
         source,
         base,
         &mut starts,
         &mut lengths,
         &mut addresses,
         &mut lines,
-    ) {
-        Ok(count) => {
-            let mut text = Writer::new(out);
-            push_lines(
-                source,
-                &starts[..count],
-                &lengths[..count],
-                &addresses[..count],
-                &lines[..count],
-                &mut text,
-            );
-            text.len
-        }
+    )?;
+    let mut text = Writer::new(out);
+    push_lines(
+        source,
+        &starts[..count],
+        &lengths[..count],
+        &addresses[..count],
+        &lines[..count],
+        &mut text,
+    );
+    Ok(text.len)
+}
+
+/// Puts the lines of a source's labels, or that of its refusal, at the front, and answers their length.
+pub fn write_symbols(source: &[u8], base: u32, out: &mut [u8; TEXT]) -> usize
+    ensures { Printed (symbols_text base source.now) result out.old out.new }
+{
+    match put_symbols(source, base, out) {
+        Ok(n) => n,
         Err(refusal) => write_refusal(refusal, out),
     }
 }

@@ -1,4 +1,4 @@
--- `push_rest` writes END's row, and those of the lines behind it. Assumes nothing.
+-- `push_rest` writes END's row, and those of the lines after it. Assumes nothing.
 use native.Mathlib.Omega.{arith}
 use Rattle.printout.proofs.Coding.{line_within}
 use Rattle.printout.proofs.Rowing.{rest_line_lem, rest_none, rest_needs, rest_all}

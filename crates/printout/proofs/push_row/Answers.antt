@@ -1,4 +1,4 @@
--- `push_row` writes the front, the line, and what stands behind it. Assumes nothing.
+-- `push_row` writes the front, the line, and what stands after it. Assumes nothing.
 use Rattle.printout.proofs.Columns.{row_adds}
 use Rattle.printout.proofs.push_row.Goals as goal
 

@@ -1,4 +1,4 @@
--- `push_word` writes the digits, and the sign behind them. Assumes nothing.
+-- `push_word` writes the digits, and the sign after them. Assumes nothing.
 use Rattle.listing.proofs.Adding.{adds_both}
 use Rattle.printout.specs.Printout.{word_text}
 use Rattle.printout.proofs.push_word.Goals as goal
