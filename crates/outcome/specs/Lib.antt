@@ -1,3 +1,4 @@
 pub mod Made
 pub mod Outcome
 pub mod Reading
+pub mod Joined

@@ -1,10 +1,8 @@
 -- What a call makes of the texts that it read: a text, or why there is none. Assumes nothing.
-use Rattle.std.specs.Prelude.{ℕ, ◌≡◌, ◌||◌, cond, List, eqb, Result, Ok, Err}
+use Rattle.std.specs.Prelude.{ℕ, ◌||◌, cond, eqb}
 use Rattle.rules.specs.Text.{Text}
 use Rattle.rules.specs.Answer.{Answer, accepted, refused}
-use Rattle.answer.specs.declared.Refusal.{Refusal}
 use Rattle.answer.specs.Refusal.{number_of, place_of}
-use Rattle.station.specs.Printed.{Printed}
 use Rattle.outcome.specs.declared.Which.{Which}
 use Rattle.outcome.specs.declared.Which.TheVariants.{Input, Table}
 use Rattle.outcome.specs.declared.Stop.{Stop}
@@ -31,11 +29,6 @@ abbrev pub told : {A : Type 0} → (A → Text) → Answer A → Made
 told f (accepted a) = made (f a)
 told f (refused n p) = refuses (of_which n) n p
 
--- an answer with the texts for what is accepted
-abbrev pub texts : {A : Type 0} → (A → Text) → Answer A → Answer Text
-texts f (accepted a) = accepted (f a)
-texts f (refused n p) = refused n p
-
 -- an answer that is a text already
 abbrev pub told_text : Answer Text → Made
 told_text a = told (λ s. s) a
@@ -45,9 +38,3 @@ abbrev pub stopped : Stop → Made
 stopped (Refused w e) = refuses w (number_of e) (place_of e)
 stopped (NotAList n) = no_list n
 stopped (NotASheet n) = no_sheet n
-
--- ---- what a call owes that puts an answer's text s at the front of a slice: x, the slice before, y, after it, and r, what the call answers
-
-abbrev pub Puts : Answer Text → Result ℕ Refusal → List ℕ → List ℕ → Type 0
-Puts a (Ok n) x y = (s : Text) × (a ≡ accepted s) × Printed s n x y
-Puts a (Err e) x y = (a ≡ refused (number_of e) (place_of e)) × (y ≡ x)

@@ -3,8 +3,9 @@
 //! What a call of the command comes to: its whole text is written, or nothing is; and the exit status.
 pub mod reading; // reading.rt: an input to its end
 pub mod making; // making.rt: a text out of what was read
+pub mod opening; // opening.rt: where inputs come from
+pub mod output; // output.rt: where a text goes
 pub mod writing; // writing.rt: a text whole, or nothing
-pub mod calling; // calling.rt: the three, one after another
 
 ghost use Rattle.std.specs.Prelude.{◌≡◌};
 ghost use Rattle.outcome.specs.Outcome.{status};
@@ -72,24 +73,28 @@ pub enum What {
 pub enum Outcome {
     /// The text was written whole.
     Accepted,
+    /// The text was written whole, and not all inputs are accepted.
+    NotAll,
     /// Nothing was written, and this is why.
     Stopped(Stop),
+    /// Nothing was written: there was no memory to make the text in.
+    NoMemory,
     /// The words of the call ask for nothing that there is.
     WrongUse,
     /// What failed, of which file, none where it is the output, and the system's reason.
     Failed(What, Option<Which>, Error),
 }
 
-/// The exit status: 0 accepted, 1 refused, or no list or no sheet, 2 wrong use, 3 input or output failed.
+/// The exit status: 0 accepted, 1 refused, or no list or no sheet, 2 wrong use, 3 input or output failed, or no memory.
 #[tactic(auto, unfolding(crate::specs::Outcome::status))]
 pub fn status(outcome: &Outcome) -> u8
     ensures { result ≡ status outcome.now }
 {
     match outcome {
         Outcome::Accepted => 0,
-        Outcome::Stopped(_) => 1,
+        Outcome::NotAll | Outcome::Stopped(_) => 1,
         Outcome::WrongUse => 2,
-        Outcome::Failed(_, _, _) => 3,
+        Outcome::NoMemory | Outcome::Failed(_, _, _) => 3,
     }
 }
 

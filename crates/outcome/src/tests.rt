@@ -1,20 +1,18 @@
-//! Calls whose reader or writer gives or takes a byte at a time, is not ready at times, and fails once.
-ghost use Rattle.std.specs.Prelude.{◌≡◌, length, cond, ltb};
-ghost use Rattle.rules.specs.Answer.{accepted, refused};
+//! Readers that give a byte at a time and fail once, writers that are not ready at times and have no more room in the end.
+ghost use Rattle.std.specs.Prelude.{◌≤◌, length};
+ghost use Rattle.rules.specs.Answer.{accepted};
 ghost use Rattle.listing.specs.Listing.{refused_text};
-ghost use Rattle.outcome.specs.Made.{told_text, Puts};
+ghost use Rattle.station.specs.Puts.{Puts};
 
-use crate::calling::call;
-use crate::making::{Make, put_text};
-use crate::reading::Noting;
+use crate::making::put_text;
+use crate::output::{Output, Stream};
+use crate::reading::{Noting, read_kept};
 use crate::writing::finish;
 use crate::*;
 use answer::Refusal;
-use station::input::Input;
-use station::{TABLE, write_refusal};
+use station::write_refusal;
 use std::io;
-use std::io::{Empty, Error, ErrorKind, Read, Write, empty};
-use std::test::Fail;
+use std::io::{Error, ErrorKind, Read, Write};
 
 // Gives its text a byte at a time, and fails at one of them.
 #[derive(Drop)]
@@ -66,138 +64,121 @@ impl Write for Narrow {
     }
 }
 
-// How many bytes the input has, as a line; more than 16 are refused. It stands for a command's work.
-struct Counted;
-
-fn put_count(total: usize, room: &mut [u8; 64]) -> Result<usize, Refusal>
-    ensures { Puts (cond (ltb 16 total) (refused 1 total) (accepted (refused_text 1 total))) result room.old room.new }
-{
-    let long = Refusal::LongSource(total);
-    if 16 < total {
-        return Err(long);
-    }
-    Ok(write_refusal(long, room))
-}
-
-impl Make<16> for Counted {
-    type Room = [u8; 64];
-
-    ghost promised = { λ s a b. told_text (cond (ltb 16 (length b)) (refused 1 (length b)) (accepted (refused_text 1 (length b)))) };
-
-    fn make<'a>(
-        &self,
-        _table: &[u8; TABLE],
-        _branches: Input,
-        _front: &[u8; 16],
-        input: Input,
-        room: &'a mut [u8; 64],
-    ) -> Result<&'a [u8], Unmade> {
-        let answer = put_count(input.total, room);
-        Ok(put_text(answer, room)?)
-    }
-}
-
-fn count(rt: &HostRuntime, text: &[u8], fails_at: usize, room: usize) -> (Outcome, Vec<u8>) {
-    let mut out = Narrow {
+fn make_narrow(rt: &HostRuntime, room: usize) -> Narrow {
+    Narrow {
         held: Vec::new(rt.alloc()),
         room,
         is_ready: false,
-    };
-    let outcome = call(
-        rt,
-        &Counted,
-        &mut Noting::new(empty()),
-        &mut Noting::new(Flaky { text, fails_at }),
-        &mut [0; 64],
-        &mut out,
-    );
-    (outcome, out.held)
+    }
+}
+
+// The front is kept, and the whole is counted.
+#[test]
+fn an_input_is_read_to_its_end(rt: HostRuntime) {
+    let text: &[u8] = b"\tMOVEQ.L #1, D0\n";
+    let mut from = Noting::new(Flaky { text, fails_at: 99 });
+    let mut front = [0; 4];
+    let read = read_kept::<_, 512>(&mut from, &mut front);
+    assert!(rt; matches!(read, Ok(input) if input.total == 16 && !input.failed));
+    assert_eq!(rt; front, *b"\tMOV");
+    assert!(rt; from.why().is_none());
 }
 
 #[test]
-fn a_text_is_written_whole(rt: HostRuntime) {
-    let (outcome, held) = count(&rt, b"NOP", 9, 99);
-    assert!(rt; matches!(outcome, Outcome::Accepted));
-    assert_eq!(rt; status(&outcome), 0);
-    assert_eq!(rt; held.as_slice(), b"refused 1 3\n".as_slice());
-}
-
-#[test]
-fn a_refusal_prints_nothing(rt: HostRuntime) {
-    let (outcome, held) = count(&rt, b"\tMOVEQ.L #1, D0\n\n", 99, 99);
-    let want = Stop::Refused(Which::Input, Refusal::LongSource(17));
-    assert!(rt; matches!(outcome, Outcome::Stopped(stop) if stop == want));
-    assert_eq!(rt; status(&outcome), 1);
-    assert!(rt; held.is_empty());
-}
-
-#[test]
-fn a_failed_read_prints_nothing(rt: HostRuntime) {
+fn a_failed_read_has_its_reason(rt: HostRuntime) {
     for fails_at in 0..4 {
-        let (outcome, held) = count(&rt, b"NOP", fails_at, 99);
+        let mut from = Noting::new(Flaky {
+            text: b"NOP",
+            fails_at,
+        });
+        let read = read_kept::<_, 512>(&mut from, &mut [0; 16]);
         assert!(rt;
-            matches!(outcome, Outcome::Failed(What::Read, Some(Which::Input), e) if e.kind() == ErrorKind::IsADirectory),
+            matches!(read, Err(e) if e.kind() == ErrorKind::IsADirectory),
             "at {fails_at}"
         );
-        assert_eq!(rt; status(&outcome), 3);
-        assert!(rt; held.is_empty());
+        assert!(rt; from.why().is_some());
     }
+}
+
+#[test]
+fn a_text_is_put_whole(rt: HostRuntime) {
+    let mut out = Stream {
+        clock: &rt,
+        to: make_narrow(&rt, 99),
+    };
+    let outcome = finish(&mut out, Ok(b"00001000 4E71 0\n"));
+    assert!(rt; matches!(outcome, Outcome::Accepted));
+    assert_eq!(rt; out.to.held.as_slice(), b"00001000 4E71 0\n".as_slice());
 }
 
 #[test]
 fn a_failed_write_leaves_a_front(rt: HostRuntime) {
-    for room in 0..12 {
-        let (outcome, held) = count(&rt, b"NOP", 9, room);
+    for room in 0..16 {
+        let mut out = Stream {
+            clock: &rt,
+            to: make_narrow(&rt, room),
+        };
+        let outcome = finish(&mut out, Ok(b"00001000 4E71 0\n"));
         assert!(rt;
             matches!(outcome, Outcome::Failed(What::Write, None, e) if e.kind() == ErrorKind::StorageFull),
             "after {room}"
         );
-        assert_eq!(rt; status(&outcome), 3);
-        assert_eq!(rt; held.as_slice(), &b"refused 1 3\n"[..room]);
+        assert_eq!(rt; out.to.held.as_slice(), &b"00001000 4E71 0\n"[..room]);
     }
 }
 
-// The table is read first, and where that fails nothing of the input.
 #[test]
-fn a_table_that_is_not_read(rt: HostRuntime) {
-    let text: &[u8] = b"BXX 2";
-    let (mut table, mut input) = (Noting::new(Flaky { text, fails_at: 3 }), Noting::new(text));
-    let mut out = Vec::new(rt.alloc());
-    let outcome = call(
-        &rt,
-        &Counted,
-        &mut table,
-        &mut input,
-        &mut [0; 64],
-        &mut out,
+fn without_a_text_nothing_is_put(rt: HostRuntime) {
+    let mut out = Stream {
+        clock: &rt,
+        to: make_narrow(&rt, 99),
+    };
+    let stop = Stop::NotAList(2);
+    assert!(rt;
+        matches!(finish(&mut out, Err(Unmade::Stopped(stop))), Outcome::Stopped(s) if s == stop)
     );
-    assert!(rt; matches!(outcome, Outcome::Failed(What::Read, Some(Which::Table), _)));
-    assert!(rt; table.why().is_some());
-    assert!(rt; out.is_empty());
-    let mut left = [0; 9];
-    assert!(rt; matches!(input.read(&mut left), Ok(5)));
+    assert!(rt; matches!(finish(&mut out, Err(Unmade::NoMemory)), Outcome::NoMemory));
+    assert!(rt; out.to.held.is_empty());
+}
+
+// It stands for a command's text.
+fn put_count(total: usize, room: &mut [u8]) -> Result<usize, Refusal>
+    requires { 64 ≤ length room.old }
+    ensures { Puts (accepted (refused_text 1 total)) result room.old room.new }
+{
+    Ok(write_refusal(Refusal::LongSource(total), room))
 }
 
 #[test]
-fn a_refusal_of_the_table(rt: HostRuntime) {
+fn an_answer_with_its_text(rt: HostRuntime) -> Result<(), Error> {
+    let mut line = [b'-'; 64];
+    let answer = put_count(3, &mut line);
+    let text = put_text(answer, line.to_vec(rt.alloc())?);
+    assert!(rt; matches!(&text, Ok(v) if v.as_slice() == b"refused 1 3\n".as_slice()));
     for (refusal, which) in [
         (Refusal::BadCommand(6), Which::Table),
         (Refusal::BadBranchName(0), Which::Table),
         (Refusal::NoEncoding(1), Which::Input),
     ] {
-        let want = Stop::Refused(which, refusal);
-        assert_eq!(rt; put_text(Err(refusal), b"").err(), Some(want));
+        let want = Unmade::Stopped(Stop::Refused(which, refusal));
+        assert!(rt;
+            matches!(put_text(Err(refusal), Vec::new(rt.alloc())), Err(why) if why == want)
+        );
     }
+    Ok(())
 }
 
-// A wrong use, and a text for which there is no memory.
 #[test]
-fn without_a_text(rt: HostRuntime) {
-    let mut out = Vec::new(rt.alloc());
-    let outcome = finish(&rt, &mut out, Err(Unmade::NoMemory));
-    assert!(rt;
-        matches!(outcome, Outcome::Failed(What::Write, None, e) if e.kind() == ErrorKind::OutOfMemory)
+fn the_status_of_each(rt: HostRuntime) {
+    let failed = Outcome::Failed(
+        What::Open,
+        Some(Which::Input),
+        Error::from(ErrorKind::NotFound),
     );
-    assert!(rt; out.is_empty());
+    assert_eq!(rt; status(&Outcome::Accepted), 0);
+    assert_eq!(rt; status(&Outcome::NotAll), 1);
+    assert_eq!(rt; status(&Outcome::Stopped(Stop::NotASheet(1))), 1);
     assert_eq!(rt; status(&Outcome::WrongUse), 2);
+    assert_eq!(rt; status(&Outcome::NoMemory), 3);
+    assert_eq!(rt; status(&failed), 3);
 }

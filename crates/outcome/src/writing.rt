@@ -4,6 +4,7 @@ ghost use Rattle.std.specs.Io.KnownBytes.{Appends, Keeps};
 ghost use Rattle.outcome.specs.Made.{Made, made};
 ghost use Rattle.outcome.specs.Outcome.{Left, Ended, NotMade};
 
+use crate::output::Output;
 use crate::{Outcome, Unmade, What};
 use std::io::{Error, ErrorKind, Write};
 use std::rt::Clock;
@@ -48,18 +49,16 @@ pub fn write_whole<C: Clock, W: Write>(clock: &C, out: &mut W, bytes: &[u8]) -> 
     Err(Error::from(ErrorKind::TimedOut))
 }
 
-/// Writes a text that was made, and nothing where there is none.
-pub fn finish<C: Clock, W: Write>(clock: &C, out: &mut W, text: Result<&[u8], Unmade>) -> Outcome
-    ensures { (m : Made) → MatchResult text.entry (λ s. m ≡ made s.now) (NotMade m) → Ended m (W.contents out.old) (W.contents out.new) result }
+/// Puts a text that was made, and nothing where there is none.
+pub fn finish<O: Output>(out: &mut O, text: Result<&[u8], Unmade>) -> Outcome
+    ensures { (m : Made) → MatchResult text.entry (λ s. m ≡ made s.now) (NotMade m) → Ended m (λ s r. O.puts out.old out.new s r) (out.new ≡ out.old) result }
 {
     match text {
-        Ok(text) => match write_whole(clock, out, text) {
+        Ok(text) => match out.put(text) {
             Ok(()) => Outcome::Accepted,
             Err(e) => Outcome::Failed(What::Write, None, e),
         },
         Err(Unmade::Stopped(stop)) => Outcome::Stopped(stop),
-        Err(Unmade::NoMemory) => {
-            Outcome::Failed(What::Write, None, Error::from(ErrorKind::OutOfMemory))
-        }
+        Err(Unmade::NoMemory) => Outcome::NoMemory,
     }
 }

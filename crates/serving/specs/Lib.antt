@@ -1,0 +1,4 @@
+pub mod Said
+pub mod Served
+pub mod Gathered
+pub mod Gathering
