@@ -1,0 +1,5 @@
+pub mod Listed
+pub mod Moved
+pub mod Tidied
+pub mod Checked
+pub mod Stations

@@ -1,0 +1,3 @@
+-- Laws for the runs of a list. Assumes nothing.
+pub mod Lists
+pub mod Trying

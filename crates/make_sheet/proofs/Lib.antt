@@ -1,0 +1,6 @@
+pub mod Summing
+pub mod Holding
+pub mod Naming
+pub mod Feeding
+pub mod Concluding
+pub mod Saying

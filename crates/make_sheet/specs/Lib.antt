@@ -1,0 +1,5 @@
+pub mod Series
+pub mod Held
+pub mod Reading
+pub mod Served
+pub mod Stated
