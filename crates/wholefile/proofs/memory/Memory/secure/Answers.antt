@@ -1,0 +1,12 @@
+use Rattle.std.proofs.Common.{Some, sym, ap, ◌∙◌, refl}
+use Rattle.wholefile.specs.Shelf.{sure}
+use Rattle.wholefile.specs.Slots.{new_name, stored}
+use Rattle.wholefile.proofs.Steps.{as_before}
+use Rattle.wholefile.proofs.InSlots.{changed, as_it_stood}
+use Rattle.wholefile.proofs.memory.Memory.secure.Goals as goal
+
+pub returns-in-Some : goal.returns-in-Some
+returns-in-Some c = ap Some (changed c.args.self.now c.in-Some.file (sure (stored c.in-Some.file)) (sure) (sym c.in-Some.ensures.value) refl)
+
+pub returns-in-None : goal.returns-in-None
+returns-in-None c = (λ f. f, as_before new_name _ _ (ap Some (as_it_stood c.args.self.now _ (c.in-None.ensures.after ∙ c.in-None.ensures.value))))

@@ -1,0 +1,5 @@
+pub mod Beside
+pub mod Limit
+pub mod Put
+pub mod Shelf
+pub mod Slots
