@@ -1,0 +1,5 @@
+-- The work is the one that is asked for.
+use Rattle.work.proofs.lines.why_text.Goals as goal
+
+pub returns : goal.returns
+returns g c = (c.plain-joining.result, c.plain-joining.ensures, rw c.explaining_of-work.ensures at c.each.ensures)
