@@ -1,0 +1,5 @@
+pub mod Page
+pub mod Texts
+pub mod Files
+pub mod Called
+pub mod Tried
