@@ -1,6 +1,6 @@
 /*
- * Lagvettu's texts: what its programs print, byte for byte, and a list or a sheet read back from its text; for the command `lagvettu`, so
- * that no text is made twice. They are in liblagvettu_text.a: -llagvettu_text, beside the other archives or alone.
+ * Lagvettu's texts: what its programs print, byte for byte, and a list or a sheet read back from its text. They are in
+ * liblagvettu_text.a: -llagvettu_text, beside the other archives or alone.
  *
  * Each function is proved to answer, and to leave each byte of what it is lent, as the definitions say, whatever the bytes and numbers
  * that it is given; none refuses for want of room. An array is passed as a pointer alone, and has exactly as many elements as its

@@ -1,6 +1,6 @@
 #![tactic(auto)]
 
-//! The C interface of the texts that the programs print, an archive of its own for the command `lagvettu`: so no text is made twice.
+//! The C interface of the texts that the programs print, an archive of its own: so no second caller of the encoder takes from the others.
 //! A text is put at the front of `out`, which has room for the longest, and its length into `size`: C lends both, and a list's three slices.
 //! include/lagvettu_text.h declares it.
 ghost use Rattle.std.specs.Prelude.{◌≡◌, take};
