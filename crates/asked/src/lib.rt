@@ -8,5 +8,3 @@ pub mod task; // task.rt: what the words ask for
 pub mod printing; // printing.rt: help and the version
 pub mod refusing; // refusing.rt: names that are no UTF-8
 pub mod misusing; // misusing.rt: wrong use
-#[cfg(test)]
-mod tests;

@@ -128,6 +128,3 @@ pub enum Wrong {
     /// There was no memory to read them.
     OutOfMemory,
 }
-
-#[cfg(test)]
-mod tests;

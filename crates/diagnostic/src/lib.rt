@@ -7,5 +7,3 @@ pub mod shown; // shown.rt: the line that a refusal speaks of
 pub mod reason; // reason.rt: why the system failed, in its own words
 pub mod said; // said.rt: the lines of refusals, failures and wrong use
 mod bytes; // bytes.rt: texts appended to a text
-#[cfg(test)]
-mod tests;

@@ -49,6 +49,3 @@ fn line(alloc: Global, value: &Value) -> Result<Vec<u8>, AllocError>
     text.push(b'\n')?;
     Ok(text)
 }
-
-#[cfg(test)]
-mod tests;

@@ -192,6 +192,3 @@ impl Make<{ SCRIPT }> for NearestLabelJson {
         make_nearest_json(alloc, script_in(front, input)?, self.base, self.address)
     }
 }
-
-#[cfg(test)]
-mod tests;

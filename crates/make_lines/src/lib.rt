@@ -33,6 +33,3 @@ pub struct Printing {
     pub lent: bool,
     pub headed: bool,
 }
-
-#[cfg(test)]
-mod tests;

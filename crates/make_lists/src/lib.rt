@@ -16,6 +16,3 @@ ghost use Rattle.make_lists.specs.Stations.{SameTexts};
 pub fn same_texts()
     ensures { SameTexts }
 {}
-
-#[cfg(test)]
-mod tests;

@@ -118,6 +118,3 @@ impl Make<{ LIST }> for RunningJson {
         json_of(alloc, &work, &front[..input.total.min(LIST)])
     }
 }
-
-#[cfg(test)]
-mod tests;

@@ -149,6 +149,3 @@ pub fn serve_sheet<F: Opening, O: Output, E: Write>(
 pub fn plant_sheet()
     ensures { PlantSheet }
 {}
-
-#[cfg(test)]
-mod tests;

@@ -108,6 +108,3 @@ pub fn of_which(refusal: Refusal) -> Which
         _ => Which::Input,
     }
 }
-
-#[cfg(test)]
-mod tests;

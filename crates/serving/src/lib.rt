@@ -7,8 +7,6 @@ pub mod several; // several.rt: a call on several inputs
 mod gathering; // gathering.rt: the texts of several inputs, one after another
 pub mod reading; // reading.rt: the files of a call
 pub mod telling; // telling.rt: what is said on standard error
-#[cfg(test)]
-mod tests;
 
 pub use one::serve;
 pub use several::serve_each;

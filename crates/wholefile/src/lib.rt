@@ -6,10 +6,8 @@ pub mod placing; // placing.rt: a new file beside the old one, and in its place
 pub mod output; // output.rt: a file as an output
 pub mod system; // system.rt: the system's disk
 pub mod memory; // memory.rt: a small disk in memory, whose steps can fail
-mod beside; // beside.rt: the names of a new file and of its folder
-mod limit; // limit.rt: how large a file may become
-#[cfg(test)]
-mod tests;
+pub mod beside; // beside.rt: the names of a new file and of its folder
+pub mod limit; // limit.rt: how large a file may become
 
 ghost use Rattle.std.specs.Prelude.{◌≡◌};
 

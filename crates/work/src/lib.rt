@@ -10,5 +10,3 @@ pub mod sheets; // sheets.rt: sheet
 pub mod performing; // performing.rt: the commands
 pub mod placing; // placing.rt: where the output goes
 pub mod running; // running.rt: the command, from its words to what it comes to
-#[cfg(test)]
-mod tests;

@@ -1,5 +1,5 @@
 //! Sheets and scripts in memory: what is put, and what is said where nothing is.
-use super::serve_sheet;
+use make_sheet::serve_sheet;
 use outcome::opening::Opening;
 use outcome::output::Stream;
 use outcome::{Outcome, What, Which, status};

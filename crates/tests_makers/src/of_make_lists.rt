@@ -1,11 +1,11 @@
 //! Each command on inputs whose answers are known: the examples of the C interface, and of the check of the command.
 ghost use Rattle.std.specs.Prelude.{◌^◌, ◌<◌};
 
-use crate::assembling::{Assembling, AssemblingJson, AssemblingManual};
-use crate::checking::Checking;
-use crate::moving::Moving;
-use crate::tidying::Tidying;
 use answer::Refusal;
+use make_lists::assembling::{Assembling, AssemblingJson, AssemblingManual};
+use make_lists::checking::Checking;
+use make_lists::moving::Moving;
+use make_lists::tidying::Tidying;
 use outcome::making::{Make, MakeNamed, Part};
 use outcome::reading::{Noting, read_kept};
 use outcome::{Stop, Unmade, Which};

@@ -1,8 +1,8 @@
 //! What is said and printed, byte for byte as it was by the command in C.
-use crate::misusing::misuse;
-use crate::printing::print;
-use crate::refusing::refuse_names;
-use crate::task::{Task, task_of};
+use asked::misusing::misuse;
+use asked::printing::print;
+use asked::refusing::refuse_names;
+use asked::task::{Task, task_of};
 use commandline::Wrong;
 use outcome::output::Stream;
 use outcome::{Outcome, status};

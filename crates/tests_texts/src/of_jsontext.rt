@@ -1,10 +1,10 @@
 //! Each text byte for byte, as it was written by hand.
-use crate::labels::{labels_text, nearest_text};
-use crate::places::list_text;
-use crate::runs::RunList;
-use crate::totals::totals_text;
-use crate::verdicts::{file_value, files_text};
 use explain::Verdict;
+use jsontext::labels::{labels_text, nearest_text};
+use jsontext::places::list_text;
+use jsontext::runs::RunList;
+use jsontext::totals::totals_text;
+use jsontext::verdicts::{file_value, files_text};
 use machine::{End, Flags, Ran, Status};
 use nearest::Nearest;
 use sheet::Totals;

@@ -4,12 +4,12 @@ ghost use Rattle.rules.specs.Answer.{accepted};
 ghost use Rattle.listing.specs.Listing.{refused_text};
 ghost use Rattle.station.specs.Puts.{Puts};
 
-use crate::making::put_text;
-use crate::output::{Output, Stream};
-use crate::reading::{Noting, read_kept};
-use crate::writing::finish;
-use crate::*;
 use answer::Refusal;
+use outcome::making::put_text;
+use outcome::output::{Output, Stream};
+use outcome::reading::{Noting, read_kept};
+use outcome::writing::finish;
+use outcome::*;
 use station::write_refusal;
 use std::io;
 use std::io::{Error, ErrorKind, Read, Write};

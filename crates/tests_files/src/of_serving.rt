@@ -6,12 +6,12 @@ ghost use Rattle.listing.specs.Listing.{refused_text};
 ghost use Rattle.station.specs.Puts.{Puts};
 ghost use Rattle.outcome.specs.Made.{made, told_text};
 
-use crate::{serve, serve_each};
 use answer::Refusal;
 use outcome::making::{Joining, Make, MakeNamed, Part, put_text, stop_of};
 use outcome::opening::Opening;
 use outcome::output::Stream;
 use outcome::{Outcome, Stop, Unmade, What, Which};
+use serving::{serve, serve_each};
 use station::input::Input;
 use station::{TABLE, write_refusal};
 use std::alloc::Global;

@@ -1,6 +1,4 @@
 //! The command on files in memory: what it prints, what it says, and the exit status.
-use crate::placing::Ended;
-use crate::running::run;
 use console::Arguments;
 use outcome::opening::Opening;
 use outcome::output::Stream;
@@ -10,6 +8,8 @@ use std::io;
 use std::io::{Error, ErrorKind, Read};
 use std::test::Fail;
 use wholefile::memory::Memory;
+use work::placing::Ended;
+use work::running::run;
 
 // The words of a line, after the program's name.
 #[derive(Drop)]

@@ -1,8 +1,11 @@
 //! Rows as Unicorn has them (crates/bench/stdout), their JSON, and what stops a call.
-use crate::*;
 use answer::Refusal;
-use outcome::{Stop, Which};
-use station::input::read_whole;
+use make_runs::*;
+use outcome::making::Make;
+use outcome::{Stop, Unmade, Which};
+use station::input::{Input, read_whole};
+use station::{LIST, TABLE};
+use std::alloc::Global;
 use std::test::Fail;
 
 const LISTED: &[u8] =

@@ -1,7 +1,13 @@
 //! Each text byte for byte, as it was written by hand, and what is refused.
 ghost use Rattle.std.specs.Prelude.{◌≡◌, false};
 
-use crate::*;
+use answer::Refusal;
+use make_labels::*;
+use outcome::making::Make;
+use outcome::{Stop, Unmade, Which};
+use station::input::Input;
+use station::{SCRIPT, TABLE};
+use std::alloc::Global;
 
 // Where a reader stands that has read so many bytes, to the end.
 fn at_end(total: usize) -> Input

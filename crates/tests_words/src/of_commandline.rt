@@ -1,9 +1,9 @@
-use crate::help::{VERSION, command_help, help};
-use crate::message::{command_of, message};
-use crate::parse::{Request, Start, request_of, start_of};
-use crate::table::COMMANDS;
-use crate::words::{is_whole, word_text, words_of};
-use crate::{Asked, Command, Wrong};
+use commandline::help::{VERSION, command_help, help};
+use commandline::message::{command_of, message};
+use commandline::parse::{Request, Start, request_of, start_of};
+use commandline::table::COMMANDS;
+use commandline::words::{is_whole, word_text, words_of};
+use commandline::{Asked, Command, Wrong};
 use console::Arguments;
 use std::alloc::{AllocError, Global};
 use std::env::FillError;

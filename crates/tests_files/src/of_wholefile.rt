@@ -1,17 +1,17 @@
 //! A file put over the small disk in memory, each step failing once, and over the system's.
-use crate::beside::{beside, folder};
-use crate::limit::limit_in;
-use crate::memory::{Memory, Stored};
-use crate::output::WholeFile;
-use crate::placing::put;
-use crate::system::System;
-use crate::{Kept, Placed};
 use outcome::output::Output;
 use std::alloc::{AllocError, Global};
 use std::fs::Permissions;
 use std::io::{Error, ErrorKind};
 use std::os::unix::fs::{MetadataExt, PermissionsExt, symlink};
 use std::{fs, io};
+use wholefile::beside::{beside, folder};
+use wholefile::limit::limit_in;
+use wholefile::memory::{Memory, Stored};
+use wholefile::output::WholeFile;
+use wholefile::placing::put;
+use wholefile::system::System;
+use wholefile::{Kept, Placed};
 
 // No step fails.
 const NEVER: usize = usize::MAX;

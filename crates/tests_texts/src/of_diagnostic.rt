@@ -1,11 +1,11 @@
 //! Each line once, byte for byte: those of refusals and failures as the man page and the C command had them.
-use crate::reason::reason_of;
-use crate::said::{
+use answer::Refusal;
+use diagnostic::reason::reason_of;
+use diagnostic::said::{
     accepted_row, failed, failed_by, no_command, no_memory, not_a_command, not_a_list, not_a_sheet,
     refused, refused_row, stopped, wrong_use,
 };
-use crate::words::{Counts, counted, refusals, words};
-use answer::Refusal;
+use diagnostic::words::{Counts, counted, refusals, words};
 use outcome::{Stop, What, Which};
 use std::alloc::AllocError;
 use std::io::{Error, ErrorKind};

@@ -1,7 +1,7 @@
 -- The rows stand in the source. Assumes nothing.
 use Rattle.std.proofs.Common.{ℕ, zero, suc, ◌+◌, ◌<◌, ◌≤◌, [], ◌∷◌, get_or, refl, arith}
 use Rattle.rules.specs.Assemble.{first_high}
-use Rattle.jsontext.proofs.tests.labels_and_the_nearest.Goals as goal
+use Rattle.tests_texts.proofs.of_jsontext.labels_and_the_nearest.Goals as goal
 
 inside : (k : ℕ) → k < 2 → get_or (11 ∷ 18 ∷ []) k 0 + get_or (2 ∷ 3 ∷ []) k 0 ≤ 26
 inside zero h = omega arith

@@ -1,7 +1,7 @@
 //! Texts and entries byte for byte, as they were written by hand, and what stops a call.
-use crate::why::files_joining;
-use crate::*;
 use answer::Refusal;
+use make_lines::why::files_joining;
+use make_lines::*;
 use outcome::making::{MakeNamed, Part};
 use outcome::{Stop, Unmade, Which};
 use station::input::{Input, read_whole};

@@ -1,0 +1,5 @@
+#![tactic(auto)]
+
+//! The tests of whole calls.
+#[cfg(test)]
+mod of_work;
