@@ -1,0 +1,15 @@
+pub mod Reading
+pub mod Behind
+pub mod Lines
+pub mod Counting
+pub mod After
+pub mod Options
+pub mod Steps
+pub mod Shown
+pub mod Gathered
+pub mod Works
+pub mod Registers
+pub mod Spelling
+pub mod Wordings
+pub mod Requests
+pub mod Chosen

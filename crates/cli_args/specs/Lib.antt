@@ -1,0 +1,10 @@
+pub mod Table
+pub mod Number
+pub mod Words
+pub mod Help
+pub mod Given
+pub mod Lexed
+pub mod Asked
+pub mod Parsed
+pub mod Stated
+pub mod Examples

@@ -1,0 +1,9 @@
+pub mod Refusals
+pub mod Shown
+pub mod Messages
+pub mod Reason
+pub mod Stated
+pub mod Examples
+pub mod Fault
+pub mod Answered
+pub mod Gives

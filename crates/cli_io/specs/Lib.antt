@@ -1,0 +1,5 @@
+pub mod World
+pub mod Delivered
+pub mod Answers
+pub mod Tabled
+pub mod Added

@@ -1,0 +1,4 @@
+pub mod Input
+pub mod Items
+pub mod Told
+pub mod From

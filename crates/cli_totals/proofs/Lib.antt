@@ -1,0 +1,9 @@
+pub mod Cutting
+pub mod Holding
+pub mod Summing
+pub mod Chaining
+pub mod Feeding
+pub mod Texts
+pub mod Lines
+pub mod Gathering
+pub mod Plants

@@ -1,0 +1,5 @@
+pub mod Series
+pub mod Names
+pub mod Sheeted
+pub mod Steps
+pub mod Stated
