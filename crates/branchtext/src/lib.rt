@@ -34,7 +34,7 @@ pub fn write_list_under(names: &[u8], source: &[u8], base: u32, out: &mut [u8; T
 }
 
 /// Puts the verdict's line on a line of a source, from 1, or that of a refusal, at the front, and answers its length.
-#[tactic(auto, using(whytext::proofs::Told::explained_text_lem), unfolding(crate::specs::BranchText::line_under_text))]
+#[tactic(auto, using(station::proofs::Refusing::answer_by_refusal, whytext::proofs::Told::explained_text_lem), unfolding(crate::specs::BranchText::line_under_text))]
 pub fn write_line_under(
     names: &[u8],
     source: &[u8],

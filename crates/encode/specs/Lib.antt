@@ -1,3 +1,4 @@
 pub mod Code
 pub mod Near
+pub mod Displacement
 pub mod Operations

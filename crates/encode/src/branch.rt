@@ -1,25 +1,29 @@
 //! Branches and DBRA: the displacement, of a label in reach or as written.
 ghost use Rattle.std.specs.Prelude.{◌≡◌, ◌<◌};
+ghost use Rattle.std.specs.Result.{result_ok};
 ghost use Rattle.rules.specs.Option.{bind};
 ghost use Rattle.rules.specs.Label.{find};
-ghost use Rattle.rules.specs.Encode.{reach, written_signed, displacement, dbra_row, branch_row};
+ghost use Rattle.rules.specs.Encode.{reach, written_reading, written_signed, displacement, dbra_row, branch_row};
 ghost use Rattle.encode.specs.Code.{code_of};
 ghost use Rattle.encode.specs.Near.{Near};
+ghost use Rattle.encode.specs.Displacement.{displacement_of, displacement_reading};
 
 use crate::Code;
 use label::Labels;
+use numeral::Failure;
 use numeral::signed::{low_byte, read_signed};
 use opcode::register::parse_data_register;
 use opcode::word::{branch_word, with_low};
 
-// An operand starting with a sign, read as a signed number.
+// An operand starting with a sign, read as a signed number, or what failed in it; None without a sign.
 // `encode_manual` and `explain` ask for the sign too: one function for the three would want a contract and an edit of its own for one `||`.
 #[tactic(auto, using(crate::proofs::Readings::value_is), unfolding(rules::specs::Encode::written_signed, rules::specs::Encode::written_reading, rules::specs::Option::bind, rules::specs::Text::bytes))]
-fn written_signed(t: &[u8]) -> Option<i32>
-    ensures { result ≡ written_signed t.now }
+pub fn written_signed(t: &[u8]) -> Option<Result<i32, Failure>>
+    ensures reading { result ≡ displacement_of (written_reading t.now) }
+    ensures value { bind result result_ok ≡ written_signed t.now }
 {
     if text::starts_with(t, b"+") || text::starts_with(t, b"-") {
-        read_signed(t, 10, 128).ok()
+        Some(read_signed(t, 10, 128))
     } else {
         None
     }
@@ -27,7 +31,7 @@ fn written_signed(t: &[u8]) -> Option<i32>
 
 // From an instruction to the label that its operand names, if it is in reach.
 #[tactic(auto, using(label::proofs::Rows::below_found), unfolding(rules::specs::Option::bind))]
-fn label_reach(labels: &Labels<'_>, address: u32, t: &[u8]) -> Option<i32>
+pub fn label_reach(labels: &Labels<'_>, address: u32, t: &[u8]) -> Option<i32>
     requires { Near labels.now.table address }
     ensures { result ≡ bind (find t.now labels.now.table) (λ x. reach x address) }
 {
@@ -35,13 +39,21 @@ fn label_reach(labels: &Labels<'_>, address: u32, t: &[u8]) -> Option<i32>
     numeral::signed::displacement(target, address)
 }
 
-// A branch's displacement: of a label in reach, else as written.
-#[tactic(auto, unfolding(rules::specs::Encode::displacement, rules::specs::Option::bind, rules::specs::Option::or_else))]
-fn parse_branch_displacement(labels: &Labels<'_>, address: u32, t: &[u8]) -> Option<i32>
+// A branch's displacement: of a label in reach, else as written; what failed in its number is passed on.
+#[tactic(auto, unfolding(crate::specs::Displacement::displacement_reading, crate::specs::Displacement::reached, rules::specs::Encode::displacement, rules::specs::Option::bind, rules::specs::Option::or_else))]
+pub fn parse_branch_displacement(
+    labels: &Labels<'_>,
+    address: u32,
+    t: &[u8],
+) -> Option<Result<i32, Failure>>
     requires { Near labels.now.table address }
-    ensures { result ≡ displacement labels.now.table address t.now }
+    ensures reading { result ≡ displacement_of (displacement_reading labels.now.table address t.now) }
+    ensures value { bind result result_ok ≡ displacement labels.now.table address t.now }
 {
-    label_reach(labels, address, t).or_else(|| written_signed(t))
+    match label_reach(labels, address, t) {
+        Some(d) => Some(Ok(d)),
+        None => written_signed(t),
+    }
 }
 
 // The condition and the displacement in one word.
@@ -50,7 +62,7 @@ pub fn encode_branch(labels: &Labels<'_>, address: u32, condition: u8, t: &[u8])
     requires { Near labels.now.table address × (condition < 16) }
     ensures { result ≡ code_of (branch_row labels.now.table address condition t.now) }
 {
-    let d = parse_branch_displacement(labels, address, t)?;
+    let d = parse_branch_displacement(labels, address, t)?.ok()?;
     Some(Code::Word(branch_word(condition, low_byte(d))))
 }
 
@@ -61,6 +73,6 @@ pub fn encode_dbra(labels: &Labels<'_>, address: u32, s: &[u8], t: &[u8]) -> Opt
     ensures { result ≡ code_of (dbra_row labels.now.table address s.now t.now) }
 {
     let n = parse_data_register(s)?;
-    parse_branch_displacement(labels, address, t)?;
+    parse_branch_displacement(labels, address, t)?.ok()?;
     Some(Code::Word(with_low(0x51C8, n)))
 }

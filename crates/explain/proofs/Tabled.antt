@@ -8,7 +8,7 @@ use Rattle.rules.specs.Answer.{accepted, refused, and_then}
 use Rattle.requests.specs.Explain.{explain_all_by, explain_by}
 use Rattle.requests.specs.Branches.{checked, loaded, under, explain_all_under, explain_under}
 use Rattle.branches.specs.Branch.{names_in}
-use Rattle.explain.specs.Verdict.{explained_of, count_of, written_over}
+use Rattle.explain.specs.Verdict.{explained_of, count_of, written_as}
 use Rattle.explain.specs.declared.Verdict.{Verdict}
 
 module _ (t : Text) (base : ℕ) (s : Text) where
@@ -21,9 +21,9 @@ module _ (t : Text) (base : ℕ) (s : Text) where
     unfolding under loaded and_then
     all_unloaded = rw (← e)
 
-    pub all_kept : (old : List Verdict) → old ≡ written_over (explain_all_under t base s) old
+    pub all_kept : {V : Type 0} (sign : Verdict → V) (old : List V) → old ≡ written_as sign (explain_all_under t base s) old
     unfolding under loaded and_then
-    all_kept old = rw (← e)
+    all_kept sign old = rw (← e)
 
   module _ {n : ℕ} (e : accepted n ≡ checked t) where
     pub line_loaded : (line : ℕ) → explained_of (explain_by (names_in (Some t)) base s line) ≡ explained_of (explain_under t base s line)

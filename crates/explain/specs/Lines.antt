@@ -14,7 +14,7 @@ use Rattle.cells.specs.Puts.{address_at, puts_of}
 use Rattle.first.specs.Pass.{pass_in, Holds}
 use Rattle.first.specs.declared.Pass.{Pass}
 use Rattle.explain.specs.Near.{Near}
-use Rattle.explain.specs.Verdict.{verdict_of, verdicts_of, put_over}
+use Rattle.explain.specs.Verdict.{verdict_of, signs_of, put_over}
 use Rattle.explain.specs.declared.Verdict.{Verdict}
 
 -- ---- one line
@@ -37,13 +37,13 @@ pub record Walks (cells : List ℕ) (base k : ℕ) : Type 0 where
 abbrev pub verdicts_to : List Mnemonic → Labelled → List ℕ → Pass → ℕ → List Said
 verdicts_to names labels cells pass k = map (λ (u : Put). why_task names labels.table u.address u.task) (puts_of labels.source pass.base cells k)
 
-pub record WriteNeeds (labels : Labelled) (cells : List ℕ) (pass : Pass) (out : List Verdict) : Type 0 where
+pub record WriteNeeds {V : Type 0} (labels : Labelled) (cells : List ℕ) (pass : Pass) (out : List V) : Type 0 where
   pub holds : Holds labels cells pass
   pub room : pass.lines ≤ length out
   pub end_room : length (cut_at 10 labels.source) ≤ length out
 
--- how many lines are read, and their verdicts over the first places
-pub record WriteGives (names : List Mnemonic) (labels : Labelled) (cells : List ℕ) (pass : Pass) (out : List Verdict) (r : ℕ) (out' : List Verdict) : Type 0 where
+-- how many lines are read, and what stands for their verdicts, over the first places
+pub record WriteGives {V : Type 0} (sign : Verdict → V) (names : List Mnemonic) (labels : Labelled) (cells : List ℕ) (pass : Pass) (out : List V) (r : ℕ) (out' : List V) : Type 0 where
   pub count : r ≡ length (verdicts names labels.source (pass_in labels cells pass))
   pub within : r ≤ length out
-  pub written : out' ≡ put_over (verdicts_of (verdicts names labels.source (pass_in labels cells pass))) out
+  pub written : out' ≡ put_over (signs_of sign (verdicts names labels.source (pass_in labels cells pass))) out

@@ -1,5 +1,5 @@
 -- The verdicts on a line, and the answers, as the code's enum, and their numbers. Assumes nothing.
-use Rattle.std.specs.Prelude.{ℕ, List, map, length, drop, ◌++◌, Option}
+use Rattle.std.specs.Prelude.{ℕ, ◌≡◌, refl, List, [], ◌∷◌, map, length, drop, get_or, ◌++◌, Option}
 use Rattle.std.specs.Option.{option_map}
 use Rattle.rules.specs.Number.{no_digits, bad_digit, out_of_range}
 use Rattle.rules.specs.Answer.{Answer, accepted, refused}
@@ -45,23 +45,52 @@ verdict_number OutOfRange = 7
 verdict_number NotRecorded = 8
 verdict_number OutOfReach = 9
 
+-- the verdicts by their numbers, all but the last
+abbrev pub in_order : List Verdict
+in_order = Emitted ∷ NotInstruction ∷ UnknownMnemonic ∷ WrongCount ∷ WrongKinds ∷ NoDigits ∷ BadDigit ∷ OutOfRange ∷ NotRecorded ∷ []
+
+-- the verdict with a number: past the last it is the last
+abbrev pub numbered_verdict : ℕ → Verdict
+numbered_verdict n = get_or in_order n OutOfReach
+
+-- a verdict's number is that of no other
+pub numbered_back : (v : Verdict) → numbered_verdict (verdict_number v) ≡ v
+numbered_back Emitted = refl
+numbered_back NotInstruction = refl
+numbered_back UnknownMnemonic = refl
+numbered_back WrongCount = refl
+numbered_back WrongKinds = refl
+numbered_back NoDigits = refl
+numbered_back BadDigit = refl
+numbered_back OutOfRange = refl
+numbered_back NotRecorded = refl
+numbered_back OutOfReach = refl
+
 -- ---- answers, with the verdicts as the code's
 -- on one line
 abbrev pub explained_of : Answer Said → Answer Verdict
 explained_of (accepted v) = accepted (verdict_of v)
 explained_of (refused n p) = refused n p
 
--- on all lines: how many, and the verdicts over the first places
-abbrev pub verdicts_of : List Said → List Verdict
-verdicts_of vs = map verdict_of vs
-
+-- on all lines: how many
 abbrev pub count_of : Answer (List Said) → Answer ℕ
 count_of (accepted vs) = accepted (length vs)
 count_of (refused n p) = refused n p
 
-unfoldable pub put_over : List Verdict → List Verdict → List Verdict
+-- and what stands for the verdicts, over the first places
+abbrev pub signs_of : {V : Type 0} → (Verdict → V) → List Said → List V
+signs_of sign vs = map (λ v. sign (verdict_of v)) vs
+
+unfoldable pub put_over : {V : Type 0} → List V → List V → List V
 put_over vs old = vs ++ drop (length vs) old
 
+abbrev pub written_as : {V : Type 0} → (Verdict → V) → Answer (List Said) → List V → List V
+written_as sign (accepted vs) old = put_over (signs_of sign vs) old
+written_as sign (refused n p) old = old
+
+-- the verdicts themselves
+abbrev pub verdicts_of : List Said → List Verdict
+verdicts_of vs = signs_of (λ v. v) vs
+
 abbrev pub written_over : Answer (List Said) → List Verdict → List Verdict
-written_over (accepted vs) old = put_over (verdicts_of vs) old
-written_over (refused n p) old = old
+written_over a old = written_as (λ v. v) a old

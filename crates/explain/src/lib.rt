@@ -2,7 +2,7 @@
 
 //! Why a line has no word: the first pass, then the verdict on a line, or on each line that is read. The arrays that the first
 //! pass fills are a call's own: there is no heap.
-ghost use Rattle.std.specs.Prelude.{◌≡◌, ◌<◌, ◌≤◌, length, IfOk, OnOk};
+ghost use Rattle.std.specs.Prelude.{◌≡◌, ◌<◌, ◌≤◌, length, refl, IfOk, OnOk};
 ghost use Rattle.requests.specs.Explain.{explain, explain_all, explain_by, explain_all_by};
 ghost use Rattle.requests.specs.Branches.{explain_under, explain_all_under};
 ghost use Rattle.rules.specs.Limits.{max_lines};
@@ -14,7 +14,7 @@ ghost use Rattle.cells.specs.Puts.{address_at};
 ghost use Rattle.first.specs.Pass.{Holds};
 ghost use Rattle.std.specs.Option.{option_copied};
 ghost use Rattle.branches.specs.Branch.{names_in};
-ghost use Rattle.explain.specs.Verdict.{verdict_number, explained_of, verdicts_of, count_of, put_over, written_over};
+ghost use Rattle.explain.specs.Verdict.{verdict_number, numbered_verdict, numbered_back, explained_of, signs_of, count_of, put_over, written_as};
 ghost use Rattle.explain.specs.Called.{told_verdict, refused_place};
 ghost use Rattle.explain.specs.Lines.{verdict_on, WhyTaskNeeds, Walks, verdicts_to, WriteNeeds, WriteGives};
 
@@ -58,6 +58,70 @@ pub fn verdict_number(v: Verdict) -> u8
 {
     // `as` is how an enum without fields tells its number.
     v as u8
+}
+
+/// What stands for a verdict in an array: the verdict itself, or its number.
+pub trait VerdictSign: Copy {
+    ghost use Rattle.explain.specs.declared.Verdict.{Verdict};
+
+    ghost from_verdict: { Verdict → Self };
+
+    ghost verdict: { Self → Verdict };
+
+    /// The sign of a verdict.
+    fn from_verdict(v: Verdict) -> Self
+        ensures { result ≡ from_verdict v };
+
+    /// The verdict that it stands for.
+    fn verdict(self) -> Verdict
+        ensures { result ≡ verdict self };
+
+    // What is written is read back.
+    ghost back: { (v : Verdict) → verdict (from_verdict v) ≡ v };
+}
+
+impl VerdictSign for Verdict {
+    ghost from_verdict = { λ v. v };
+
+    ghost verdict = { λ v. v };
+
+    fn from_verdict(v: Verdict) -> Verdict {
+        v
+    }
+
+    fn verdict(self) -> Verdict {
+        self
+    }
+
+    ghost back = { λ _. refl };
+}
+
+/// A number past the last verdict's stands for the last.
+impl VerdictSign for u8 {
+    ghost from_verdict = { verdict_number };
+
+    ghost verdict = { numbered_verdict };
+
+    fn from_verdict(v: Verdict) -> u8 {
+        verdict_number(v)
+    }
+
+    fn verdict(self) -> Verdict {
+        match self {
+            0 => Verdict::Emitted,
+            1 => Verdict::NotInstruction,
+            2 => Verdict::UnknownMnemonic,
+            3 => Verdict::WrongCount,
+            4 => Verdict::WrongKinds,
+            5 => Verdict::NoDigits,
+            6 => Verdict::BadDigit,
+            7 => Verdict::OutOfRange,
+            8 => Verdict::NotRecorded,
+            _ => Verdict::OutOfReach,
+        }
+    }
+
+    ghost back = { numbered_back };
 }
 
 /// An answer on a line as C gets it: 0, with the verdict's number in `verdict` and 0 in `place`; or a refusal's number, with 255 in
@@ -215,56 +279,56 @@ pub fn explain_branches(
 
 // The verdicts on the lines that are kept, into the first places. By index: a line's cells and its verdict stand at its number.
 #[tactic(auto, using(crate::proofs::Lines::after_low, crate::proofs::Writing::wrote_none, crate::proofs::Writing::wrote_on), unfolding(cells::specs::Puts::address_at))]
-fn write_kept(
+fn write_kept<V: VerdictSign>(
     names: Option<&[u8]>,
     labels: &Labels<'_>,
     cells: &[u32],
     pass: Pass,
-    verdicts: &mut [Verdict],
+    verdicts: &mut [V],
 )
     requires { WriteNeeds labels.now cells.now pass verdicts.old }
-    ensures { verdicts.new ≡ put_over (verdicts_of (verdicts_to (names_in (option_copied names.entry)) labels.now cells.now pass pass.lines)) verdicts.old }
+    ensures { verdicts.new ≡ put_over (signs_of V.from_verdict (verdicts_to (names_in (option_copied names.entry)) labels.now cells.now pass pass.lines)) verdicts.old }
 {
     let mut address = pass.base;
     for k in 0..pass.lines {
         let kept = cells::kept_line(cells, k);
-        verdicts[k] = why_task(names, labels, address, kept.task);
+        verdicts[k] = V::from_verdict(why_task(names, labels, address, kept.task));
         // Below 2^32, as the first pass has found.
         address = cells::address_after(kept, pass.base, address) as u32;
     }
 }
 
 // The verdicts on every line that is read; how many there are.
-fn write_verdicts(
+fn write_verdicts<V: VerdictSign>(
     names: Option<&[u8]>,
     labels: &Labels<'_>,
     cells: &[u32],
     pass: Pass,
-    verdicts: &mut [Verdict],
+    verdicts: &mut [V],
 ) -> usize
     requires { WriteNeeds labels.now cells.now pass verdicts.old }
-    ensures { WriteGives (names_in (option_copied names.entry)) labels.now cells.now pass verdicts.old result verdicts.new }
+    ensures { WriteGives V.from_verdict (names_in (option_copied names.entry)) labels.now cells.now pass verdicts.old result verdicts.new }
 {
     write_kept(names, labels, cells, pass, verdicts);
     let lines = pass.lines;
     if source::count_lines(labels.source()) <= lines {
         return lines;
     }
-    verdicts[lines] = Verdict::NotInstruction;
+    verdicts[lines] = V::from_verdict(Verdict::NotInstruction);
     lines + 1
 }
 
 // The verdict on every line that is read, by the names in use, in the first places; how many there are.
 #[tactic(auto, using(crate::proofs::Writing::write_needs, crate::proofs::Writing::all_refused, crate::proofs::Writing::all_unwritten))]
-fn explain_lines_by(
+fn explain_lines_by<V: VerdictSign>(
     names: Option<&[u8]>,
     source: &[u8],
     base: u32,
-    verdicts: &mut [Verdict; rules::MAX_LINES],
+    verdicts: &mut [V; rules::MAX_LINES],
 ) -> Result<usize, Refusal>
     ensures value { answer_of result ≡ count_of (explain_all_by (names_in (option_copied names.entry)) base source.now) }
     ensures count { IfOk result (λ n. n ≤ max_lines) }
-    ensures verdicts_after { verdicts.new ≡ written_over (explain_all_by (names_in (option_copied names.entry)) base source.now) verdicts.old }
+    ensures verdicts_after { verdicts.new ≡ written_as V.from_verdict (explain_all_by (names_in (option_copied names.entry)) base source.now) verdicts.old }
 {
     let mut table = [0u32; label::TABLE];
     let mut cells = [0u32; 2 * rules::MAX_LINES];
@@ -273,32 +337,32 @@ fn explain_lines_by(
     Ok(write_verdicts(names, &labels, &cells, pass, verdicts))
 }
 
-/// The verdict on every line that is read, in the first places; how many there are. The places after them stay, and so do all where
-/// the source is refused, by 1 to 6 as assembling does.
+/// The verdict on every line that is read, itself or its number, in the first places; how many there are. The places after them stay,
+/// and so do all where the source is refused, by 1 to 6 as assembling does.
 #[tactic(auto, unfolding(branches::specs::Branch::names_in))]
-pub fn explain_lines(
+pub fn explain_lines<V: VerdictSign>(
     source: &[u8],
     base: u32,
-    verdicts: &mut [Verdict; rules::MAX_LINES],
+    verdicts: &mut [V; rules::MAX_LINES],
 ) -> Result<usize, Refusal>
     ensures value { answer_of result ≡ count_of (explain_all base source.now) }
     ensures count { IfOk result (λ n. n ≤ max_lines) }
-    ensures verdicts_after { verdicts.new ≡ written_over (explain_all base source.now) verdicts.old }
+    ensures verdicts_after { verdicts.new ≡ written_as V.from_verdict (explain_all base source.now) verdicts.old }
 {
     explain_lines_by(None, source, base, verdicts)
 }
 
 /// The same under the branch table `names`; where that is refused, by 16 or 17 before all else, all places stay too.
 #[tactic(auto, using(crate::proofs::Tabled::all_unloaded, crate::proofs::Tabled::all_kept, crate::proofs::Tabled::all_loaded))]
-pub fn explain_lines_branches(
+pub fn explain_lines_branches<V: VerdictSign>(
     names: &[u8],
     source: &[u8],
     base: u32,
-    verdicts: &mut [Verdict; rules::MAX_LINES],
+    verdicts: &mut [V; rules::MAX_LINES],
 ) -> Result<usize, Refusal>
     ensures value { answer_of result ≡ count_of (explain_all_under names.now base source.now) }
     ensures count { IfOk result (λ n. n ≤ max_lines) }
-    ensures verdicts_after { verdicts.new ≡ written_over (explain_all_under names.now base source.now) verdicts.old }
+    ensures verdicts_after { verdicts.new ≡ written_as V.from_verdict (explain_all_under names.now base source.now) verdicts.old }
 {
     branches::load_branches(names)?;
     explain_lines_by(Some(names), source, base, verdicts)

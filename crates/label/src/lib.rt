@@ -100,6 +100,13 @@ impl<'a> Labels<'a> {
         self.source
     }
 
+    /// The cells, with what they hold of the labels: whoever lent them may read them, or lend them again.
+    pub fn into_cells(self) -> &'a mut [u32]
+        ensures { result.now ≡ self.entry.cells }
+    {
+        self.cells
+    }
+
     // The row of the label `name`, whose hash is `hash`.
     fn row_hashed(&self, name: &[u8], hash: usize) -> Option<usize>
         requires { hash ≡ hash_of name.now }

@@ -1,6 +1,6 @@
 -- Laws of lines: their length, that a text begins with one, and the loop that counts them. Assumes nothing.
 use Prim.Native.Nat.{ℕ, zero, suc, ◌+◌, ◌-◌, ◌*◌, ◌<◌, ◌≤◌}
-use mathlib.Core.Path.{◌≡◌, refl, sym, ◌∙◌}
+use mathlib.Core.Path.{◌≡◌, refl, sym, ap, ◌∙◌}
 use mathlib.Core.Bool.{Bool, true, false, false≢true}
 use mathlib.Core.List.{List, [], ◌∷◌, ◌++◌, append-nil}
 use native.Mathlib.Nat.{le_refl}
@@ -8,12 +8,14 @@ use native.Mathlib.Numerals.{add-one}
 use native.Mathlib.Omega.{arith}
 use borrow.Author.Tests.{eq-eqb, eqb-true, ltb-true, ltb-false}
 use lib.Dec.{eqb, ltb}
-use lib.ListN.{length, take, drop, replicate, length-append, length-replicate, length-drop, drop_of_length-le}
+use lib.ListN.{length, take, drop, set, replicate, length-append, length-replicate, length-drop, length-set, drop_of_length-le}
 use lib.Seq.{drop-drop, take_all}
 use Rattle.rules.specs.Text.{Text, starts}
 use Rattle.rules.specs.Assemble.{Place, over}
 use Rattle.text.proofs.Compare.{starts_equal, starts_unequal, starts_short}
-use Rattle.listing.specs.Listing.{place_text}
+use Rattle.listing.specs.Listing.{digits_of, mark_byte, place_text}
+use Rattle.text.specs.Spans.{over_from}
+use Rattle.text.proofs.Over.{put_both, put_one, put_nil, length_put}
 use Rattle.listing.specs.Reading.{place_in, is_line, bad, read_lines, read_list}
 use Rattle.std.specs.Prelude.{Ok}
 use Rattle.listing.proofs.Digits.{length_digits}
@@ -25,6 +27,36 @@ length_place p = simp (length-append, length_digits)
 
 pub next_line : (p : Place) (i : ℕ) → 16 * (i + 1) ≡ 16 * i + length (place_text p)
 next_line p i = rw (length_place p) (omega arith)
+
+-- a line is put part by part: x is the list after the address, y after the word
+pub line_put : (i : ℕ) (p : Place) (l x y : Text) (m : ℕ) → i + 16 ≤ length l → x ≡ over_from i (digits_of 16 8 p.address) l
+    → y ≡ over_from (i + 9) (digits_of 16 4 p.word) (set x (i + 8) 32) → m ≡ mark_byte p.mark
+    → set (set (set y (i + 13) 32) (i + 14) m) (i + 15) 10 ≡ over_from i (place_text p) l
+unfolding place_text
+line_put i p l x y m h ex ey em =
+    let a = digits_of 16 8 p.address in
+    let w = digits_of 16 4 p.word in
+    let la = length_digits 16 8 p.address in
+    let lw = length_digits 16 4 p.word in
+    let x' = set x (i + 8) 32 in
+    let lx : length x ≡ length l = ap length ex ∙ length_put i a l (omega arith) in
+    let lx' : length x' ≡ length l = length-set x (i + 8) 32 ∙ lx in
+    let ly : length y ≡ length l = ap length ey ∙ length_put (i + 9) w x' (omega arith) ∙ lx' in
+    let y' = set y (i + 13) 32 in
+    let ly' : length y' ≡ length l = length-set y (i + 13) 32 ∙ ly in
+    let y'' = set y' (i + 14) m in
+    let ly'' : length y'' ≡ length l = length-set y' (i + 14) m ∙ ly' in
+    rw (← em)
+    (sym
+    (put_both i (i + 8) a l (omega arith) (omega arith) (32 ∷ (w ++ (32 ∷ m ∷ 10 ∷ [])))
+    ∙ ap (over_from (i + 8) (32 ∷ (w ++ (32 ∷ m ∷ 10 ∷ [])))) (sym ex)
+    ∙ put_one (i + 8) (i + 9) 32 (w ++ (32 ∷ m ∷ 10 ∷ [])) x (omega arith) (omega arith)
+    ∙ put_both (i + 9) (i + 13) w x' (omega arith) (omega arith) (32 ∷ m ∷ 10 ∷ [])
+    ∙ ap (over_from (i + 13) (32 ∷ m ∷ 10 ∷ [])) (sym ey)
+    ∙ put_one (i + 13) (i + 14) 32 (m ∷ 10 ∷ []) y (omega arith) (omega arith)
+    ∙ put_one (i + 14) (i + 15) m (10 ∷ []) y' (omega arith) (omega arith)
+    ∙ put_one (i + 15) (i + 16) 10 [] y'' (omega arith) (omega arith)
+    ∙ put_nil (i + 16) (set y'' (i + 15) 10)))
 
 -- ---- a text that starts with another
 pub starts_whole : (p s : Text) → starts p (p ++ s) ≡ true

@@ -1,15 +1,18 @@
--- What is left of a list's places after i turns of a loop: of those that a text shows, and of those in three slices. Assumes nothing.
+-- A list's places after i turns of a loop: those that a text shows and that are left, and the lines of those in three slices. Assumes nothing.
 use Prim.Native.Nat.{ℕ, zero, suc, ◌+◌, ◌-◌, ◌*◌, ◌<◌, ◌≤◌}
-use mathlib.Core.Path.{◌≡◌, refl, sym}
+use mathlib.Core.Path.{◌≡◌, refl, sym, ap, ◌∙◌}
 use mathlib.Core.List.{List, [], ◌∷◌, ◌++◌, map, flat_map, append-nil, append_assoc}
 use native.Mathlib.Omega.{arith}
-use lib.ListN.{length, drop, get_or}
+use lib.ListN.{length, drop, get_or, length-append}
 use lib.Seq.{drop-drop}
 use Rattle.rules.specs.Text.{Text}
 use Rattle.rules.specs.Assemble.{Place, place}
 use Rattle.rules.specs.Tally.{list_in}
 use Rattle.listing.specs.Listing.{place_text, list_text}
 use Rattle.listing.specs.Reading.{place_in, places_in}
+use Rattle.text.specs.Spans.{over_from}
+use Rattle.text.proofs.Over.{put_both, put_nil}
+use Rattle.listing.proofs.Lines.{length_place}
 
 -- ---- a part f of each place that a text shows, from line i on
 abbrev pub shown_from : (Place → ℕ) → Text → ℕ → ℕ → List ℕ
@@ -42,3 +45,25 @@ lines_more zero (x ∷ xs) (w ∷ ws) (m ∷ ms) a b c = append-nil (place_text 
 lines_more (suc i) (x ∷ xs) (w ∷ ws) (m ∷ ms) a b c =
     let one : suc i + 1 ≡ suc (i + 1) = omega arith in
     rw (one, lines_more i xs ws ms (omega arith) (omega arith) (omega arith)) (sym (append_assoc (place_text (place x w m)) (list_text (list_in i xs ws ms)) _))
+
+pub length_lines : (i : ℕ) (xs ws ms : List ℕ) → i ≤ length xs → i ≤ length ws → i ≤ length ms → length (list_text (list_in i xs ws ms)) ≡ 16 * i
+unfolding list_text flat_map list_in
+length_lines zero xs ws ms a b c = refl
+length_lines (suc i) [] ws ms a b c = absurd (omega arith)
+length_lines (suc i) (x ∷ xs) [] ms a b c = absurd (omega arith)
+length_lines (suc i) (x ∷ xs) (w ∷ ws) [] a b c = absurd (omega arith)
+length_lines (suc i) (x ∷ xs) (w ∷ ws) (m ∷ ms) a b c =
+    rw (length-append (place_text (place x w m)) (list_text (list_in i xs ws ms)), length_place (place x w m), length_lines i xs ws ms (omega arith) (omega arith) (omega arith)) (omega arith)
+
+-- ---- the same lines, put into l at an index
+module _ (start : ℕ) where
+  pub put_none : (xs ws ms l : List ℕ) → l ≡ over_from start (list_text (list_in 0 xs ws ms)) l
+  put_none xs ws ms l = rw (lines_none xs ws ms) (sym (put_nil start l))
+
+  pub put_more : (i : ℕ) (xs ws ms l : List ℕ) {k m : List ℕ} → i < length xs → i < length ws → i < length ms → start + 16 * i ≤ length l
+      → k ≡ over_from start (list_text (list_in i xs ws ms)) l
+      → m ≡ over_from (start + 16 * i) (place_text (place (get_or xs i 0) (get_or ws i 0) (get_or ms i 0))) k
+      → m ≡ over_from start (list_text (list_in (i + 1) xs ws ms)) l
+  put_more i xs ws ms l {k} {m} a b c h e f =
+      let n : length (list_text (list_in i xs ws ms)) ≡ 16 * i = length_lines i xs ws ms (omega arith) (omega arith) (omega arith) in
+      rw (lines_more i xs ws ms a b c) (f ∙ ap (over_from (start + 16 * i) _) e ∙ sym (put_both start (start + 16 * i) (list_text (list_in i xs ws ms)) l (omega arith) (omega arith) _))

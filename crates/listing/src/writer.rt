@@ -5,7 +5,7 @@ ghost use Rattle.rules.specs.Tally.{list_in};
 ghost use Rattle.listing.specs.Listing.{digits_of, decimal, place_text, list_text, refused_text};
 ghost use Rattle.listing.specs.Writer.{Begins, Adds};
 
-use crate::writing::{decimal_places, mark_byte, write_bytes, write_digits};
+use crate::writing::{LINE, decimal_places, write_bytes, write_digits, write_place, write_places};
 
 /// A lent slice, and how many bytes of a text are put over its front. It has no model: with one a caller no longer learns what stands in
 /// the slice that it lent. The slice is open to who writes in place after the text and counts it in `len`: a method that lends that rest
@@ -69,12 +69,8 @@ impl<'a> Writer<'a> {
         ensures text { Adds (place_text (place address word mark)) self.old self.new }
         ensures len { self.new.len ≡ self.old.len + 16 }
     {
-        self.push_digits(16, 8, u64::from(address));
-        self.push(b' ');
-        self.push_digits(16, 4, u64::from(word));
-        self.push(b' ');
-        self.push(mark_byte(mark));
-        self.push(b'\n');
+        write_place(self.out, self.len, address, word, mark);
+        self.len += LINE;
     }
 
     /// Writes the text of a list.
@@ -85,10 +81,8 @@ impl<'a> Writer<'a> {
         ensures text { Adds (list_text (list_in count addresses.now words.now marks.now)) self.old self.new }
         ensures len { self.new.len ≡ self.old.len + 16 * count }
     {
-        // One index for three slices: a `zip` of a `zip` is no plainer.
-        for i in 0..count {
-            self.push_place(addresses[i], words[i], marks[i]);
-        }
+        write_places(self.out, self.len, addresses, words, marks, count);
+        self.len += LINE * count;
     }
 
     /// Writes the line of a refusal.

@@ -1,8 +1,8 @@
 //! A list as text, a line for each word; and the line of a refusal.
 ghost use Rattle.std.specs.Prelude.{◌≡◌, ◌+◌, ◌*◌, ◌<◌, ◌≤◌, length};
-ghost use Rattle.rules.specs.Assemble.{over};
+ghost use Rattle.rules.specs.Assemble.{place, over};
 ghost use Rattle.rules.specs.Tally.{list_in};
-ghost use Rattle.listing.specs.Listing.{digit_byte, digits_of, decimal_places, decimal, mark_byte, list_text, refused_text};
+ghost use Rattle.listing.specs.Listing.{digit_byte, digits_of, decimal_places, decimal, mark_byte, place_text, list_text, refused_text};
 ghost use Rattle.text.specs.Spans.{over_from};
 
 use crate::writer::Writer;
@@ -35,12 +35,14 @@ pub fn write_digits(out: &mut [u8], at: usize, base: u64, count: usize, n: u64)
 }
 
 /// Puts a text at an index.
-#[tactic(auto, unfolding(text::specs::Spans::over_from))]
 pub fn write_bytes(out: &mut [u8], at: usize, text: &[u8])
     requires { at + length text.now ≤ length out.old }
     ensures { out.new ≡ over_from at text.now out.old }
 {
-    out[at..at + text.len()].copy_from_slice(text);
+    // By index, and no `copy_from_slice`: through a `Writer` the compiler does not know the two apart, and an archive would ask C for `memmove`.
+    for i in 0..text.len() {
+        out[at + i] = text[i];
+    }
 }
 
 // A mark's digit.
@@ -49,6 +51,39 @@ pub(crate) fn mark_byte(mark: u8) -> u8
     ensures { result ≡ mark_byte mark }
 {
     if mark < 10 { b'0' + mark } else { b'?' }
+}
+
+/// Puts the line of a word at an index.
+// Over the slice and the index, as is the loop over it: with the writer passed on for each line, a list took twice the time.
+pub fn write_place(out: &mut [u8], at: usize, address: u32, word: u16, mark: u8)
+    requires { at + 16 ≤ length out.old }
+    ensures { out.new ≡ over_from at (place_text (place address word mark)) out.old }
+{
+    write_digits(out, at, 16, 8, u64::from(address));
+    out[at + 8] = b' ';
+    write_digits(out, at + 9, 16, 4, u64::from(word));
+    out[at + 13] = b' ';
+    out[at + 14] = mark_byte(mark);
+    out[at + 15] = b'\n';
+}
+
+// Puts the lines of the first `count` words at an index.
+pub(crate) fn write_places(
+    out: &mut [u8],
+    at: usize,
+    addresses: &[u32],
+    words: &[u16],
+    marks: &[u8],
+    count: usize,
+)
+    requires lengths { (count ≤ length addresses.now) × (count ≤ length words.now) × (count ≤ length marks.now) }
+    requires room { at + 16 * count ≤ length out.old }
+    ensures { out.new ≡ over_from at (list_text (list_in count addresses.now words.now marks.now)) out.old }
+{
+    // One index for three slices: a `zip` of a `zip` is no plainer.
+    for i in 0..count {
+        write_place(out, at + LINE * i, addresses[i], words[i], marks[i]);
+    }
 }
 
 /// Puts the text of a list at the front, and answers its length.

@@ -1,13 +1,18 @@
 -- Moves made one after another: their answers and the slices after the last, for whatever slices are lent; and, where these hold an
 -- accepted source's list or any of well paired marks, the tally's answers and its last list. Assumes nothing.
-use Rattle.std.specs.Prelude.{ℕ, ◌≡◌, List, [], ◌∷◌, map, length, ℤ, pos}
+use Rattle.std.specs.Prelude.{ℕ, zero, suc, ◌≡◌, List, [], ◌∷◌, map, length, ℤ, pos}
 use Rattle.rules.specs.Text.{Text}
-use Rattle.rules.specs.Answer.{Answer, accepted}
+use Rattle.rules.specs.Answer.{Answer, accepted, refused}
 use Rattle.rules.specs.Assemble.{Place, Slices, assemble}
 use Rattle.rules.specs.Relocate.{move_slices}
 use Rattle.rules.specs.Tally.{Seen, held, tallied, tally}
 use Rattle.promises.specs.MovedLists.{last_list}
 use Rattle.promises.specs.Pairs.{Each, WellPaired, Sixteen}
+
+-- the answer that a number and a place are: 0 and the count, or a refusal's
+abbrev pub answer_from : ℕ → ℕ → Answer ℕ
+answer_from zero p = accepted p
+answer_from (suc n) p = refused (suc n) p
 
 -- each move's answer
 abbrev pub told : List Seen → List (Answer ℕ)

@@ -99,8 +99,8 @@ unfolding sheet_answer
 sheet_added u v e p q = rw (← e) (q ∙ ap outcome_of p)
 
 -- ---- a step by its two matches
-pub stopped_so : {step : Result Totals Stop} {x : Stop} → step ≡ Err x → (y : Stop) → x ≡ y → step ≡ Err y
-stopped_so e y f = e ∙ ap (λ (z : Stop). Err z) f
+pub stopped_so : {R : Type 0} {step : Result Totals (Stop R)} {x : Stop R} → step ≡ Err x → (y : Stop R) → x ≡ y → step ≡ Err y
+stopped_so {R} e y f = e ∙ ap (λ (z : Stop R). Err z) f
 
 -- ---- at the end of the names
 pub ended_unread : (i : Input) (o : Outcome) → i.failed ≡ true → unread ≡ unless_unread i o

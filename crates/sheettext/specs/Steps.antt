@@ -11,6 +11,7 @@ use Rattle.sheet.specs.Totals.{said}
 use Rattle.sheettext.specs.Rows.{row, sheet_text}
 use Rattle.sheettext.specs.Back.{Read, is_sheet, wrong, sheet_in}
 use Rattle.answer.specs.Refusal.{number_of, place_of}
+use Rattle.answer.specs.declared.Refusal.{Refusal}
 use Rattle.sheet.specs.declared.Totals.{Totals}
 use Rattle.sheettext.specs.declared.Stop.{Stop}
 use Rattle.sheettext.specs.declared.Stop.TheVariants.{Refused, Wrong, Unread}
@@ -22,11 +23,15 @@ pub data Outcome : Type 0 where
   no_sheet : ℕ → Outcome
   unread : Outcome
 
-abbrev pub outcome : Result Totals Stop → Outcome
-outcome (Ok t) = summed (said t)
-outcome (Err (Refused x)) = stops (number_of x) (place_of x)
-outcome (Err (Wrong l)) = no_sheet l.number
-outcome (Err Unread) = unread
+-- by the two functions that tell a refusal's number and its place
+abbrev pub outcome_by : {R : Type 0} → (R → ℕ) → (R → ℕ) → Result Totals (Stop R) → Outcome
+outcome_by number place (Ok t) = summed (said t)
+outcome_by number place (Err (Refused x)) = stops (number x) (place x)
+outcome_by number place (Err (Wrong l)) = no_sheet l.number
+outcome_by number place (Err Unread) = unread
+
+abbrev pub outcome : Result Totals (Stop Refusal) → Outcome
+outcome s = outcome_by number_of place_of s
 
 unfoldable pub outcome_of : Answer Said → Outcome
 outcome_of (accepted t) = summed t

@@ -8,18 +8,20 @@ ghost use Rattle.requests.specs.Sheet.{no_totals, add_source};
 ghost use Rattle.station.specs.Printed.{Printed};
 ghost use Rattle.station.specs.Reads.{Reads};
 ghost use Rattle.sheet.specs.Totals.{said, answered};
-ghost use Rattle.sheettext.specs.Steps.{summed, outcome, outcome_of, over_long, script_step, unless_unread, sheet_answer, sheet_step, step_text};
+ghost use Rattle.sheettext.specs.Steps.{summed, outcome, outcome_by, outcome_of, over_long, script_step, unless_unread, sheet_answer, sheet_step, step_text};
 ghost use Rattle.sheettext.specs.Back.{sheet_in};
 
 use answer::Refusal;
 use back::read_sheet;
 use listing::reading::BadLine;
 use listing::writer::Writer;
+use listing::writing::write_refused;
 use rows::{push_part, write_sheet};
 use rules::MAX_SOURCE;
 use sheet::{NO_TOTALS, Totals, add_sheet, add_source};
+use station::SCRIPT;
 use station::input::Input;
-use station::{SCRIPT, write_refusal};
+use station::refused::Refused;
 
 pub mod rows; // rows.rt: a sheet's text, row by row
 pub mod back; // back.rt: a sheet read back from its text
@@ -30,12 +32,12 @@ pub mod files; // files.rt: one file after another
 /// Room for a sheet's text, which has at most 377 bytes.
 pub const SHEET: usize = 512;
 
-/// Why there is no going on.
+/// Why there is no going on; a refusal is one of a source or a sheet, or whatever else has a number and a place.
 // No `Result` or `Option` in it: the three reasons are alike, and `Step` is the `Result` over them.
 #[derive(Clone, Copy, Debug, PartialEq, Eq, Hash)]
-pub enum Stop {
-    /// By 20 or 21.
-    Refused(Refusal),
+pub enum Stop<R = Refusal> {
+    /// By 20 or 21 where a source or a sheet was added.
+    Refused(R),
     /// A text that is no sheet's: its first wrong line.
     Wrong(BadLine),
     /// A file that cannot be read to its end.
@@ -43,7 +45,7 @@ pub enum Stop {
 }
 
 /// What a step comes to: totals to go on with, or why there is no going on.
-pub type Step = Result<Totals, Stop>;
+pub type Step<R = Refusal> = Result<Totals, Stop<R>>;
 
 /// Before the first source.
 pub fn no_sources() -> Step
@@ -121,8 +123,8 @@ pub fn add_sheet_text(totals: Totals, script: &[u8; SCRIPT], input: Input) -> St
 // ---- What is printed.
 
 /// The step at the end of the names: nothing is printed if they could not be read to it.
-pub fn ended(step: Step, input: Input) -> Step
-    ensures { outcome result ≡ unless_unread input (outcome step) }
+pub fn ended<R: Refused>(step: Step<R>, input: Input) -> Step<R>
+    ensures { outcome_by R.number R.place result ≡ unless_unread input (outcome_by R.number R.place step) }
 {
     if input.failed {
         return Err(Stop::Unread);
@@ -132,12 +134,12 @@ pub fn ended(step: Step, input: Input) -> Step
 
 /// Puts the text of a step at the front, and answers its length: a sheet, or the line of a refusal or of a wrong line; nothing for a
 /// file that was not read.
-pub fn step_text(step: Step, out: &mut [u8; SHEET]) -> usize
-    ensures { Printed (step_text (outcome step)) result out.old out.new }
+pub fn step_text<R: Refused>(step: Step<R>, out: &mut [u8; SHEET]) -> usize
+    ensures { Printed (step_text (outcome_by R.number R.place step)) result out.old out.new }
 {
     match step {
         Ok(totals) => write_sheet(totals, out),
-        Err(Stop::Refused(refusal)) => write_refusal(refusal, out),
+        Err(Stop::Refused(refusal)) => write_refused(refusal.number(), refusal.place(), out),
         Err(Stop::Wrong(line)) => {
             let mut text = Writer::new(out);
             // By `as`: `u64` has no `From<usize>`.

@@ -1,5 +1,6 @@
 pub mod Printed
 pub mod Puts
+pub mod Refusing
 pub mod Moving
 pub mod ScriptInput
 pub mod Script

@@ -39,13 +39,16 @@ pub record ReadsOn : Type 0 where
       → Reads (t ++ chunk) (kept i.total chunk buffer) (after_read (Some (length chunk)) i)
 
 -- old, the bytes that a reader gives, where they are known, and x, the buffer before the first read; i, where it stands, new, the bytes that are
--- left, and y, the buffer: some text was read, and its front is put over that of x. After a read that failed nothing is said.
+-- left, and y, the buffer: some text was read, and its front is put over that of x. A read that failed loses nothing: the text is still all that the
+-- reader gave, and it is counted and its front kept, unless it has more bytes than a usize counts.
 pub record ReadFrom (old : Option (List ℕ)) (x : List ℕ) (new : Option (List ℕ)) (y : List ℕ) (i : Input) : Type 0 where
   pub text : Text
-  pub consumed : i.failed ≡ false → Consumes old new text
+  pub consumed : Consumes old new text
   pub at_end : i.failed ≡ false → i.more ≡ false → IsAtEnd new
   pub reads : i.failed ≡ false → Reads text y i
   pub after : i.failed ≡ false → y ≡ kept 0 text x
+  pub none_lost : length text < 2 ^ 64 → Reads text y i
+  pub front_kept : length text < 2 ^ 64 → y ≡ kept 0 text x
 
 -- and no more will be read
 pub record ReadWhole (old : Option (List ℕ)) (x : List ℕ) (new : Option (List ℕ)) (y : List ℕ) (i : Input) : Type 0 where

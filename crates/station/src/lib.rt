@@ -6,6 +6,7 @@
 pub mod arguments; // arguments.rt: what a program is told
 pub mod failure; // failure.rt: what a program says on standard error
 pub mod input; // input.rt: reading to the end, of which the front is kept
+pub mod refused; // refused.rt: a refusal by its number and its place
 
 ghost use Rattle.std.specs.Prelude.{◌≡◌, ◌≤◌, min, length, take};
 ghost use Rattle.rules.specs.Text.{Text};

@@ -1,6 +1,6 @@
 -- From a call's answer to the text that is printed: a line's verdict, the rows of all lines, or a refusal. Assumes nothing.
 use Rattle.std.specs.Prelude.{ℕ, ◌≡◌, ◌≤◌, Option, None, Some, Result, Ok, Err, IfOk, List, [], ◌∷◌, map, length, drop}
-use mathlib.Core.Path.{refl, ap}
+use mathlib.Core.Path.{refl, ap, ◌∙◌}
 use native.Mathlib.Omega.{arith}
 use lib.ListN.{length-append, length-map}
 use lib.Seq.{take_at}
@@ -10,13 +10,15 @@ use Rattle.rules.specs.Answer.{Answer, accepted, refused, and_then}
 use Rattle.rules.specs.Assemble.{pass_at_by}
 use Rattle.requests.specs.Explain.{not_instruction, unknown_mnemonic, wrong_count, wrong_kinds, bad_number, not_recorded, out_of_reach, emitted, because, explain_all_by, explain_by}
 use Rattle.requests.specs.Explain.{Verdict as Said}
-use Rattle.answer.specs.Refusal.{answer_of}
+use Rattle.answer.specs.Refusal.{number_of, place_of, answer_of}
 use Rattle.answer.specs.declared.Refusal.{Refusal}
 use Rattle.explain.specs.Verdict.{verdict_of, verdicts_of, explained_of, count_of, put_over, written_over}
 use Rattle.explain.specs.declared.Verdict.{Verdict}
+use Rattle.station.specs.Refused.{answer_by}
+use Rattle.station.proofs.Refusing.{answer_by_refusal}
 use Rattle.station.proofs.ScriptInput.{RefusesLong, checks_long}
 use Rattle.whytext.specs.WhyLine.{verdict_text, told_text, line_text, all_text, lines_text, why_text}
-use Rattle.whytext.specs.Verdicts.{said_of, line_of, rows_of, explained_text, counted_text}
+use Rattle.whytext.specs.Verdicts.{said_of, line_of, rows_of, rows_by, explained_text, counted_text, counted_by}
 use Rattle.whytext.specs.declared.LineAt.{LineAt}
 
 -- ---- a script over the limit
@@ -56,6 +58,17 @@ pub counted_text_lem : (a : Answer (List Said)) (old : List Verdict) → counted
 unfolding all_text rows_of put_over
 counted_text_lem (accepted vs) old = rw (take_at (verdicts_of vs) _ (length vs) (length-map vs _), lines_back vs)
 counted_text_lem (refused n p) old = refl
+
+-- a verdict stands for itself
+pub counted_by_verdicts : (a : Answer ℕ) (vs : List Verdict) → counted_by (λ v. v) a vs ≡ counted_text a vs
+unfolding rows_of rows_by
+counted_by_verdicts (accepted n) vs = refl
+counted_by_verdicts (refused n p) vs = refl
+
+-- what a call answers and writes, by its own refusals
+pub counted_by_call : (a : Answer (List Said)) (old : List Verdict) (r : Result ℕ Refusal) → answer_of r ≡ count_of a → {x : List Verdict} → x ≡ written_over a old
+    → counted_by (λ v. v) (answer_by number_of place_of r) x ≡ all_text a
+counted_by_call a old r e w = rw (answer_by_refusal r, e, w) (counted_by_verdicts (count_of a) (written_over a old) ∙ counted_text_lem a old)
 
 -- as many verdicts as the answer says stand in the slice
 pub rows_fit : (a : Answer (List Said)) (r : Result ℕ Refusal) → answer_of r ≡ count_of a → IfOk r (λ n. n ≤ max_lines)

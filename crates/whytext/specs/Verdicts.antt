@@ -31,6 +31,10 @@ line_of v = verdict_text (said_of v)
 unfoldable pub rows_of : List Verdict → Text
 rows_of vs = rows_text 1 (map line_of vs)
 
+-- the same of what stands for verdicts
+unfoldable pub rows_by : {V : Type 0} → (V → Verdict) → List V → Text
+rows_by verdict vs = rows_text 1 (map (λ v. line_of (verdict v)) vs)
+
 -- ---- an answer's text
 
 -- on a line
@@ -42,3 +46,8 @@ explained_text (refused n p) = refused_text n p
 abbrev pub counted_text : Answer ℕ → List Verdict → Text
 counted_text (accepted n) vs = rows_of (take n vs)
 counted_text (refused n p) vs = refused_text n p
+
+-- the same of what stands for verdicts
+abbrev pub counted_by : {V : Type 0} → (V → Verdict) → Answer ℕ → List V → Text
+counted_by verdict (accepted n) vs = rows_by verdict (take n vs)
+counted_by verdict (refused n p) vs = refused_text n p

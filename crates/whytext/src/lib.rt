@@ -5,22 +5,24 @@
 ghost use Rattle.std.specs.Prelude.{◌≡◌, ◌+◌, ◌*◌, ◌≤◌, Ok, length as len, take, IfOk};
 ghost use Rattle.rules.specs.Text.{Text};
 ghost use Rattle.rules.specs.Limits.{max_lines};
-ghost use Rattle.answer.specs.Refusal.{answer_of};
 ghost use Rattle.listing.specs.Writer.{Adds};
 ghost use Rattle.station.specs.Station.{unless_failed, input_text};
 ghost use Rattle.station.specs.Printed.{Printed};
 ghost use Rattle.station.specs.Reads.{Reads};
+ghost use Rattle.station.specs.Refused.{answer_by};
 ghost use Rattle.whytext.specs.WhyLine.{line_text, row_text, lines_text, why_text, asked_at, asked_by};
-ghost use Rattle.whytext.specs.Verdicts.{line_of, rows_of, explained_text, counted_text};
+ghost use Rattle.whytext.specs.Verdicts.{line_of, rows_by, explained_text, counted_by};
 
 use answer::Refusal;
-use explain::{Verdict, explain_line, explain_lines};
+use explain::{Verdict, VerdictSign, explain_line, explain_lines};
 use listing::writer::Writer;
+use listing::writing::write_refused;
 use numeral::Failure;
 use numeral::unsigned::read_digits;
 use rules::{MAX_LINES, MAX_SOURCE};
 use station::arguments::{are_none, hexadecimal};
 use station::input::Input;
+use station::refused::Refused;
 use station::{SCRIPT, TEXT, write_refusal};
 
 /// One line that is asked for.
@@ -92,8 +94,8 @@ pub fn push_verdict(verdict: Verdict, text: &mut Writer<'_>)
 }
 
 /// Puts the line of an answer on a line, its verdict's or that of a refusal, at the front, and answers its length.
-pub fn write_explained(explained: Result<Verdict, Refusal>, out: &mut [u8; TEXT]) -> usize
-    ensures { Printed (explained_text (answer_of explained)) result out.old out.new }
+pub fn write_explained<R: Refused>(explained: Result<Verdict, R>, out: &mut [u8; TEXT]) -> usize
+    ensures { Printed (explained_text (answer_by R.number R.place explained)) result out.old out.new }
 {
     match explained {
         Ok(verdict) => {
@@ -101,12 +103,12 @@ pub fn write_explained(explained: Result<Verdict, Refusal>, out: &mut [u8; TEXT]
             push_verdict(verdict, &mut text);
             text.len
         }
-        Err(refusal) => write_refusal(refusal, out),
+        Err(refusal) => write_refused(refusal.number(), refusal.place(), out),
     }
 }
 
 /// Puts the verdict's line on a line of a source, from 1, or that of a refusal, at the front, and answers its length.
-#[tactic(auto, using(crate::proofs::Told::explained_text_lem), unfolding(crate::specs::WhyLine::line_text))]
+#[tactic(auto, using(station::proofs::Refusing::answer_by_refusal, crate::proofs::Told::explained_text_lem), unfolding(crate::specs::WhyLine::line_text))]
 pub fn write_line_verdict(source: &[u8], base: u32, line: usize, out: &mut [u8; TEXT]) -> usize
     ensures { Printed (line_text base line source.now) result out.old out.new }
 {
@@ -127,25 +129,25 @@ fn push_row(line: usize, verdict: Verdict, text: &mut Writer<'_>)
 }
 
 // Writes the rows of verdicts.
-fn push_rows(verdicts: &[Verdict], text: &mut Writer<'_>)
+fn push_rows<V: VerdictSign>(verdicts: &[V], text: &mut Writer<'_>)
     requires few { len verdicts.now ≤ max_lines }
     requires room { text.old.len + 131072 ≤ len text.old.out.now }
-    ensures { Adds (rows_of verdicts.now) text.old text.new }
+    ensures { Adds (rows_by V.verdict verdicts.now) text.old text.new }
 {
     for (k, verdict) in verdicts.iter().enumerate() {
-        push_row(k + 1, *verdict, text);
+        push_row(k + 1, verdict.verdict(), text);
     }
 }
 
 /// Puts the text of an answer on all lines, the rows of as many verdicts or the line of a refusal, at the front, and answers its
 /// length.
-pub fn write_counted(
-    answer: Result<usize, Refusal>,
-    verdicts: &[Verdict],
+pub fn write_counted<R: Refused, V: VerdictSign>(
+    answer: Result<usize, R>,
+    verdicts: &[V],
     out: &mut [u8; TEXT],
 ) -> usize
     requires { IfOk answer (λ n. (n ≤ len verdicts.now) × (n ≤ max_lines)) }
-    ensures { Printed (counted_text (answer_of answer) verdicts.now) result out.old out.new }
+    ensures { Printed (counted_by V.verdict (answer_by R.number R.place answer) verdicts.now) result out.old out.new }
 {
     match answer {
         Ok(count) => {
@@ -153,7 +155,7 @@ pub fn write_counted(
             push_rows(&verdicts[..count], &mut text);
             text.len
         }
-        Err(refusal) => write_refusal(refusal, out),
+        Err(refusal) => write_refused(refusal.number(), refusal.place(), out),
     }
 }
 

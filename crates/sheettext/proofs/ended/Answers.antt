@@ -3,7 +3,7 @@ use Rattle.sheettext.proofs.Stepping.{ended_unread, ended_so}
 use Rattle.sheettext.proofs.ended.Goals as goal
 
 pub returns-then-input : goal.returns-then-input
-returns-then-input c = ended_unread _ _ c.if-input.true
+returns-then-input g c = ended_unread _ _ c.if-input.true
 
 pub returns : goal.returns
-returns c = ended_so _ _ c.if-input.false
+returns g c = ended_so _ _ c.if-input.false

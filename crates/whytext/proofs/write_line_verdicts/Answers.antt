@@ -2,7 +2,7 @@
 use Rattle.std.proofs.Common.{replicate}
 use Rattle.explain.specs.declared.Verdict.TheVariants.{Emitted}
 use Rattle.whytext.specs.WhyLine.{lines_text}
-use Rattle.whytext.proofs.Told.{counted_text_lem, rows_fit}
+use Rattle.whytext.proofs.Told.{counted_by_call, rows_fit}
 use Rattle.whytext.proofs.write_line_verdicts.Goals as goal
 
 pub write_counted-requires : goal.write_counted-requires
@@ -12,4 +12,4 @@ pub returns : goal.returns
 unfolding lines_text
 returns c =
     let call = c.explain_lines-answer.ensures in
-    rw (← (counted_text_lem _ (replicate 4096 Emitted))) (rw (call.value, call.verdicts_after) at c.write_counted.ensures)
+    rw (← (counted_by_call _ (replicate 4096 Emitted) _ call.value call.verdicts_after)) c.write_counted.ensures

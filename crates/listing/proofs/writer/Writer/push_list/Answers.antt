@@ -1,15 +1,11 @@
--- A line more is written.
-use Rattle.std.proofs.Common.{arith, sym}
-use Rattle.listing.proofs.Places.{lines_none, lines_more}
-use Rattle.listing.proofs.Adding.{adds_none, adds_as, adds_both}
+-- As many lines are put after what is written as there are places.
+use Rattle.std.proofs.Common.{refl, arith}
+use Rattle.listing.proofs.Places.{length_lines}
+use Rattle.listing.proofs.Adding.{adds_put}
 use Rattle.listing.proofs.writer.Writer.push_list.Goals as goal
 
-pub loop-i-init : goal.loop-i-init
-loop-i-init c = record { text = adds_as (adds_none _ (omega arith)) (sym (lines_none _ _ _)); len = omega arith }
-
-pub loop-i-preserved : goal.loop-i-preserved
-loop-i-preserved c =
-    record {
-      text = adds_as (adds_both c.loop-i.invariant.text c.push_place.ensures.text) (sym (lines_more c.loop-i.i _ _ _ (omega arith) (omega arith) (omega arith)));
-      len = omega arith;
-    }
+pub returns-clause-text : goal.returns-clause-text
+returns-clause-text c =
+    let a = c.args in
+    let k = length_lines a.count a.addresses.now a.words.now a.marks.now (omega arith) (omega arith) (omega arith) in
+    adds_put (omega arith) refl (omega arith) c.write_places.ensures
