@@ -17,6 +17,7 @@ ghost use Rattle.sheettext.specs.Rows.{sheet_text};
 ghost use Rattle.sheettext.specs.Back.{sheet_in};
 ghost use Rattle.lagvettu_text.specs.Called.{line_for, lines_for, printout_for, ReadsList, ReadsSheet};
 
+use answer::Refusal;
 use printout::PRINTOUT;
 use sheet::Totals;
 use sheettext::SHEET;
@@ -39,7 +40,7 @@ pub extern "C" fn lagvettu_text_list(
 )
     ensures { Printed (list_text (held count (slices addresses.now words.now marks.now))) size.new out.old out.new }
 {
-    *size = station::write_answer(Ok(count), addresses, words, marks, out);
+    *size = station::write_answer(Ok::<usize, Refusal>(count), addresses, words, marks, out);
 }
 
 /// Reads a list's text into the first places: 0, and how many there are; or 1, the number of the first line that is none, and nothing

@@ -84,7 +84,8 @@ fn read_more<R: Read, const CHUNK: usize>(from: &mut R, input: Input, buffer: &m
     after_read(input, got)
 }
 
-/// Reads to the end, and keeps the front. Where the reader's bytes are known and no read failed, they are what was read.
+/// Reads to the end, and keeps the front. Where the reader's bytes are known, what was read is their front, and where no read failed it is
+/// all of them.
 pub fn read_whole<R: Read, const CHUNK: usize>(from: &mut R, buffer: &mut [u8]) -> Input
     requires { (0 < CHUNK) × (CHUNK ≤ 65536) }
     ensures { ReadWhole (R.remaining from.old) buffer.old (R.remaining from.new) buffer.new result }

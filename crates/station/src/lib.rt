@@ -11,11 +11,12 @@ pub mod refused; // refused.rt: a refusal by its number and its place
 ghost use Rattle.std.specs.Prelude.{◌≡◌, ◌≤◌, min, length, take};
 ghost use Rattle.rules.specs.Text.{Text};
 ghost use Rattle.rules.specs.Assemble.{slices};
-ghost use Rattle.answer.specs.Refusal.{number_of, place_of, answer_of};
+ghost use Rattle.answer.specs.Refusal.{number_of, place_of};
 ghost use Rattle.listing.specs.Listing.{refused_text};
 ghost use Rattle.station.specs.Station.{answer_text, script_text, wrong_line_text, moved_text, unless_failed, input_text, list_input_text};
 ghost use Rattle.station.specs.Printed.{Printed};
 ghost use Rattle.station.specs.Reads.{Reads};
+ghost use Rattle.station.specs.Refused.{answer_by};
 
 use answer::Refusal;
 use assemble::assemble;
@@ -23,6 +24,7 @@ use input::Input;
 use listing::reading::read_list;
 use listing::writer::Writer;
 use listing::writing::{LINE, write_list, write_refused};
+use refused::Refused;
 use relocate::relocate;
 use rules::MAX_SOURCE;
 
@@ -49,20 +51,20 @@ pub fn write_refusal(refusal: Refusal, out: &mut [u8]) -> usize
     write_refused(refusal.number(), refusal.place(), out)
 }
 
-/// Puts the text for an answer at the front, and answers its length.
+/// Puts the text for an answer, a list or the line of a refusal, at the front, and answers its length.
 // The slices side by side, as C lends them.
-pub fn write_answer(
-    answer: Result<usize, Refusal>,
+pub fn write_answer<R: Refused>(
+    answer: Result<usize, R>,
     addresses: &[u32; PLACES],
     words: &[u16; PLACES],
     marks: &[u8; PLACES],
     out: &mut [u8; TEXT],
 ) -> usize
-    ensures { Printed (answer_text (answer_of answer) (slices addresses.now words.now marks.now)) result out.old out.new }
+    ensures { Printed (answer_text (answer_by R.number R.place answer) (slices addresses.now words.now marks.now)) result out.old out.new }
 {
     match answer {
         Ok(n) => write_list(addresses, words, marks, n.min(PLACES), out),
-        Err(refusal) => write_refusal(refusal, out),
+        Err(refusal) => write_refused(refusal.number(), refusal.place(), out),
     }
 }
 

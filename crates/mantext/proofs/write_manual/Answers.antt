@@ -2,6 +2,7 @@
 use native.Mathlib.Omega.{arith}
 use lib.ListN.{replicate}
 use Rattle.rules.specs.Assemble.{slices}
+use Rattle.station.proofs.Refusing.{answer_by_refusal}
 use Rattle.mantext.proofs.Listed.{assembled}
 use Rattle.mantext.proofs.write_manual.Goals as goal
 
@@ -10,4 +11,4 @@ returns c =
     let call = c.assemble_manual-answer in
     let zeros = slices (replicate 12288 0) (replicate 12288 0) (replicate 12288 0) in
     let a = c.args in
-    rw (← (assembled a.base a.source.now zeros (omega arith) (omega arith) (omega arith) _ _ call.ensures.answer call.ensures.slices)) c.write_answer.ensures
+    rw (← (assembled a.base a.source.now zeros (omega arith) (omega arith) (omega arith) _ _ call.ensures.answer call.ensures.slices)) (rw (answer_by_refusal call.result) at c.write_answer.ensures)
