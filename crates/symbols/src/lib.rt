@@ -60,7 +60,8 @@ fn count_newlines(s: &[u8]) -> usize
 }
 
 // Writes a row for each label, in the order in which they start. A label's line is one more than the bytes 10 before it.
-// The four slices are those of the C interface.
+// The four slices are those of the C interface. As a call: inlined, the cells of the first pass are cleared first, 32 KB a call.
+#[inline(never)]
 fn write_rows(
     labels: &Labels<'_>,
     starts: &mut [u32],
