@@ -98,7 +98,11 @@ fn a_step_of_any_refusal(rt: HostRuntime) -> Result<(), Fail> {
 #[test]
 fn verdicts_by_numbers(rt: HostRuntime) -> Result<(), Fail> {
     let mut verdicts = [77u8; MAX_LINES];
-    let answer = numbers(b"NOP\n; note\nMOVE.L LIM,D2\nMOVEQ #$G,D0", 0, &mut verdicts);
+    let answer = numbers(
+        b"NOP\n; note\nMOVE.L LIM,D2\nMOVEQ #$G,D0",
+        0,
+        &mut verdicts,
+    );
     assert!(rt; matches!(answer, Ok(4)));
     assert_eq!(rt; &verdicts[..5], [0, 1, 8, 6, 77].as_slice());
     Ok(())
