@@ -1,12 +1,13 @@
 //! What takes refusals, verdicts and answers as numbers too: each call at those types, with its clause in numbers.
-ghost use Rattle.std.specs.Prelude.{◌≡◌, ◌≤◌, map, take, length, IfOk};
+ghost use Rattle.std.specs.Prelude.{◌≡◌, ◌≤◌, map, take, drop, length, IfOk};
 ghost use Rattle.rules.specs.Limits.{max_lines};
 ghost use Rattle.rules.specs.Assemble.{slices};
 ghost use Rattle.rules.specs.Tally.{moves};
 ghost use Rattle.requests.specs.Explain.{explain_all};
 ghost use Rattle.answer.specs.Refusal.{answer_of};
 ghost use Rattle.explain.specs.Verdict.{verdict_number, numbered_verdict, count_of, written_as};
-ghost use Rattle.moves.specs.Moves.{answer_from, told};
+ghost use Rattle.moves.specs.Moves.{answer_from, told, slices_after, IsTally, IsPairsTally};
+ghost use Rattle.station.specs.Station.{answer_text};
 ghost use Rattle.station.specs.Printed.{Printed};
 ghost use Rattle.station.specs.Refused.{answer_by};
 ghost use Rattle.whytext.specs.Verdicts.{explained_text, counted_by};
@@ -17,7 +18,7 @@ use explain::{Verdict, explain_lines};
 use moves::relocate_all;
 use rules::MAX_LINES;
 use sheettext::{SHEET, Step, Stop, step_text};
-use station::TEXT;
+use station::{PLACES, TEXT, write_answer};
 use std::test::Fail;
 use whytext::{write_counted, write_explained};
 
@@ -34,6 +35,19 @@ fn counted(told: Result<usize, (u8, usize)>, verdicts: &[u8], out: &mut [u8; TEX
     ensures { Printed (counted_by numbered_verdict (answer_by (λ r. r.0) (λ r. r.1) told) verdicts.now) result out.old out.new }
 {
     write_counted(told, verdicts, out)
+}
+
+// The text of a list, or the line of whatever number and place.
+fn answered(
+    answer: Result<usize, (u8, usize)>,
+    addresses: &[u32; PLACES],
+    words: &[u16; PLACES],
+    marks: &[u8; PLACES],
+    out: &mut [u8; TEXT],
+) -> usize
+    ensures { Printed (answer_text (answer_by (λ r. r.0) (λ r. r.1) answer) (slices addresses.now words.now marks.now)) result out.old out.new }
+{
+    write_answer(answer, addresses, words, marks, out)
 }
 
 // A step's text, where a refusal is whatever number and place.
@@ -61,7 +75,11 @@ fn moved(
     answers: &mut [(u8, usize)],
 )
     requires { length distances.now ≤ length answers.old }
-    ensures { map (λ r. answer_from r.0 r.1) (take (length distances.now) answers.new) ≡ told (moves count (slices addresses.old words.old marks.now) distances.now) }
+    ensures slices { slices addresses.new words.new marks.now ≡ slices_after count (slices addresses.old words.old marks.now) distances.now }
+    ensures answers { map (λ r. answer_from r.0 r.1) (take (length distances.now) answers.new) ≡ told (moves count (slices addresses.old words.old marks.now) distances.now) }
+    ensures others { drop (length distances.now) answers.new ≡ drop (length distances.now) answers.old }
+    ensures follows { IsTally (slices addresses.old words.old marks.now) count distances.now (slices addresses.new words.new marks.now) (map (λ r. answer_from r.0 r.1) (take (length distances.now) answers.new)) }
+    ensures pairs { IsPairsTally (slices addresses.old words.old marks.now) count distances.now (slices addresses.new words.new marks.now) (map (λ r. answer_from r.0 r.1) (take (length distances.now) answers.new)) }
 {
     relocate_all(addresses, words, marks, count, distances, answers);
 }
@@ -84,6 +102,22 @@ fn rows_by_numbers(rt: HostRuntime) -> Result<(), Fail> {
     assert_eq!(rt; &out[..size], want.as_slice());
     let size = counted(Err((0, 1234567)), &[], &mut out);
     assert_eq!(rt; &out[..size], b"refused 0 1234567\n".as_slice());
+    Ok(())
+}
+
+#[test]
+fn an_answer_of_any_refusal(rt: HostRuntime) -> Result<(), Fail> {
+    let mut addresses = [0u32; PLACES];
+    let mut words = [0u16; PLACES];
+    let mut marks = [0u8; PLACES];
+    addresses[0] = 0x1000;
+    words[0] = 0x7203;
+    marks[0] = 1;
+    let mut out = [0u8; TEXT];
+    let size = answered(Ok(1), &addresses, &words, &marks, &mut out);
+    assert_eq!(rt; &out[..size], b"00001000 7203 1\n".as_slice());
+    let size = answered(Err((99, 12345)), &addresses, &words, &marks, &mut out);
+    assert_eq!(rt; &out[..size], b"refused 99 12345\n".as_slice());
     Ok(())
 }
 
